@@ -9,8 +9,9 @@ tests/refuse.c, which is built by `cc` and preloaded, refuses them; where there 
 status 6 with nothing written, or the answer of an undisturbed run, where memory is refused; that answer where no thread can
 be made; and status 4 or 5 with its note and a part of that answer where a read or a write fails. A command that reads all
 before it writes has written nothing on 4; one that writes while it reads has taken its memory before the first read, so
-it has read nothing on 6. The last line is 'N passed, M failed', its exit status 1 where a case failed."""
+it has read nothing on 6. Where a read fails within a header, the fault that the bytes before it show is answered instead. The last line is 'N passed, M failed', its exit status 1 where a case failed."""
 import collections
+import itertools
 import os
 import random
 import shutil
@@ -24,6 +25,7 @@ from hostile import SILENT, frames, sources
 from program import FURTHER, HANGS, READERS, SLIP, TOP
 
 KINDS = ("memory", "read", "write", "thread")
+HEADERS = (b"XMC10000", b"TXC10000", b"TMX10000", b"TMC90000", b"TMC10000", b"TMC2000000000000")
 
 
 class Refusing:
@@ -95,6 +97,26 @@ def in_pieces(it):
                 yield f"{words} in random pieces of at most {piece}, case {case}", came == whole and whole[0] in (0, 1, 7), came
 
 
+def shown(part):
+    """The fault line of the first bytes of a capture, whatever follows them; empty where they are the beginning of one."""
+    for place, byte in enumerate(part[:3]):
+        if byte != b"TMC"[place]:
+            return b"input: magic %d\n" % place
+    return b"" if part[3:4] in (b"", b"1", b"2") else b"input: version %d\n" % part[3]
+
+
+def cut_headers(it):
+    """Each command that reads a capture, and each beginning of a header, right or wrong, after which a read fails: the bytes
+    before it are read one by one, or at once."""
+    for header, words in itertools.product(HEADERS, (*READERS, *FURTHER, SLIP)):
+        for size in range(len(header)):
+            note = shown(header[:size])
+            wanted = (3, b"", note) if note else (4, b"", b"read failed\n")
+            for piece, at in {(1, size + 1), (max(size, 1), 1 + (size > 0))}:
+                came = it.run(words, header, "read", at, False, piece)
+                yield f"{words} of {header[:size]} in pieces of {piece}, read {at}", came == wanted, came
+
+
 def cases(it):
     """Each case: its name, whether it went well, and what came. What was refused is told command by command."""
     for words, source in sources(it.program):
@@ -103,6 +125,7 @@ def cases(it):
         for (kind, status, note), count in sorted(counted.items()):
             print(f"{' '.join(words)}, {kind}: {count} with status {status} {note.decode().strip()}", flush=True)
     yield from in_pieces(it)
+    yield from cut_headers(it)
 
 
 def main(arguments):

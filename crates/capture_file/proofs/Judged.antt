@@ -8,7 +8,7 @@ use Rattle.std.proofs.lemmas.Bool.{cases_lt}
 use Rattle.std.proofs.lemmas.List.{take-take, take_more, take-append-le, get_or-take, get_or-drop}
 use Rattle.std.proofs.lemmas.Option.{slice_get-get_or}
 use Rattle.capture_file.specs.Layout.{header, high_first}
-use Rattle.capture_file.specs.Captures.{header_two, header_of, BeginsCapture, StopsAt, AreBytes, IsHeadless, IsEarlyFault, SaysOf, SaysRead}
+use Rattle.capture_file.specs.Captures.{header_two, header_of, BeginsCapture, StopsAt, AreBytes, IsHeadless, IsHeaderPart, IsEarlyFault, SaysOf, SaysRead}
 use Rattle.capture_file.specs.declared.fault.CaptureFault.{CaptureFault}
 use Rattle.capture_file.specs.declared.fault.CaptureError.{CaptureError}
 use Rattle.capture_file.specs.declared.fault.CaptureFault.TheVariants.{Magic, Version, Short}
@@ -132,21 +132,27 @@ two_whole head len are like two =
     let is : head ≡ (codes "TMC" ++ 50 ∷ []) ++ high_first h.0 = sym (take-append-drop 4 head) ∙ ap₂ (λ xs ys. xs ++ ys) (mark_four head 50 len like two) (sym h.2) in
     subst (λ bs. BeginsCapture bs) (append-nil head) (second_begins head head h.0 0 h.1 is len are)
 
--- a header that ends within its first eight bytes
-pub short_early : (head rest : List ℕ) (count : ℕ) → length head ≡ 8 → AreBytes head → count < 8 → rest ≡ [] → take (min count 3) head ≡ take (min count 3) (codes "TMC")
-    → (3 < count → (get_or head 3 0 ≡ 49) ⊎ (get_or head 3 0 ≡ 50)) → IsEarlyFault (take count head ++ rest) (Short count)
-short_early head rest count len are less none like versions =
-    let first = take count head in
-    let e : first ++ rest ≡ first = ap (λ xs. first ++ xs) none ∙ append-nil first in
-    let long : length first ≡ count = length-take-le count head (omega arith) in
-    let begins : BeginsCapture first =
+-- the first bytes of a header, so far as they are there
+pub first_begins : (head : List ℕ) (count : ℕ) → length head ≡ 8 → AreBytes head → take (min count 3) head ≡ take (min count 3) (codes "TMC")
+    → (3 < count → (get_or head 3 0 ≡ 49) ⊎ (get_or head 3 0 ≡ 50)) → BeginsCapture (take count head)
+first_begins head count len are like versions =
     elim (cases_lt 3 count) [
       | inl many ↦
           let three : min count 3 ≡ 3 = omega arith in
           let mark = rw three at like in
           begins_take count head (elim (versions many) [ inl one ↦ one_whole head len are mark one | inr two ↦ two_whole head len are mark two ])
-      | inr few ↦ let all : min count 3 ≡ count = omega arith in mark_begins count first (omega arith) (rw all at like)
-    ] in (
+      | inr few ↦ let all : min count 3 ≡ count = omega arith in mark_begins count (take count head) (omega arith) (rw all at like)
+    ]
+
+pub first_part : (head : List ℕ) (count : ℕ) → length head ≡ 8 → count < 8 → BeginsCapture (take count head) → IsHeaderPart (take count head)
+first_part head count len less begins = (headless_short (take count head) (omega (arith, less, length-take-le count head (omega arith))), begins)
+
+-- a header that ends within its first eight bytes
+pub short_early : (head rest : List ℕ) (count : ℕ) → length head ≡ 8 → count < 8 → rest ≡ [] → BeginsCapture (take count head) → IsEarlyFault (take count head ++ rest) (Short count)
+short_early head rest count len less none begins =
+    let first = take count head in
+    let e : first ++ rest ≡ first = ap (λ xs. first ++ xs) none ∙ append-nil first in
+    let long : length first ≡ count = length-take-le count head (omega arith) in (
       (
         subst (λ bs. BeginsCapture bs) (sym e) begins,
         λ h. absurd (omega (arith, less, ap length e, long, capture_long (first ++ rest) h)),
@@ -181,6 +187,10 @@ second_early front more bytes n k small is len are less own =
 pub headless_part : (front part : List ℕ) (n : ℕ) → front ≡ (codes "TMC" ++ 50 ∷ []) ++ high_first n → length part < 8 → IsHeadless (front ++ part)
 headless_part front part n is less =
     headless_second (front ++ part) (ap (λ xs. get_or (xs ++ part) 3 0) is ∙ fourth n part) (omega (arith, less, ap length is, length-second n, length-append front part))
+
+pub later_part : (front more : List ℕ) (n k : ℕ) → n < 2 ^ 32 → front ≡ (codes "TMC" ++ 50 ∷ []) ++ high_first n → length more ≡ 8 → AreBytes more → k < 8 → IsHeaderPart (front ++ take k more)
+later_part front more n k small is len are less =
+    (headless_part front (take k more) n is (omega (arith, less, length-take-le k more (omega arith))), second_begins front more n k small is len are)
 
 -- what four bytes say
 pub four_say : (a b c d n : ℕ) → a < 256 → b < 256 → c < 256 → d < 256 → n ≡ from_be_bytes w32 (a ∷ b ∷ c ∷ d ∷ []) → high_first n ≡ a ∷ b ∷ c ∷ d ∷ []

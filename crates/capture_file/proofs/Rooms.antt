@@ -1,11 +1,11 @@
 -- The bits of a chunk, as bytes at the front of its room.
-use Rattle.std.proofs.Common.{◌≡◌, ℕ, ◌+◌, ◌*◌, ◌/◌, ◌%◌, ◌<◌, ◌≤◌, Bool, List, [], ◌∷◌, ◌++◌, length, take, refl, ap, ◌∙◌, sym, arith, length-append, length-take-le}
+use Rattle.std.proofs.Common.{◌≡◌, ℕ, ◌+◌, ◌*◌, ◌/◌, ◌%◌, ◌<◌, ◌≤◌, Bool, List, [], ◌∷◌, ◌++◌, length, take, refl, ap, ◌∙◌, sym, arith, subst, inl, append_assoc, length-append, length-take-le}
 use Rattle.std.specs.Prelude.{slice_index}
 use Rattle.std.proofs.lemmas.List.{take-append-le}
 use Rattle.tmds_word.specs.Bits.{bytes_bits, bytes_of}
 use Rattle.tmds_word.proofs.Lists.{length-bytes_bits, bytes_bits-append}
 use Rattle.capture_file.specs.Layout.{packed}
-use Rattle.capture_file.specs.Captures.{Awaits, HasRead, bits_in}
+use Rattle.capture_file.specs.Captures.{AreBytes, Awaits, BeginsCapture, HasRead, IsBlockPart, bits_in}
 use Rattle.capture_file.proofs.Packing.{length-packed}
 use Rattle.capture_file.proofs.Takings.{taken_of, taken_first, taken_second, taken_awaits}
 
@@ -62,3 +62,34 @@ third_here bits j place at count first second taken x y z a b r own len own_b le
       awaited = λ some. taken_awaits bits (3 * j + 2) 2 j count ((taken ++ packed a) ++ packed b) (x ++ a) (y ++ b) z u e f same some;
       place_is = omega (arith, is, len, len_b, r.place_is, length-append (taken ++ packed a) (packed b), length-append taken (packed a), length-packed a, length-packed b);
     }
+
+-- what was read of a block that was not read whole: the bytes of the lanes before one, and fewer than that lane has there
+pub first_part : (bits : List ℕ) (j count : ℕ) (part : List ℕ) → count ≡ bits_in j (slice_index bits 0) → length part < (count + 7) / 8 → AreBytes part → IsBlockPart bits j part
+first_part bits j count part is less are = record {
+  short = inl (omega arith);
+  begins = λ place taken x y z r.
+      let h = first_here bits j place count taken x y z r is in
+      let w = h.awaited (omega arith) in
+      w.begins part are less;
+}
+
+pub second_part : (bits : List ℕ) (j count first : ℕ) (part : List ℕ) (a : List Bool) → first ≡ bits_in j (slice_index bits 0) → length a ≡ first → count ≡ bits_in j (slice_index bits 1)
+    → length part < (count + 7) / 8 → AreBytes part → IsBlockPart bits j (packed a ++ part)
+second_part bits j count first part a own len is less are = record {
+  short = inl (omega (arith, less, own, len, is, length-append (packed a) part, length-packed a));
+  begins = λ place taken x y z r.
+      let h = second_here bits j place (place + (first + 7) / 8) count first taken x y z a r own len refl is in
+      let w = h.awaited (omega arith) in
+      subst (λ bs. BeginsCapture bs) (append_assoc taken (packed a) part) (w.begins part are less);
+}
+
+pub third_part : (bits : List ℕ) (j count first second : ℕ) (part : List ℕ) (a b : List Bool) → first ≡ bits_in j (slice_index bits 0) → length a ≡ first → second ≡ bits_in j (slice_index bits 1) → length b ≡ second
+    → count ≡ bits_in j (slice_index bits 2) → length part < (count + 7) / 8 → AreBytes part → IsBlockPart bits j ((packed a ++ packed b) ++ part)
+third_part bits j count first second part a b own len own_b len_b is less are = record {
+  short = inl (omega (arith, less, own, len, own_b, len_b, is, length-append (packed a ++ packed b) part, length-append (packed a) (packed b), length-packed a, length-packed b));
+  begins = λ place taken x y z r.
+      let h = third_here bits j place (place + (first + 7) / 8 + (second + 7) / 8) count first second taken x y z a b r own len own_b len_b refl is in
+      let w = h.awaited (omega arith) in
+      subst (λ bs. BeginsCapture bs) (append_assoc (taken ++ packed a) (packed b) part ∙ append_assoc taken (packed a) (packed b ++ part) ∙ ap (λ xs. taken ++ xs) (sym (append_assoc (packed a) (packed b) part)))
+      (w.begins part are less);
+}

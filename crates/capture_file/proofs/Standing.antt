@@ -1,5 +1,5 @@
 -- What a reader stands for, from block to block.
-use Rattle.std.proofs.Common.{◌≡◌, ℕ, ◌+◌, ◌*◌, ◌/◌, ◌%◌, ◌^◌, ◌<◌, ◌≤◌, Bool, List, [], ◌++◌, length, take, min, refl, ap, ap₂, ◌∙◌, sym, arith, subst, append-nil, length-take-le}
+use Rattle.std.proofs.Common.{◌≡◌, ℕ, ◌+◌, ◌*◌, ◌/◌, ◌%◌, ◌^◌, ◌<◌, ◌≤◌, Bool, List, [], ◌++◌, length, take, min, refl, ap, ap₂, ◌∙◌, sym, arith, subst, inr, append-nil, length-take-le}
 use Rattle.std.specs.Prelude.{slice_index}
 use Rattle.std.proofs.Math.Nat.{mod-eq_of_lt}
 use Rattle.std.proofs.Math.Pow.{pow_mono}
@@ -7,13 +7,13 @@ use Rattle.tmds_word.specs.Bits.{bits_of, bytes_of, bytes_bits, number}
 use Rattle.tmds_word.proofs.Numbers.{bits_of-number, number-take}
 use Rattle.tmds_word.proofs.Lists.{length-bytes_bits}
 use Rattle.capture_file.specs.Layout.{packed, header, high_first, blocks_below}
-use Rattle.capture_file.specs.Captures.{CanSay, header_of, header_two, HasRead, Stands, StopsIn, IsFault, IsWithin, SaysOf, bits_in, block_size, place_at, header_size, place_of}
+use Rattle.capture_file.specs.Captures.{CanSay, header_of, header_two, HasRead, BeginsCapture, IsBlockPart, Stands, StopsIn, IsFault, IsWithin, SaysOf, bits_in, block_size, place_at, header_size, place_of}
 use Rattle.capture_file.specs.declared.fault.CaptureFault.TheVariants.{Trailing}
 use Rattle.capture_file.specs.declared.fault.CaptureError.{CaptureError}
 use Rattle.capture_file.specs.declared.fault.CaptureError.TheVariants.{Bad, Read}
 use Rattle.capture_file.proofs.Packing.{length-packed}
 use Rattle.capture_file.proofs.Packs.{number-packed, as_bytes, number_below}
-use Rattle.capture_file.proofs.Stops.{trailing_stops}
+use Rattle.capture_file.proofs.Stops.{begins_whole, trailing_stops}
 use Rattle.capture_file.proofs.Takings.{block_more, ended}
 
 -- packed bits are these bits
@@ -80,3 +80,12 @@ pub says_inside : (version : ℕ) (counts : List ℕ) (j place : ℕ) (taken byt
     → place ≡ place_at version counts j → SaysOf (λ fault. IsFault (taken ++ bytes) fault) e → SaysOf (λ fault. IsWithin place (block_size j counts) (place_of fault)) e
     → SaysOf (λ fault. IsFault (taken ++ bytes) fault × StopsIn counts j taken (place_of fault)) e
 says_inside version counts j place taken bytes x y z e h k l m = grind arith
+
+-- nothing is read of a block past the last
+pub end_part : (counts : List ℕ) (j : ℕ) → block_size j counts ≡ 0 → IsBlockPart counts j []
+end_part counts j none = record {
+  short = inr refl;
+  begins = λ place taken x y z r.
+      let w = ended counts j place taken x y z r none in
+      subst (λ bs. BeginsCapture bs) (sym (append-nil taken)) (begins_whole taken (record { blue = x; green = y; red = z; holds = w.holds }));
+}

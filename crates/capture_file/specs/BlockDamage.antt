@@ -2,7 +2,7 @@
 -- It is defined on each beginning of a capture that has the header.
 use Rattle.std.specs.Prelude.{◌≡◌, ◌⊎◌, ℕ, ◌+◌, ◌<◌, ◌≤◌, Bool, List, [], ◌++◌, length, take, slice_get, slice_index, Some, Option, drop}
 use Rattle.std.specs.Io.KnownBytes.{Appends, Keeps, Consumes}
-use Rattle.capture_file.specs.Captures.{counts_of, header_of, CanSay, IsHeader, lane_blocks, IsCaptureOf, Stands, StopsIn, IsHeadless, IsFault, place_of, block_size}
+use Rattle.capture_file.specs.Captures.{counts_of, header_of, CanSay, IsHeader, lane_blocks, IsCaptureOf, BeginsCapture, Stands, StopsIn, IsHeadless, IsFault, place_of, block_size}
 use Rattle.capture_file.specs.Layout.{packed, blocks_below}
 use Rattle.capture_file.specs.Damage.{damaged}
 use Rattle.capture_file.specs.declared.damaging.Hit.{Hit}
@@ -155,10 +155,12 @@ pub record IsDamagedRead (read : List ℕ) (hits : List Hit) (before now : Optio
   pub half : Halfway version counts hits block taken before now
   pub short : (length more < block_size block counts) ⊎ (more ≡ [])
 
--- a failed read: nothing was written where no whole header was read, else the header and the whole blocks that were read
+-- a failed read after bytes with which some capture begins: nothing was written where no whole header was read, else the header
+-- and the whole blocks that were read
 pub record ReadFailed (left rest : Option (List ℕ)) (hits : List Hit) (before now : Option (List ℕ)) : Type 0 where
   pub read : List ℕ
   pub took : Consumes left rest read
+  pub begins : BeginsCapture read
   pub wrote : (IsHeadless read × Keeps before now) ⊎ IsDamagedRead read hits before now
 
 -- a header was read, and written in a part alone

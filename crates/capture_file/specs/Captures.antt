@@ -118,6 +118,15 @@ pub record Awaits (front : List ℕ) (count : ℕ) : Type 0 where
 abbrev pub IsHeadless : List ℕ → Type 0
 IsHeadless bytes = (head counts tail : List ℕ) → IsHeader head counts → bytes ≡ head ++ tail → ⊥
 
+-- less than a header was read, and some capture begins with it
+abbrev pub IsHeaderPart : List ℕ → Type 0
+IsHeaderPart bytes = IsHeadless bytes × BeginsCapture bytes
+
+-- less than block j was read, or nothing: with the header and the blocks below j, whatever these are, it begins a capture
+pub record IsBlockPart (counts : List ℕ) (j : ℕ) (part : List ℕ) : Type 0 where
+  pub short : (length part < block_size j counts) ⊎ (part ≡ [])
+  pub begins : (place : ℕ) (taken : List ℕ) (x y z : List Bool) → HasRead counts j place taken x y z → BeginsCapture (taken ++ part)
+
 -- a fault of bytes that have no whole header
 abbrev pub IsEarlyFault : List ℕ → CaptureFault → Type 0
 IsEarlyFault bytes fault = IsFault bytes fault × IsHeadless bytes

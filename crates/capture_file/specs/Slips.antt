@@ -1,7 +1,7 @@
 -- Captures of which one lane lacks some bits: those from a place on are left out, and what follows them moves up.
 use Rattle.std.specs.Prelude.{◌≡◌, ◌⊎◌, ℕ, ◌+◌, ◌<◌, ◌≤◌, ◌==◌, Bool, List, [], ◌++◌, length, take, drop, slice_index, Option, if◌then◌else◌}
 use Rattle.std.specs.Io.KnownBytes.{Appends, Consumes}
-use Rattle.capture_file.specs.Captures.{counts_of, layout, IsHeader, IsCaptureOf, Stands, IsHeadless, block_size}
+use Rattle.capture_file.specs.Captures.{counts_of, layout, IsHeader, IsCaptureOf, BeginsCapture, Stands, IsHeadless, block_size}
 use Rattle.capture_file.specs.declared.slipping.SlipError.{SlipError}
 use Rattle.capture_file.specs.declared.slipping.SlipError.TheVariants.{Bad, Place, Read, Write, NoMemory}
 use Rattle.capture_file.specs.declared.fault.CaptureFault.{CaptureFault}
@@ -52,10 +52,11 @@ pub record IsReadPart (read : List ℕ) (lane place count : ℕ) : Type 0 where
   pub short : (length more < block_size block counts) ⊎ (more ≡ [])
   pub fits : place + count ≤ slice_index counts lane
 
--- a failed read: no whole header was read, or one in whose lane the bits lie, and a beginning of a capture with it
+-- a failed read after bytes with which some capture begins: they have no whole header, or one in whose lane the bits lie
 pub record StopsReading (left rest : Option (List ℕ)) (lane place count : ℕ) : Type 0 where
   pub read : List ℕ
   pub took : Consumes left rest read
+  pub begins : BeginsCapture read
   pub part : IsHeadless read ⊎ IsReadPart read lane place count
 
 -- want of memory: a header was read, in whose lane the bits lie, and perhaps more

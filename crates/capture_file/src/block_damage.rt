@@ -5,7 +5,7 @@ ghost use Rattle.outside_io.specs.Causes.{HasCause, Rose};
 ghost use Rattle.capture_file.specs.Layout.{packed};
 ghost use Rattle.tmds_word.specs.Bits.{bits_of, bytes_bits};
 ghost use Rattle.capture_file.specs.Damage.{with_word};
-ghost use Rattle.capture_file.specs.Captures.{AreBytes, IsFault, StopsIn, place_of, block_size, header_of, CanSay, IsHeadless, IsEarlyFault};
+ghost use Rattle.capture_file.specs.Captures.{AreBytes, IsFault, StopsIn, place_of, block_size, header_of, CanSay, IsHeaderPart, IsBlockPart, IsEarlyFault};
 ghost use Rattle.capture_file.specs.Refusals.{IsReadCause};
 ghost use Rattle.capture_file.specs.BlockDamage.{DamagedChunk, AllFitLanes, IsFirstPastLane, Halfway, CutIn, SaysFault, IsLateFault, SaysBad, SaysPlace, SaysUnread, IsMisplacedLane, IsDamagedCapture, IsDamageFault, ReadFailed, WriteFailed};
 ghost use Rattle.capture_file.specs.declared.damaging.DamageError.TheVariants.{Place, Read, Write};
@@ -160,7 +160,7 @@ fn damage_block<S: Source, K: Sink>(
     ensures err { (bytes taken : List ℕ) (before : Option (List ℕ)) → S.left source.old ≡ Some bytes → Halfway heading.version heading.bits hits.now j taken before (K.held out.old)
         → IfErr result (λ e. SaysFault (λ fault. IsFault (taken ++ bytes) fault × StopsIn heading.bits j taken (place_of fault)) e) }
     ensures unwritten { IfErr result (λ e. (e ≡ Write → ⊥) → Keeps (K.held out.old) (K.held out.new)) }
-    ensures part { result ≡ Err Read → (part : List ℕ) × ((length part < block_size j heading.bits) ⊎ (part ≡ [])) × Consumes (S.left source.old) (S.left source.new) part }
+    ensures part { result ≡ Err Read → (part : List ℕ) × IsBlockPart heading.bits j part × Consumes (S.left source.old) (S.left source.new) part }
     ensures taken { (taken : List ℕ) × Consumes (S.left source.old) (S.left source.new) taken }
     ensures unplaced { (i : ℕ) → result ≡ Err (Place i) → ⊥ }
     ensures cut { (taken : List ℕ) (before : Option (List ℕ)) → Halfway heading.version heading.bits hits.now j taken before (K.held out.old) → result ≡ Err Write
@@ -196,7 +196,7 @@ fn damage_lanes<S: Source, K: Sink>(
         → IfErr result (λ e. SaysFault (λ fault. IsLateFault heading.version heading.bits hits.now bytes taken before (K.held out.new) fault) e) }
     ensures part { (taken : List ℕ) (before : Option (List ℕ)) → Halfway heading.version heading.bits hits.now 0 taken before (K.held out.old) → result ≡ Err Read
         → (j : ℕ) × (part more : List ℕ) × Halfway heading.version heading.bits hits.now j (taken ++ part) before (K.held out.new)
-        × ((length more < block_size j heading.bits) ⊎ (more ≡ [])) × Consumes (S.left source.old) (S.left source.new) (part ++ more) }
+        × IsBlockPart heading.bits j more × Consumes (S.left source.old) (S.left source.new) (part ++ more) }
     ensures unplaced { (i : ℕ) → result ≡ Err (Place i) → ⊥ }
     ensures taken { (taken : List ℕ) × Consumes (S.left source.old) (S.left source.new) taken }
     ensures cut { (taken : List ℕ) (before : Option (List ℕ)) → Halfway heading.version heading.bits hits.now 0 taken before (K.held out.old) → result ≡ Err Write
@@ -227,7 +227,7 @@ fn read_placed<S: Source>(source: &mut S, hits: &[Hit]) -> Result<Heading, Damag
     ensures fits { IfOk result (λ h. AllFitLanes h.bits hits.now) }
     ensures err { (bytes : List ℕ) → S.left source.old ≡ Some bytes → IfErr result (λ e. SaysBad (λ fault. IsEarlyFault bytes fault) e) }
     ensures place { IfErr result (λ e. SaysPlace (λ i. IsMisplacedLane (S.left source.old) (S.left source.new) hits.now i) e) }
-    ensures part { IfErr result (λ e. SaysUnread ((part : List ℕ) × IsHeadless part × Consumes (S.left source.old) (S.left source.new) part) e) }
+    ensures part { IfErr result (λ e. SaysUnread ((part : List ℕ) × IsHeaderPart part × Consumes (S.left source.old) (S.left source.new) part) e) }
     ensures taken { (taken : List ℕ) × Consumes (S.left source.old) (S.left source.new) taken }
     ensures caused { IfErr result (λ e. IsReadCause (S.faults source.old) (S.faults source.new) e) }
     ensures later { S.faults source.old ≤ S.faults source.new }
@@ -249,8 +249,9 @@ fn read_placed<S: Source>(source: &mut S, hits: &[Hit]) -> Result<Heading, Damag
 /// `Place` where the header is whole and the ten bits of a hit pass the end of its own lane, with the first
 /// such hit: it is reported before anything is written and before more is read. `Bad` where the bytes are no
 /// capture, with the least place that shows it: the header and the whole blocks before that place are
-/// written. `Read` where the source fails: the header and the whole blocks that were read are written.
-/// `Write` where the sink fails: all that was read is written but a part of the last block.
+/// written. `Read` where the source fails after bytes with which some capture begins: the header and the
+/// whole blocks that were read are written. `Write` where the sink fails: all that was read is written but a
+/// part of the last block.
 pub fn damage<S: Source, K: Sink>(
     source: &mut S,
     hits: &[Hit],

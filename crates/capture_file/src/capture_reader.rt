@@ -5,7 +5,7 @@ ghost use Rattle.std.specs.Io.KnownBytes.{Consumes, IsAtEnd};
 ghost use Rattle.tmds_word.specs.Bits.{bytes_bits};
 ghost use Rattle.capture_file.specs.Layout.{packed};
 ghost use Rattle.capture_file.specs.Faults.{IsCaused};
-ghost use Rattle.capture_file.specs.Captures.{IsFault, IsHeadless, IsEarlyFault, IsCaptureOf, Stands, StopsIn, SaysOf, SaysRead, place_of, CanSay, bits_in, block_size};
+ghost use Rattle.capture_file.specs.Captures.{IsFault, IsHeaderPart, IsBlockPart, IsEarlyFault, IsCaptureOf, Stands, StopsIn, SaysOf, SaysRead, place_of, CanSay, bits_in, block_size};
 
 use crate::CaptureError;
 use crate::chunk::{Chunks, chunk_len};
@@ -64,7 +64,7 @@ impl<'a, S: Source> CaptureReader<'a, S> {
     /// # Errors
     ///
     /// `Bad` where the bytes have no whole header, with the least place that shows it; `Read` where the
-    /// source fails.
+    /// source fails after bytes with which some capture begins.
     pub fn open(&mut self) -> Result<(), CaptureError>
         ensures same { self.new.source.ghost_name ≡ self.old.source.ghost_name }
         ensures opened { OnOk result (self.new.is_open ≡ true) }
@@ -72,7 +72,7 @@ impl<'a, S: Source> CaptureReader<'a, S> {
         ensures said { OnOk result (CanSay self.new.version self.new.bits) }
         ensures ok { OnOk result ((head : List ℕ) × Consumes (S.left self.old.source.now) (S.left self.new.source.now) head × Stands self.new.version self.new.bits self.new.block head [] [] []) }
         ensures err { (bytes : List ℕ) → S.left self.old.source.now ≡ Some bytes → IfErr result (λ e. SaysOf (λ fault. IsEarlyFault bytes fault) e) }
-        ensures part { IfErr result (λ e. SaysRead ((part : List ℕ) × IsHeadless part × Consumes (S.left self.old.source.now) (S.left self.new.source.now) part) e) }
+        ensures part { IfErr result (λ e. SaysRead ((part : List ℕ) × IsHeaderPart part × Consumes (S.left self.old.source.now) (S.left self.new.source.now) part) e) }
         ensures taken { (taken : List ℕ) × Consumes (S.left self.old.source.now) (S.left self.new.source.now) taken }
         ensures caused { IfErr result (λ e. IsCaused (S.faults self.old.source.now) (S.faults self.new.source.now) e) }
         ensures later { S.faults self.old.source.now ≤ S.faults self.new.source.now }
@@ -119,7 +119,7 @@ impl<'a, S: Source> CaptureReader<'a, S> {
         ensures none { IfOk result (λ more. more ≡ false → (block_size self.old.block self.old.bits ≡ 0) × Consumes (S.left self.old.source.now) (S.left self.new.source.now) [] × IsAtEnd (S.left self.new.source.now)) }
         ensures err { (bytes taken : List ℕ) (x y z : List Bool) → S.left self.old.source.now ≡ Some bytes → Stands self.old.version self.old.bits self.old.block taken x y z
             → IfErr result (λ e. SaysOf (λ fault. IsFault (taken ++ bytes) fault × StopsIn self.old.bits self.old.block taken (place_of fault)) e) }
-        ensures part { IfErr result (λ e. SaysRead ((part : List ℕ) × ((length part < block_size self.old.block self.old.bits) ⊎ (part ≡ [])) × Consumes (S.left self.old.source.now) (S.left self.new.source.now) part) e) }
+        ensures part { IfErr result (λ e. SaysRead ((part : List ℕ) × IsBlockPart self.old.bits self.old.block part × Consumes (S.left self.old.source.now) (S.left self.new.source.now) part) e) }
         ensures taken { (taken : List ℕ) × Consumes (S.left self.old.source.now) (S.left self.new.source.now) taken }
         ensures caused { IfErr result (λ e. IsCaused (S.faults self.old.source.now) (S.faults self.new.source.now) e) }
         ensures later { S.faults self.old.source.now ≤ S.faults self.new.source.now }
@@ -143,7 +143,8 @@ impl<'a, S: Source> CaptureReader<'a, S> {
     /// # Errors
     ///
     /// `Bad` where the bytes are no capture, with the least place that shows it; `Read` where the source
-    /// fails. The blocks that were given are the whole blocks before that place, or of the bytes that were read.
+    /// fails after bytes with which some capture begins. The blocks that were given are the whole blocks
+    /// before that place, or of the bytes that were read.
     pub fn next(&mut self) -> Result<Option<Block<'_>>, CaptureError>
         requires { self.old.is_open ≡ true }
         ensures bits { IfOk result (λ o. IfSome o (λ block.
@@ -169,7 +170,7 @@ impl<'a, S: Source> CaptureReader<'a, S> {
             ((v.is_open ≡ false) × Consumes (S.left self.old.source.now) (S.left v.source.now) [] × IsAtEnd (S.left v.source.now))
             (λ block. (v.is_open ≡ true) × (v.block ≡ self.old.block + 1) × Consumes (S.left self.old.source.now) (S.left v.source.now) ((block.a.now ++ block.b.now) ++ block.c.now)))
             × IfErr result (λ e. (v.is_open ≡ false) × IsCaused (S.faults self.old.source.now) (S.faults v.source.now) e
-            × SaysRead ((part : List ℕ) × ((length part < block_size self.old.block self.old.bits) ⊎ (part ≡ [])) × Consumes (S.left self.old.source.now) (S.left v.source.now) part) e
+            × SaysRead ((part : List ℕ) × IsBlockPart self.old.bits self.old.block part × Consumes (S.left self.old.source.now) (S.left v.source.now) part) e
             × ((taken : List ℕ) × Consumes (S.left self.old.source.now) (S.left v.source.now) taken)))) }
     {
         let block = self.block;

@@ -4,7 +4,7 @@ ghost use Rattle.std.specs.Io.KnownBytes.{Consumes};
 ghost use Rattle.tmds_word.specs.Bits.{bytes_bits};
 ghost use Rattle.capture_file.specs.Layout.{packed};
 ghost use Rattle.capture_file.specs.Faults.{IsCaused};
-ghost use Rattle.capture_file.specs.Captures.{AreBytes, Awaits, IsFault, HasRead, SaysOf, SaysRead, IsWithin, place_of, bits_in, block_size};
+ghost use Rattle.capture_file.specs.Captures.{AreBytes, Awaits, IsFault, IsBlockPart, HasRead, SaysOf, SaysRead, IsWithin, place_of, bits_in, block_size};
 
 use crate::{CaptureError, CaptureFault};
 use outside_io::{Source, read_full};
@@ -80,7 +80,7 @@ impl Chunk {
         ensures ok { OnOk result (Consumes (S.left source.old) (S.left source.new) (packed self.new)) }
         ensures err { (bytes front : List ℕ) → S.left source.old ≡ Some bytes → (0 < count → Awaits front count) → place ≡ length front → IfErr result (λ e. SaysOf (λ fault. IsFault (front ++ bytes) fault) e) }
         ensures within { IfErr result (λ e. SaysOf (λ fault. IsWithin place ((count + 7) / 8) (place_of fault)) e) }
-        ensures part { IfErr result (λ e. SaysRead ((part : List ℕ) × (length part < (count + 7) / 8) × Consumes (S.left source.old) (S.left source.new) part) e) }
+        ensures part { IfErr result (λ e. SaysRead ((part : List ℕ) × (length part < (count + 7) / 8) × AreBytes part × Consumes (S.left source.old) (S.left source.new) part) e) }
         ensures taken { (taken : List ℕ) × Consumes (S.left source.old) (S.left source.new) taken }
         ensures caused { IfErr result (λ e. IsCaused (S.faults source.old) (S.faults source.new) e) }
         ensures later { S.faults source.old ≤ S.faults source.new }
@@ -106,7 +106,7 @@ fn read_front<S: Source>(
     ensures ok { OnOk result (Consumes (S.left source.old) (S.left source.new) (take ((count + 7) / 8) bytes.new)) }
     ensures err { (bytes front : List ℕ) → S.left source.old ≡ Some bytes → (0 < count → Awaits front count) → place ≡ length front → IfErr result (λ e. SaysOf (λ fault. IsFault (front ++ bytes) fault) e) }
     ensures within { IfErr result (λ e. SaysOf (λ fault. IsWithin place ((count + 7) / 8) (place_of fault)) e) }
-    ensures part { IfErr result (λ e. SaysRead ((part : List ℕ) × (length part < (count + 7) / 8) × Consumes (S.left source.old) (S.left source.new) part) e) }
+    ensures part { IfErr result (λ e. SaysRead ((part : List ℕ) × (length part < (count + 7) / 8) × AreBytes part × Consumes (S.left source.old) (S.left source.new) part) e) }
     ensures taken { (taken : List ℕ) × Consumes (S.left source.old) (S.left source.new) taken }
     ensures caused { IfErr result (λ e. IsCaused (S.faults source.old) (S.faults source.new) e) }
     ensures later { S.faults source.old ≤ S.faults source.new }
@@ -130,7 +130,7 @@ fn read_part<S: Source>(
     ensures ok { OnOk result (Consumes (S.left source.old) (S.left source.new) part.new) }
     ensures err { (bytes front : List ℕ) → S.left source.old ≡ Some bytes → (0 < count → Awaits front count) → place ≡ length front → IfErr result (λ e. SaysOf (λ fault. IsFault (front ++ bytes) fault) e) }
     ensures within { IfErr result (λ e. SaysOf (λ fault. IsWithin place ((count + 7) / 8) (place_of fault)) e) }
-    ensures part { IfErr result (λ e. SaysRead ((part : List ℕ) × (length part < (count + 7) / 8) × Consumes (S.left source.old) (S.left source.new) part) e) }
+    ensures part { IfErr result (λ e. SaysRead ((part : List ℕ) × (length part < (count + 7) / 8) × AreBytes part × Consumes (S.left source.old) (S.left source.new) part) e) }
     ensures taken { (taken : List ℕ) × Consumes (S.left source.old) (S.left source.new) taken }
     ensures caused { IfErr result (λ e. IsCaused (S.faults source.old) (S.faults source.new) e) }
     ensures later { S.faults source.old ≤ S.faults source.new }
@@ -197,7 +197,7 @@ impl Chunks {
         ensures ok { OnOk result (Consumes (S.left source.old) (S.left source.new) ((packed self.new.blue ++ packed self.new.green) ++ packed self.new.red)) }
         ensures err { (bytes taken : List ℕ) (x y z : List Bool) → S.left source.old ≡ Some bytes → HasRead bits j place taken x y z → IfErr result (λ e. SaysOf (λ fault. IsFault (taken ++ bytes) fault) e) }
         ensures within { IfErr result (λ e. SaysOf (λ fault. IsWithin place (block_size j bits) (place_of fault)) e) }
-        ensures part { IfErr result (λ e. SaysRead ((part : List ℕ) × (length part < block_size j bits) × Consumes (S.left source.old) (S.left source.new) part) e) }
+        ensures part { IfErr result (λ e. SaysRead ((part : List ℕ) × IsBlockPart bits j part × Consumes (S.left source.old) (S.left source.new) part) e) }
         ensures taken { (taken : List ℕ) × Consumes (S.left source.old) (S.left source.new) taken }
         ensures caused { IfErr result (λ e. IsCaused (S.faults source.old) (S.faults source.new) e) }
         ensures later { S.faults source.old ≤ S.faults source.new }

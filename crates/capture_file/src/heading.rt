@@ -3,7 +3,7 @@ ghost use Rattle.std.specs.Prelude.{◌≡◌, ◌⊎◌, ℕ, ◌+◌, ◌*◌,
 ghost use Rattle.std.specs.Io.KnownBytes.{Consumes};
 ghost use Rattle.capture_file.specs.Layout.{high_first};
 ghost use Rattle.capture_file.specs.Faults.{IsCaused};
-ghost use Rattle.capture_file.specs.Captures.{header_of, CanSay, IsHeadless, IsEarlyFault, SaysOf, SaysRead, AreBytes, place_at};
+ghost use Rattle.capture_file.specs.Captures.{header_of, CanSay, BeginsCapture, IsHeaderPart, IsEarlyFault, SaysOf, SaysRead, AreBytes, place_at};
 
 use crate::{CaptureError, CaptureFault};
 use outside_io::{Source, read_full};
@@ -32,12 +32,12 @@ fn bytes_below(bits: u32, j: u32) -> u64
     u64::from(bits.div_ceil(8)).min(4096 * u64::from(j))
 }
 
-/// Reads a header.
+/// Reads a header. A fault that the bytes which arrived show is answered, also where the next read fails.
 pub(crate) fn read_heading<S: Source>(source: &mut S) -> Result<Heading, CaptureError>
     ensures ok { IfOk result (λ h. Consumes (S.left source.old) (S.left source.new) (header_of h.version h.bits)) }
     ensures said { IfOk result (λ h. CanSay h.version h.bits) }
     ensures err { (bytes : List ℕ) → S.left source.old ≡ Some bytes → IfErr result (λ e. SaysOf (λ fault. IsEarlyFault bytes fault) e) }
-    ensures part { IfErr result (λ e. SaysRead ((part : List ℕ) × IsHeadless part × Consumes (S.left source.old) (S.left source.new) part) e) }
+    ensures part { IfErr result (λ e. SaysRead ((part : List ℕ) × IsHeaderPart part × Consumes (S.left source.old) (S.left source.new) part) e) }
     ensures taken { (taken : List ℕ) × Consumes (S.left source.old) (S.left source.new) taken }
     ensures caused { IfErr result (λ e. IsCaused (S.faults source.old) (S.faults source.new) e) }
     ensures later { S.faults source.old ≤ S.faults source.new }
@@ -65,18 +65,21 @@ fn read_first<S: Source>(source: &mut S) -> Result<[u8; 8], CaptureError>
     ensures mark { IfOk result (λ head. take 3 head ≡ codes "TMC") }
     ensures version { IfOk result (λ head. (get_or head 3 0 ≡ 49) ⊎ (get_or head 3 0 ≡ 50)) }
     ensures err { (bytes : List ℕ) → S.left source.old ≡ Some bytes → IfErr result (λ e. SaysOf (λ fault. IsEarlyFault bytes fault) e) }
-    ensures part { IfErr result (λ e. SaysRead ((part : List ℕ) × (length part < 8) × Consumes (S.left source.old) (S.left source.new) part) e) }
+    ensures part { IfErr result (λ e. SaysRead ((part : List ℕ) × IsHeaderPart part × Consumes (S.left source.old) (S.left source.new) part) e) }
     ensures taken { (taken : List ℕ) × Consumes (S.left source.old) (S.left source.new) taken }
     ensures caused { IfErr result (λ e. IsCaused (S.faults source.old) (S.faults source.new) e) }
     ensures later { S.faults source.old ≤ S.faults source.new }
 {
     let mut head = [0; 8];
-    let Ok(count) = read_full(source, &mut head) else {
-        return Err(CaptureError::Read);
-    };
-    match judge_first(&head, count) {
-        Ok(()) => Ok(head),
-        Err(fault) => Err(CaptureError::Bad(fault)),
+    match read_full(source, &mut head) {
+        Ok(count) => match judge_first(&head, count) {
+            Ok(()) => Ok(head),
+            Err(fault) => Err(CaptureError::Bad(fault)),
+        },
+        Err(got) => match judge_mark(&head, got.arrived) {
+            Ok(()) => Err(CaptureError::Read),
+            Err(fault) => Err(CaptureError::Bad(fault)),
+        },
     }
 }
 
@@ -89,15 +92,28 @@ fn judge_first(head: &[u8; 8], count: usize) -> Result<(), CaptureFault>
     ensures version { OnOk result ((get_or head.now 3 0 ≡ 49) ⊎ (get_or head.now 3 0 ≡ 50)) }
     ensures err { (rest : List ℕ) → (count < 8 → rest ≡ []) → IfErr result (λ fault. IsEarlyFault (take count head.now ++ rest) fault) }
 {
+    judge_mark(head, count)?;
+    if count < 8 {
+        return Err(CaptureFault::Short(count as u64));
+    }
+    Ok(())
+}
+
+/// Judges the first `count` bytes of eight, whatever follows them: the mark and the version, as far as they are there.
+fn judge_mark(head: &[u8; 8], count: usize) -> Result<(), CaptureFault>
+    requires { count ≤ 8 }
+    ensures bytes { AreBytes head.now }
+    ensures begins { OnOk result (BeginsCapture (take count head.now)) }
+    ensures mark { OnOk result (take (min count 3) head.now ≡ take (min count 3) (codes "TMC")) }
+    ensures version { OnOk result (3 < count → (get_or head.now 3 0 ≡ 49) ⊎ (get_or head.now 3 0 ≡ 50)) }
+    ensures err { (rest : List ℕ) → IfErr result (λ fault. IsEarlyFault (take count head.now ++ rest) fault) }
+{
     let like = matched(head, count);
     if like < count.min(3) {
         return Err(CaptureFault::Magic(like as u64));
     }
     if count > 3 && head[3] != b'1' && head[3] != b'2' {
         return Err(CaptureFault::Version(head[3]));
-    }
-    if count < 8 {
-        return Err(CaptureFault::Short(count as u64));
     }
     Ok(())
 }
@@ -122,19 +138,27 @@ fn read_second<S: Source>(source: &mut S, bits: u32) -> Result<[u32; 2], Capture
     ensures ok { IfOk result (λ more. Consumes (S.left source.old) (S.left source.new) (high_first (slice_index more 0) ++ high_first (slice_index more 1))) }
     ensures small { IfOk result (λ more. (slice_index more 0 < 2 ^ 32) × (slice_index more 1 < 2 ^ 32)) }
     ensures err { (bytes : List ℕ) → S.left source.old ≡ Some bytes → IfErr result (λ e. SaysOf (λ fault. IsEarlyFault (((codes "TMC" ++ 50 ∷ []) ++ high_first bits) ++ bytes) fault) e) }
-    ensures part { IfErr result (λ e. SaysRead ((part : List ℕ) × (length part < 8) × Consumes (S.left source.old) (S.left source.new) part) e) }
+    ensures part { IfErr result (λ e. SaysRead ((part : List ℕ) × IsHeaderPart (((codes "TMC" ++ 50 ∷ []) ++ high_first bits) ++ part) × Consumes (S.left source.old) (S.left source.new) part) e) }
     ensures taken { (taken : List ℕ) × Consumes (S.left source.old) (S.left source.new) taken }
     ensures caused { IfErr result (λ e. IsCaused (S.faults source.old) (S.faults source.new) e) }
     ensures later { S.faults source.old ≤ S.faults source.new }
 {
     let mut more = [0; 8];
     let Ok(count) = read_full(source, &mut more) else {
+        know_bytes(&more);
         return Err(CaptureError::Read);
     };
     match judge_second(&more, count) {
         Ok(counts) => Ok(counts),
         Err(fault) => Err(CaptureError::Bad(fault)),
     }
+}
+
+/// Says that each of eight bytes is below 256, as every byte is. It does nothing.
+fn know_bytes(bytes: &[u8; 8])
+    ensures { AreBytes bytes.now }
+{
+    let _ = bytes[0];
 }
 
 /// Judges the first `count` bytes of eight, which are all where they are fewer than eight, and says the two

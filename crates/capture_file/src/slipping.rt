@@ -2,7 +2,7 @@
 ghost use Rattle.std.specs.Prelude.{◌≡◌, ◌⊎◌, ℕ, ◌+◌, ◌*◌, ◌^◌, ◌<◌, ◌≤◌, true, false, List, [], ◌++◌, length, take, min, slice_index, Some, Err, IfOk, IfErr, OnOk};
 ghost use Rattle.std.specs.Io.KnownBytes.{Appends, Consumes, Keeps, IsAtEnd};
 ghost use Rattle.outside_io.specs.Causes.{HasCause, Rose};
-ghost use Rattle.capture_file.specs.Captures.{header_of, layout, CanSay, IsCaptureOf, IsFault, IsHeadless, IsEarlyFault, Stands, StopsIn, block_size, place_of};
+ghost use Rattle.capture_file.specs.Captures.{header_of, layout, CanSay, IsCaptureOf, BeginsCapture, IsFault, IsHeaderPart, IsBlockPart, IsEarlyFault, Stands, StopsIn, block_size, place_of};
 ghost use Rattle.capture_file.specs.Slips.{IsSlippedCapture, IsWithinLane, IsPastLane, IsReadPart, StopsReading, StopsKeeping, StopsWriting, SaysFaulty, slipped, without};
 ghost use Rattle.capture_file.specs.declared.slipping.SlipError.TheVariants.{Place, Read, Write, NoMemory as WantsMemory};
 
@@ -101,7 +101,7 @@ impl Rows {
         ensures none { IfOk result (λ more. more ≡ false → (block_size j heading.bits ≡ 0) × Consumes (S.left source.old) (S.left source.new) [] × IsAtEnd (S.left source.new) × (self.new ≡ self.old)) }
         ensures err { (bytes taken : List ℕ) → S.left source.old ≡ Some bytes → Stands heading.version heading.bits j taken self.old.blue self.old.green self.old.red
             → IfErr result (λ e. SaysFaulty (λ fault. IsFault (taken ++ bytes) fault × StopsIn heading.bits j taken (place_of fault)) e) }
-        ensures part { result ≡ Err Read → (part : List ℕ) × ((length part < block_size j heading.bits) ⊎ (part ≡ [])) × Consumes (S.left source.old) (S.left source.new) part }
+        ensures part { result ≡ Err Read → (part : List ℕ) × IsBlockPart heading.bits j part × Consumes (S.left source.old) (S.left source.new) part }
         ensures full { result ≡ Err WantsMemory → (part : List ℕ) × Consumes (S.left source.old) (S.left source.new) part }
         ensures taken { (taken : List ℕ) × Consumes (S.left source.old) (S.left source.new) taken }
         ensures unplaced { result ≡ Err Place → ⊥ }
@@ -180,7 +180,8 @@ fn read_rows<S: Source>(alloc: Global, source: &mut S, heading: Heading) -> Resu
     ensures ended { OnOk result (IsAtEnd (S.left source.new)) }
     ensures err { (bytes : List ℕ) → S.left source.old ≡ Some bytes → IfErr result (λ e. SaysFaulty (λ fault. IsFault (header_of heading.version heading.bits ++ bytes) fault) e) }
     ensures part { (lane place count : ℕ) → result ≡ Err Read → place + count ≤ slice_index heading.bits lane
-        → (part : List ℕ) × Consumes (S.left source.old) (S.left source.new) part × IsReadPart (header_of heading.version heading.bits ++ part) lane place count }
+        → (part : List ℕ) × Consumes (S.left source.old) (S.left source.new) part × BeginsCapture (header_of heading.version heading.bits ++ part)
+        × IsReadPart (header_of heading.version heading.bits ++ part) lane place count }
     ensures full { result ≡ Err WantsMemory → (part : List ℕ) × Consumes (S.left source.old) (S.left source.new) part }
     ensures unplaced { result ≡ Err Place → ⊥ }
     ensures taken { (taken : List ℕ) × Consumes (S.left source.old) (S.left source.new) taken }
@@ -214,7 +215,7 @@ fn read_fitting<S: Source>(
     ensures fits { IfOk result (λ h. place + count ≤ slice_index h.bits lane) }
     ensures err { (bytes : List ℕ) → S.left source.old ≡ Some bytes → IfErr result (λ e. SaysFaulty (λ fault. IsEarlyFault bytes fault) e) }
     ensures place { result ≡ Err Place → IsPastLane (S.left source.old) (S.left source.new) lane place count }
-    ensures part { result ≡ Err Read → (part : List ℕ) × IsHeadless part × Consumes (S.left source.old) (S.left source.new) part }
+    ensures part { result ≡ Err Read → (part : List ℕ) × IsHeaderPart part × Consumes (S.left source.old) (S.left source.new) part }
     ensures taken { (taken : List ℕ) × Consumes (S.left source.old) (S.left source.new) taken }
     ensures unwritten { result ≡ Err Write → ⊥ }
     ensures remembered { result ≡ Err WantsMemory → ⊥ }
@@ -241,8 +242,8 @@ fn read_fitting<S: Source>(
 ///
 /// `Place` where the header is whole and the bits pass the end of their lane: it is reported before more is read, and
 /// before memory is taken. `Bad` where the bytes are no capture, with the least place that shows it. `Read` where the
-/// source fails, and `NoMemory` for want of memory. After each of them nothing is written. `Write` where the sink
-/// fails: all was read, and a part of the capture is written.
+/// source fails after bytes with which some capture begins, and `NoMemory` for want of memory. After each of them nothing
+/// is written. `Write` where the sink fails: all was read, and a part of the capture is written.
 pub fn slip<S: Source, K: Sink>(
     alloc: Global,
     source: &mut S,

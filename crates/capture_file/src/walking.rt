@@ -3,7 +3,7 @@ ghost use Rattle.std.specs.Prelude.{◌≡◌, ◌⊎◌, ℕ, ◌+◌, ◌*◌,
 ghost use Rattle.std.specs.Io.KnownBytes.{Consumes, IsAtEnd};
 ghost use Rattle.capture_file.specs.Layout.{packed};
 ghost use Rattle.capture_file.specs.Faults.{IsCaused};
-ghost use Rattle.capture_file.specs.Captures.{IsFault, Stands, StopsIn, SaysOf, SaysRead, place_of, bits_in, block_size};
+ghost use Rattle.capture_file.specs.Captures.{IsFault, IsBlockPart, Stands, StopsIn, SaysOf, SaysRead, place_of, bits_in, block_size};
 ghost use Rattle.capture_file.specs.declared.fault.CaptureFault.TheVariants.{Trailing};
 
 use crate::chunk::{Chunks, blocks_for};
@@ -29,7 +29,7 @@ impl Chunks {
         ensures none { IfOk result (λ more. more ≡ false → (block_size j heading.bits ≡ 0) × Consumes (S.left source.old) (S.left source.new) [] × IsAtEnd (S.left source.new)) }
         ensures err { (bytes taken : List ℕ) (x y z : List Bool) → S.left source.old ≡ Some bytes → Stands heading.version heading.bits j taken x y z
             → IfErr result (λ e. SaysOf (λ fault. IsFault (taken ++ bytes) fault × StopsIn heading.bits j taken (place_of fault)) e) }
-        ensures part { IfErr result (λ e. SaysRead ((part : List ℕ) × ((length part < block_size j heading.bits) ⊎ (part ≡ [])) × Consumes (S.left source.old) (S.left source.new) part) e) }
+        ensures part { IfErr result (λ e. SaysRead ((part : List ℕ) × IsBlockPart heading.bits j part × Consumes (S.left source.old) (S.left source.new) part) e) }
         ensures taken { (taken : List ℕ) × Consumes (S.left source.old) (S.left source.new) taken }
         ensures caused { IfErr result (λ e. IsCaused (S.faults source.old) (S.faults source.new) e) }
         ensures later { S.faults source.old ≤ S.faults source.new }

@@ -10,7 +10,7 @@ use capture_file::{
 };
 use captures::{LINES, PIXEL, RED, SIX, SKEWED, SLIPPED};
 use outside_io::{MemSink, MemSource, write_all};
-use rows::{DAMAGES, READS, SLIPS, TAPS};
+use rows::{CUT_OFF, DAMAGES, READS, SLIPS, TAPS};
 use std::alloc::Global;
 use std::process::Abort;
 use std::test::*;
@@ -143,6 +143,11 @@ fn taps(rt: HostRuntime) -> Result<(), Fail> {
 #[test]
 fn reads(rt: HostRuntime) -> Result<(), Fail> {
     judge(&rt, rt.alloc(), READS)
+}
+
+#[test]
+fn cut_off(rt: HostRuntime) -> Result<(), Fail> {
+    judge(&rt, rt.alloc(), CUT_OFF)
 }
 
 #[test]

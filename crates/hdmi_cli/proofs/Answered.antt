@@ -13,7 +13,7 @@ use Rattle.capture_file.specs.declared.damaging.Hit.{Hit}
 use Rattle.capture_file.specs.declared.damaging.DamageError.{DamageError}
 use Rattle.capture_file.specs.declared.damaging.DamageError.TheVariants as damages
 use Rattle.capture_file.specs.Captures.{IsFault}
-use Rattle.capture_file.specs.Slips.{IsSlippedCapture, IsWithinLane, IsPastLane, SaysFaulty, StopsWriting}
+use Rattle.capture_file.specs.Slips.{IsSlippedCapture, IsWithinLane, IsPastLane, SaysFaulty, StopsReading, StopsWriting}
 use Rattle.capture_file.specs.declared.fault.CaptureFault.{CaptureFault}
 use Rattle.capture_file.specs.declared.slipping.SlipError.{SlipError}
 use Rattle.capture_file.specs.declared.slipping.SlipError.TheVariants as slips
@@ -323,6 +323,7 @@ pub record Slipped (slip : SlipWord) (before after : Devices) (r : Result (Unit 
   pub bad : (bytes : List ℕ) → before.left ≡ Some bytes → IfErr r (λ e. SaysFaulty (λ fault. IsFault bytes fault × IsWithinLane bytes slip.lane slip.place slip.bits) e)
   pub part : (bytes : List ℕ) → before.left ≡ Some bytes → r ≡ Err slips.Write → StopsWriting bytes slip.lane slip.place slip.bits before.held after.held × IsAtEnd after.left
   pub place : r ≡ Err slips.Place → IsPastLane before.left after.left slip.lane slip.place slip.bits
+  pub read : r ≡ Err slips.Read → StopsReading before.left after.left slip.lane slip.place slip.bits
   pub unwritten : IfErr r (λ e. (e ≡ slips.Write → ⊥) → Keeps before.held after.held)
   pub ended : OnOk r (IsAtEnd after.left)
   pub read_cause : r ≡ Err slips.Read → Rose before.input_faults after.input_faults

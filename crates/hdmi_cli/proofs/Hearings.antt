@@ -5,7 +5,7 @@ use Rattle.std.specs.Io.KnownBytes.{Consumes, IsAtEnd}
 use Rattle.std.proofs.KnownBytes.{Consumes-trans}
 use Rattle.tmds_word.specs.Bits.{bytes_bits}
 use Rattle.tmds_word.specs.Column.{Column}
-use Rattle.capture_file.specs.Captures.{HasRead, Stands, StopsIn, SaysOf, SaysRead, IsFault, IsEarlyFault, IsHeadless, IsCaptureOf, place_of, block_size}
+use Rattle.capture_file.specs.Captures.{HasRead, Stands, StopsIn, SaysOf, SaysRead, IsFault, IsEarlyFault, IsHeaderPart, IsBlockPart, IsCaptureOf, place_of}
 use Rattle.capture_file.specs.declared.fault.CaptureFault.{CaptureFault}
 use Rattle.capture_file.specs.declared.fault.CaptureError.{CaptureError}
 use Rattle.capture_file.specs.declared.fault.CaptureError.TheVariants.{Bad as BadCapture, Read as ReadFailed}
@@ -124,7 +124,7 @@ heard_all g goes_on took version counts j from left0 left1 sink first now h gone
 pub stops_short : {A H : Type 0} (g : Grammar) (goes_on : H → List Column → Type 0) (took : A → A → List Event → Type 0) (broke : A → A → Event → Type 0) (version : ℕ) (counts : List ℕ) (j : ℕ) (from left0 left1 : Option (List ℕ)) (sink : LaneSinkSeen H) (first now : A) (error : CaptureError)
     → HasHeard g goes_on took version counts j from left0 sink first now
     → ((bytes taken : List ℕ) (x y z : List Bool) → left0 ≡ Some bytes → Stands version counts j taken x y z → SaysOf (λ fault. IsFault (taken ++ bytes) fault × StopsIn counts j taken (place_of fault)) error)
-    → SaysRead ((part : List ℕ) × ((length part < block_size j counts) ⊎ (part ≡ [])) × Consumes left0 left1 part) error
+    → SaysRead ((part : List ℕ) × IsBlockPart counts j part × Consumes left0 left1 part) error
     → StopsShort g took broke from left1 first now (refused_as error)
 stops_short g goes_on took broke version counts j from left0 left1 sink first now (BadCapture fault) h says part = (
   (h.fed, h.heard),
@@ -142,7 +142,7 @@ stops_short g goes_on took broke version counts j from left0 left1 sink first no
   fed = h.fed;
   read = h.taken ++ part.0;
   consumed = Consumes-trans from left0 left1 h.taken part.0 h.consumed part.2;
-  are_read = inr (h.taken, part.0, counts, j, refl, at_its_length version counts j _ _ _ _ h.stands, part.1);
+  are_read = (part.1.begins _ _ _ _ _ h.stands, inr (h.taken, part.0, counts, j, refl, at_its_length version counts j _ _ _ _ h.stands, part.1.short));
   heard = h.heard;
 }
 
@@ -158,13 +158,13 @@ heard_head g goes_on took version counts j from left sink now none sunk h = reco
 -- none was read
 pub headless : {A : Type 0} (g : Grammar) (took : A → A → List Event → Type 0) (broke : A → A → Event → Type 0) (from left : Option (List ℕ)) (now : A) (error : CaptureError) → took now now []
     → ((bytes : List ℕ) → from ≡ Some bytes → SaysOf (λ fault. IsEarlyFault bytes fault) error)
-    → SaysRead ((part : List ℕ) × IsHeadless part × Consumes from left part) error
+    → SaysRead ((part : List ℕ) × IsHeaderPart part × Consumes from left part) error
     → StopsShort g took broke from left now now (refused_as error)
 headless g took broke from left now (BadCapture fault) none says part = (
   (no_bits, reported_none g took now none),
   λ bytes is. let s = says bytes is in record { faulty = s.0; fed = no_bits; before = inl (s.1, refl); heard = reported_none g took now none },
 )
-headless g took broke from left now ReadFailed none says part = record { fed = no_bits; read = part.0; consumed = part.2; are_read = inl (part.1, refl); heard = reported_none g took now none }
+headless g took broke from left now ReadFailed none says part = record { fed = no_bits; read = part.0; consumed = part.2; are_read = (part.1.1, inl (part.1.0, refl)); heard = reported_none g took now none }
 
 -- what was heard where it is not the ear that stopped
 pub some_heard : {A : Type 0} (g : Grammar) (took : A → A → List Event → Type 0) (broke : A → A → Event → Type 0) (from left : Option (List ℕ)) (old new : A) (e : HearError) → StopsShort g took broke from left old new e → (e ≡ Ear → ⊥)

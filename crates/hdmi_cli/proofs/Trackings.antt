@@ -2,7 +2,7 @@
 use Rattle.std.proofs.Common.{arith, ◌≡◌, ◌≤◌, ◌+◌, ◌⊎◌, ◌<◌, ◌++◌, ◌∷◌, [], ℕ, List, Bool, sym, subst, refl, ap, ◌∙◌, inl, inr, length, append-nil, append_assoc, Option, Some}
 use Rattle.std.specs.Io.KnownBytes.{Consumes, IsAtEnd}
 use Rattle.std.proofs.KnownBytes.{Consumes-trans}
-use Rattle.capture_file.specs.Captures.{Stands, StopsIn, SaysOf, SaysRead, IsFault, IsEarlyFault, IsHeadless, IsCaptureOf, place_of, block_size}
+use Rattle.capture_file.specs.Captures.{Stands, StopsIn, SaysOf, SaysRead, IsFault, IsEarlyFault, IsHeaderPart, IsBlockPart, IsCaptureOf, place_of}
 use Rattle.capture_file.specs.declared.fault.CaptureError.{CaptureError}
 use Rattle.capture_file.specs.declared.fault.CaptureError.TheVariants.{Bad as BadCapture, Read as ReadFailed}
 use Rattle.capture_file.proofs.Marks.{consumed}
@@ -96,7 +96,7 @@ so_far tracked version counts j from left sink first now h = record { track_even
 pub short_on : {A : Type 0} (tracked : A → A → List TrackEvent → Type 0) (lost : A → A → TrackEvent → Type 0) (version : ℕ) (counts : List ℕ) (j : ℕ) (from left0 left1 : Option (List ℕ)) (sink : TrackSinkSeen) (first now : A) (error : CaptureError)
     → HasFollowed tracked version counts j from left0 sink first now
     → ((bytes taken : List ℕ) (x y z : List Bool) → left0 ≡ Some bytes → Stands version counts j taken x y z → SaysOf (λ fault. IsFault (taken ++ bytes) fault × StopsIn counts j taken (place_of fault)) error)
-    → SaysRead ((part : List ℕ) × ((length part < block_size j counts) ⊎ (part ≡ [])) × Consumes left0 left1 part) error
+    → SaysRead ((part : List ℕ) × IsBlockPart counts j part × Consumes left0 left1 part) error
     → StopsOn tracked lost from left1 first now (refused_as error)
 short_on tracked lost version counts j from left0 left1 sink first now (BadCapture fault) h says part = (
   (h.fed, so_far tracked version counts j from left0 sink first now h),
@@ -114,7 +114,7 @@ short_on tracked lost version counts j from left0 left1 sink first now ReadFaile
   fed = h.fed;
   read = h.taken ++ part.0;
   consumed = Consumes-trans from left0 left1 h.taken part.0 h.consumed part.2;
-  are_read = inr (h.taken, part.0, counts, j, refl, at_its_length version counts j _ _ _ _ h.stands, part.1);
+  are_read = (part.1.begins _ _ _ _ _ h.stands, inr (h.taken, part.0, counts, j, refl, at_its_length version counts j _ _ _ _ h.stands, part.1.short));
   heard = so_far tracked version counts j from left0 sink first now h;
 }
 
@@ -126,7 +126,7 @@ followed_head tracked version counts j from left sink now none sunk h = record {
 -- none was read
 pub headless_on : {A : Type 0} (tracked : A → A → List TrackEvent → Type 0) (lost : A → A → TrackEvent → Type 0) (from left : Option (List ℕ)) (sink : TrackSinkSeen) (now : A) (error : CaptureError) → tracked now now [] → TrackSinkRepresents sink no_bits []
     → ((bytes : List ℕ) → from ≡ Some bytes → SaysOf (λ fault. IsEarlyFault bytes fault) error)
-    → SaysRead ((part : List ℕ) × IsHeadless part × Consumes from left part) error
+    → SaysRead ((part : List ℕ) × IsHeaderPart part × Consumes from left part) error
     → StopsOn tracked lost from left now now (refused_as error)
 headless_on tracked lost from left sink now (BadCapture fault) none sunk says part =
     let so : IsTrackedSoFar tracked no_bits now now = record { track_events = []; reported = sunk.tracked; heard = none } in (
@@ -134,7 +134,7 @@ headless_on tracked lost from left sink now (BadCapture fault) none sunk says pa
       λ bytes is. let s = says bytes is in record { faulty = s.0; fed = no_bits; before = inl (s.1, refl); heard = so },
     )
 headless_on tracked lost from left sink now ReadFailed none sunk says part =
-    record { fed = no_bits; read = part.0; consumed = part.2; are_read = inl (part.1, refl); heard = record { track_events = []; reported = sunk.tracked; heard = none } }
+    record { fed = no_bits; read = part.0; consumed = part.2; are_read = (part.1.1, inl (part.1.0, refl)); heard = record { track_events = []; reported = sunk.tracked; heard = none } }
 
 -- a sink that was fed nothing was fed no block
 left_none : (left : Option (List ℕ)) (rest : List ℕ) → left ≡ Some rest → IsAtEnd left → rest ≡ []

@@ -1,6 +1,6 @@
 -- The whole blocks of a capture that stand before a place, or that were read: the bits that each lane has in them.
 use Rattle.std.specs.Prelude.{◌≡◌, ◌⊎◌, ◌<◌, ℕ, ◌+◌, List, [], ◌++◌, length}
-use Rattle.capture_file.specs.Captures.{HasRead, IsHeadless, StopsIn, block_size}
+use Rattle.capture_file.specs.Captures.{BeginsCapture, HasRead, IsHeadless, StopsIn, block_size}
 use Rattle.link_sink.specs.Pieces.{no_bits}
 use Rattle.link_sink.specs.Sinks.{Fed}
 
@@ -15,11 +15,12 @@ AreBefore bytes place fed =
     (IsHeadless bytes × (fed ≡ no_bits))
     ⊎ ((taken rest counts : List ℕ) × (j : ℕ) × (bytes ≡ taken ++ rest) × HasBlocks counts j taken fed × StopsIn counts j taken place)
 
--- the whole blocks of the bytes that were read, where the next was not read whole
+-- some capture begins with the bytes that were read, and these are their whole blocks, where the next was not read whole
 abbrev pub AreRead : List ℕ → Fed → Type 0
 AreRead read fed =
-    (IsHeadless read × (fed ≡ no_bits))
-    ⊎ ((taken part counts : List ℕ) × (j : ℕ) × (read ≡ taken ++ part) × HasBlocks counts j taken fed × ((length part < block_size j counts) ⊎ (part ≡ [])))
+    BeginsCapture read
+    × ((IsHeadless read × (fed ≡ no_bits))
+    ⊎ ((taken part counts : List ℕ) × (j : ℕ) × (read ≡ taken ++ part) × HasBlocks counts j taken fed × ((length part < block_size j counts) ⊎ (part ≡ []))))
 
 -- one block more was read
 pub record AreNext (before after : Fed) (read : List ℕ) : Type 0 where

@@ -2,8 +2,9 @@
 use Rattle.std.specs.Prelude.{◌≡◌, ◌⊎◌, ◌<◌, ◌≤◌, ℕ, zero, suc, Bool, true, false, List, [], ◌∷◌, length, map, take, Option, Some, Result, Ok, Err, Contains}
 use Rattle.std.specs.Io.KnownBytes.{Appends, Consumes, IsAtEnd, Keeps}
 use Rattle.outside_io.specs.Causes.{Rose}
-use Rattle.capture_file.specs.Captures.{IsCaptureOf}
+use Rattle.capture_file.specs.Captures.{BeginsCapture, IsCaptureOf}
 use Rattle.capture_file.specs.BlockDamage.{ReadFailed as DamageReadFailed, WriteFailed as DamageWriteFailed}
+use Rattle.capture_file.specs.Slips.{StopsReading}
 use Rattle.capture_file.specs.declared.slipping.SlipError.{SlipError}
 use Rattle.capture_file.specs.declared.slipping.SlipError.TheVariants as slips
 use Rattle.biphase_listing.specs.Reading.{IsUnread as FramesReadFailed, IsUnwritten as FramesWriteFailed}
@@ -257,7 +258,11 @@ judged_ending (Ok done) zero = Done
 judged_ending (Ok done) (suc n) = Faulty
 judged_ending (Err failed) n = WriteFailed
 
--- what stands where a read failed: `make` has written nothing
+-- some capture begins with what was read of the input
+abbrev pub BeginsRead : Devices → Devices → Type 0
+BeginsRead before after = (read : List ℕ) × Consumes before.left after.left read × BeginsCapture read
+
+-- what stands where a read failed: `make`, `slip` and `relay` have written nothing
 abbrev pub EndsReadFailed : Command → Devices → Devices → Type 0
 EndsReadFailed (MakeLink tap) before after = Keeps before.held after.held
 EndsReadFailed (MakeContent tap) before after = Keeps before.held after.held
@@ -269,9 +274,9 @@ EndsReadFailed (RecoverBiphase pair) before after = ListsRead link_grammar (biph
 EndsReadFailed RecoverDvi before after = ListsRead dvi_grammar link_listing before after
 EndsReadFailed Check before after = ListsRead link_grammar check_listing before after
 EndsReadFailed (Damage damages) before after = DamageReadFailed before.left after.left (map hit_asked damages) before.held after.held
-EndsReadFailed (Slip slip) before after = Keeps before.held after.held
+EndsReadFailed (Slip slip) before after = Keeps before.held after.held × StopsReading before.left after.left slip.lane slip.place slip.bits
 EndsReadFailed ReadBiphase before after = FramesReadFailed before.left after.left before.held after.held
-EndsReadFailed Relay before after = Keeps before.held after.held
+EndsReadFailed Relay before after = Keeps before.held after.held × BeginsRead before after
 EndsReadFailed (Sample frames) before after = ⊥
 
 -- and where a write failed

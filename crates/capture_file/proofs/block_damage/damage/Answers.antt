@@ -1,7 +1,7 @@
 use Rattle.std.proofs.Common.{arith, ◌≡◌, ◌++◌, ℕ, List, sym, subst, inl, inr, append_assoc}
 use Rattle.std.specs.Io.KnownBytes.{Appends}
 use Rattle.std.proofs.KnownBytes.{Consumes-trans}
-use Rattle.capture_file.specs.Captures.{header_of, block_size}
+use Rattle.capture_file.specs.Captures.{header_of, BeginsCapture, block_size}
 use Rattle.capture_file.specs.BlockDamage.{Halfway, SaysFault, SaysBad, SaysUnread, IsLateFault, IsDamageFault, IsDamagedCapture}
 use Rattle.capture_file.specs.declared.damaging.DamageError.{DamageError}
 use Rattle.capture_file.specs.declared.damaging.DamageError.TheVariants.{Read}
@@ -55,9 +55,11 @@ returns-in-Ok-write_header-clause-read g c is =
     let before = g.K.Sink.held c.args.out.now in
     let half = halfway_head a.version a.bits c.args.hits.now before _ n.said c.in-Ok-write_header.ensures.whole in
     let p = c.damage_lanes.ensures.part head before half is in
+    let s = p.3.front in
     record {
       read = head ++ (p.1 ++ p.2);
       took = Consumes-trans _ _ _ head (p.1 ++ p.2) n.ok p.5;
+      begins = subst (λ bs. BeginsCapture bs) (append_assoc head p.1 p.2) (p.4.begins _ _ s.x s.y s.z s.read);
       wrote = inr (record {
         version = a.version;
         counts = a.bits;
@@ -67,7 +69,7 @@ returns-in-Ok-write_header-clause-read g c is =
         read_is = sym (append_assoc head p.1 p.2);
         fits = n.fits;
         half = p.3;
-        short = p.4;
+        short = p.4.short;
       });
     }
 
@@ -92,7 +94,7 @@ pub returns-in-Err-clause-read : goal.returns-in-Err-clause-read
 returns-in-Err-clause-read g c is =
     let same : c.in-Err.error ≡ Read = cc in
     let p = unread_of _ c.in-Err.error same c.in-Err.ensures.part in
-    record { read = p.0; took = p.2; wrote = inl (p.1, keeps_self (g.K.Sink.held c.args.out.now)) }
+    record { read = p.0; took = p.2; begins = p.1.1; wrote = inl (p.1.0, keeps_self (g.K.Sink.held c.args.out.now)) }
 
 pub returns-in-Ok-write_header-clause-taken : goal.returns-in-Ok-write_header-clause-taken
 returns-in-Ok-write_header-clause-taken g c = takes_more _ _ _ (_, c.in-Ok.ensures.ok) c.damage_lanes.ensures.taken

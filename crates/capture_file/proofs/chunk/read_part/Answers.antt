@@ -1,4 +1,4 @@
-use Rattle.std.proofs.Common.{arith, ◌≡◌, ◌∙◌, ◌++◌, [], ap, take, subst, append-nil, length-take-le}
+use Rattle.std.proofs.Common.{arith, ◌≡◌, ◌<◌, ◌∙◌, ◌++◌, [], length, ap, take, subst, append-nil, length-take-le}
 use Rattle.std.proofs.lemmas.Grind.{common_steps}
 use Rattle.std.specs.Io.KnownBytes.{IsAtEnd}
 use Rattle.capture_file.proofs.Rooms.{none_packed}
@@ -30,3 +30,14 @@ returns-then-count-eq0-clause-ok c = grind (arith, common_steps)
 
 pub returns-then-is_padded-clause-ok : goal.returns-then-is_padded-clause-ok
 returns-then-is_padded-clause-ok c = grind (arith, common_steps)
+
+pub returns-in_default-clause-part : goal.returns-in_default-clause-part
+returns-in_default-clause-part g c =
+    let part = c.read_full.new.into in
+    let arrived = c.in_default.field-0.arrived in
+    let less : arrived < length part = c.in_default.ensures.missing in (
+      take arrived part,
+      omega (arith, less, length-take-le arrived part (omega arith), c.read_full.auto.into, c.requires.size),
+      take_bytes arrived part (λ i. (c.type_inv.part i).fits),
+      c.in_default.ensures.part,
+    )

@@ -3,20 +3,15 @@ use Rattle.std.specs.Prelude.{◌⊎◌}
 use Rattle.std.proofs.lemmas.Result.{err_from_is_err_and}
 use Rattle.std.specs.Io.KnownBytes.{Consumes}
 use Rattle.std.proofs.KnownBytes.{Consumes-trans}
-use Rattle.capture_file.specs.Captures.{IsEarlyFault}
+use Rattle.capture_file.specs.Captures.{IsEarlyFault, IsHeaderPart}
 use Rattle.capture_file.proofs.Marks.{consumed}
 use Rattle.outside_io.proofs.Consumed.{takes_more}
-use Rattle.capture_file.proofs.Judged.{says_of, says_read, headless_short, headless_part, head_is, first_is, header_one, header_two_is}
+use Rattle.capture_file.proofs.Judged.{says_of, says_read, head_is, first_is, header_one, header_two_is}
 use Rattle.capture_file.proofs.heading.read_heading.Goals as goal
 
 two_of : (b : ℕ) → (b ≡ 49) ⊎ (b ≡ 50) → (b ≡ 49 → ⊥) → b ≡ 50
 two_of b (inl one) not = absurd (not one)
 two_of b (inr two) not = two
-
-pub returns-in_err-head-clause-part : goal.returns-in_err-head-clause-part
-returns-in_err-head-clause-part g c =
-    let p = err_from_is_err_and c.from_residual.result c.from_residual.ensures.1 in
-    rw (p.1, p.2) (says_read _ _ c.in_err-head.field-0.0 (λ h. (h.0, headless_short h.0 h.1, h.2)) c.in_err-head.ensures.part)
 
 pub returns-then-head-eq49-clause-ok : goal.returns-then-head-eq49-clause-ok
 returns-then-head-eq49-clause-ok g c =
@@ -40,7 +35,7 @@ returns-in_err-green-clause-part g c =
     let n = c.from_be_bytes-bits.result in
     let p = err_from_is_err_and c.from_residual-in_err-green.result c.from_residual-in_err-green.ensures.1 in
     let is = head_is _ 50 n h.size h.bytes h.mark (two_of _ h.version (λ one. omega (arith, one, c.if-head-eq49.false))) c.from_be_bytes-bits.ensures in
-    rw (p.1, p.2) (says_read _ _ c.in_err-green.field-0.0 (λ part. (_ ++ part.0, headless_part _ part.0 n is part.1, Consumes-trans _ _ _ _ part.0 h.ok part.2)) c.in_err-green.ensures.part)
+    rw (p.1, p.2) (says_read _ _ c.in_err-green.field-0.0 (λ part. (_ ++ part.0, subst (λ xs. IsHeaderPart (xs ++ part.0)) (sym is) part.1, Consumes-trans _ _ _ _ part.0 h.ok part.2)) c.in_err-green.ensures.part)
 
 pub returns-clause-ok : goal.returns-clause-ok
 returns-clause-ok g c =

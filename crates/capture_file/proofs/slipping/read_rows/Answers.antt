@@ -1,7 +1,7 @@
 use Rattle.std.proofs.Common.{arith, ◌≡◌, ◌++◌, [], ℕ, List, Bool, length, ◌∙◌, sym, ap, subst, append_assoc, append-nil}
 use Rattle.std.specs.Prelude.{Err}
 use Rattle.std.proofs.KnownBytes.{Consumes-nil, Consumes-trans}
-use Rattle.capture_file.specs.Captures.{IsFault, IsCaptureOf, Stands, StopsIn, header_of, place_of}
+use Rattle.capture_file.specs.Captures.{BeginsCapture, IsFault, IsCaptureOf, Stands, StopsIn, header_of, place_of}
 use Rattle.capture_file.specs.declared.slipping.SlipError.TheVariants.{Read, Place, Write, NoMemory as WantsMemory}
 use Rattle.capture_file.proofs.Marks.{consumed}
 use Rattle.capture_file.proofs.Standing.{stands_head}
@@ -70,6 +70,7 @@ returns-in-Err g c = record {
       let p = c.in-Err.ensures.part (ap Err same) in (
         w.0 ++ p.0,
         Consumes-trans _ _ _ w.0 p.0 w.1 p.2,
+        subst (λ bs. BeginsCapture bs) (append_assoc head w.0 p.0) (p.1.begins _ _ _ _ _ w.2),
         record {
           version = a.version;
           counts = a.bits;
@@ -81,7 +82,7 @@ returns-in-Err g c = record {
           z = c.loop-j.rows.red;
           read_is = sym (append_assoc head w.0 p.0);
           stands = w.2;
-          short = p.1;
+          short = p.1.short;
           fits = fits;
         },
       );

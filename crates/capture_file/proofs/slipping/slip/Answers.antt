@@ -35,7 +35,7 @@ returns-in-Err-read_rows-clause-read g c is =
     let head = header_of h.version h.bits in
     let same : c.in-Err-read_rows.error ≡ Read = cc in
     let p = c.in-Err-read_rows.ensures.part a.lane a.place a.drop (ap Err same) n.fits in
-    record { read = head ++ p.0; took = Consumes-trans _ _ _ head p.0 n.ok p.1; part = inr p.2 }
+    record { read = head ++ p.0; took = Consumes-trans _ _ _ head p.0 n.ok p.1; begins = p.2; part = inr p.3 }
 
 -- a header whose lane has the bits was read, and more
 kept : (version lane place count : ℕ) (counts more : List ℕ) (left mid rest : Option (List ℕ)) → CanSay version counts → place + count ≤ slice_index counts lane

@@ -30,6 +30,11 @@ returns-in-Err-Bad-clause-ends g c =
     (refused_sent c.in-Err-Bad.fault c.open-relay.result c.hear_capture.new.ear before after c.open-relay.ensures.stands (keeps_itself (g.K.Sink.held c.args.output.now))
     (λ bytes reported. c.in-Err-Bad.ensures.bad bytes c.in-Err-Bad.fault reported c.in-Err-Bad.field-0-is))
 
+pub returns-in-Err-Read-clause-ends : goal.returns-in-Err-Read-clause-ends
+returns-in-Err-Read-clause-ends g c =
+    let r = c.in-Err-Read.ensures.read c.in-Err-Read.field-0-is in
+    (r.0, (keeps_itself (g.K.Sink.held c.args.output.now), (r.1.1, r.1.2, r.1.3.0)))
+
 pub returns-clause-ends : goal.returns-clause-ends
 returns-clause-ends g c =
     let before = seen (g.S.Source.left c.args.input.now) (g.S.Source.faults c.args.input.now) (g.K.Sink.held c.args.output.now) (g.K.Sink.faults c.args.output.now) in

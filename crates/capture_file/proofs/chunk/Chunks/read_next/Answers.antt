@@ -1,8 +1,8 @@
-use Rattle.std.proofs.Common.{[], sym, subst, refl, inr}
+use Rattle.std.proofs.Common.{[], sym, subst}
 use Rattle.std.proofs.lemmas.Result.{err_from_is_err_and}
 use Rattle.capture_file.specs.Captures.{HasRead}
 use Rattle.capture_file.proofs.Judged.{says_read}
-use Rattle.capture_file.proofs.Standing.{says_end, says_inside}
+use Rattle.capture_file.proofs.Standing.{says_end, says_inside, end_part}
 use Rattle.capture_file.proofs.chunk.Chunks.read_next.Goals as goal
 
 pub returns-in_err-read_end-clause-err : goal.returns-in_err-read_end-clause-err
@@ -24,4 +24,4 @@ returns-in_err-read-clause-err g c bytes taken x y z e s =
 pub returns-in_err-read_end-clause-part : goal.returns-in_err-read_end-clause-part
 returns-in_err-read_end-clause-part g c =
     let p = err_from_is_err_and c.from_residual.result c.from_residual.ensures.1 in
-    rw (p.1, p.2) (says_read _ _ c.in_err-read_end.field-0.0 (λ none. ([], inr refl, none)) c.in_err-read_end.ensures.part)
+    rw (p.1, p.2) (says_read _ _ c.in_err-read_end.field-0.0 (λ none. ([], end_part c.args.heading.bits c.args.j (c.is_past.ensures.past.0 c.if-is_past.true), none)) c.in_err-read_end.ensures.part)
