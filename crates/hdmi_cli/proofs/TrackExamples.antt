@@ -141,7 +141,7 @@ noticed_fit : AreFit 7 400 903 833 868
 noticed_fit = record { at = omega arith; begins = omega arith; ends = omega arith; blue_within = omega arith; green_within = omega arith; red_within = omega arith }
 
 is_noticed : IsNoticed (tapped 7 400 903 833 868) (loses 400)
-is_noticed = record { lock = 3; is_lock = lock; before = omega arith; whole = omega arith }
+is_noticed = record { lock = 3; is_lock = lock; before = omega arith; early = 0; few = omega arith; control = λ k less. absurd (omega arith); whole = omega arith }
 
 pub noticed : HasNoticedSlip
 noticed = (tapped 7 400 903 833 868, loses 400, left 400 (lanes 7 903 833 868), slip_case _ 7 400 903 833 868 noticed_fit is_noticed)
