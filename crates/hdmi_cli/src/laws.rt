@@ -18,7 +18,8 @@ pub fn unlocked_slip()
     ensures { HasUnlockedSlip }
 {}
 
-/// One whose lane ends in that line, so that they are not noticed either.
+/// One whose lane ends in that line, so that they are not noticed either; it was locked, and the lanes have a first full
+/// alignment.
 pub fn short_slip()
     ensures { HasShortSlip }
 {}
