@@ -14,6 +14,7 @@ use Rattle.link_laws.proofs.Ends.{near_from}
 use Rattle.link_laws.proofs.Aligned.{AreCharacters, BeginAt, columns_taken}
 use Rattle.source_end.specs.DviPeriods.{IsDviConforming, DviSpells, dvi_kinds, IsDviSparse, HasThree}
 use Rattle.dvi_hearing.specs.DviHeard.{dvi_heard}
+use Rattle.link_laws.specs.Laws.{BeginColumn}
 use Rattle.dvi_laws.specs.DviLaws.{IsDviAccounted}
 use Rattle.dvi_laws.proofs.Shape.{alternating}
 use Rattle.dvi_laws.proofs.Starting.{link_law}
@@ -32,7 +33,7 @@ characters g received narrow i lt = let n = length-map received g in subst (λ w
 pub tap_accounted : (ps : List Period) (sent received : List Column) → IsDviConforming ps → HasThree ps → DviSpells ps sent → IsDviSparse ps sent received
     → (offset : ℕ) (skews counts : List ℕ) (x y z : List Bool) → IsTap received offset skews counts x y z → HasSmallSkew skews
     → (d e f : ℕ) → IsFirst x y z d e f
-    → (a : ℕ) × IsDviAccounted ps sent received (aligned_columns x y z d e f) a
+    → (a : ℕ) × IsDviAccounted ps sent received (aligned_columns x y z d e f) a × BeginColumn offset skews (a + 12) d e f
 tap_accounted ps sent received c t spells h offset skews counts x y z tapped small d e f first =
     let k1 = slice_index skews 0 in
     let k2 = slice_index skews 1 in
@@ -59,4 +60,5 @@ tap_accounted ps sent received c t spells h offset skews counts x y z tapped sma
     let columns : cs ≡ take (length cs) (drop a received) =
     columns_taken received (offset + k1) (offset + k2) (offset + k3) (slice_index counts 0) (slice_index counts 1) (slice_index counts 2) a x y z d e f at
     (characters (λ c. c.blue) received (λ i lt. (h.characters i lt).blue)) (characters (λ c. c.green) received (λ i lt. (h.characters i lt).green)) (characters (λ c. c.red) received (λ i lt. (h.characters i lt).red)) in
-    (a, record { ends = ends_a; columns = columns; reported = ap dvi_heard columns ∙ link_law ps sent received c t spells h.same_length h.one_a_column a (length cs) ends_a })
+    let on : BeginColumn offset skews (a + 12) d e f = record { blue = omega (arith, end.2, far); green = omega (arith, end.3, far); red = omega (arith, end.4, far) } in
+    (a, record { ends = ends_a; columns = columns; reported = ap dvi_heard columns ∙ link_law ps sent received c t spells h.same_length h.one_a_column a (length cs) ends_a }, on)

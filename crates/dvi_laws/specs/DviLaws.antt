@@ -10,6 +10,7 @@ use Rattle.lane_deskew.specs.Triples.{IsFirst}
 use Rattle.lane_deskew.specs.Aligned.{aligned_columns}
 use Rattle.source_end.specs.DviPeriods.{IsDviConforming, DviSpells, dvi_kinds, IsDviSparse, HasThree}
 use Rattle.dvi_hearing.specs.DviHeard.{dvi_heard}
+use Rattle.link_laws.specs.Laws.{BeginColumn}
 use Rattle.dvi_laws.specs.DviAccount.{dvi_account}
 
 -- what is reported of the columns received from twelve before the end of a control period on is the account. Of damage
@@ -44,7 +45,7 @@ DviFirstEnds =
     → (i : ℕ) × EndsAt (dvi_kinds ps) i × (d + from1 ≡ 10 * (i + 1)) × (e + from2 ≡ 10 * (i + 1)) × (f + from3 ≡ 10 * (i + 1))
 
 -- From the bits to the account: the aligned columns begin twelve columns before the end of a control period, and what is
--- reported of them is the account from there on.
+-- reported of them is the account from there on. The lanes' edges are where the column after that period begins.
 pub record IsDviAccounted (ps : List Period) (sent received aligned : List Column) (a : ℕ) : Type 0 where
   pub ends : EndsAt (dvi_kinds ps) (a + 11)
   pub columns : aligned ≡ take (length aligned) (drop a received)
@@ -55,7 +56,7 @@ DviTapAccounted =
     (ps : List Period) (sent received : List Column) → IsDviConforming ps → HasThree ps → DviSpells ps sent → IsDviSparse ps sent received
     → (offset : ℕ) (skews counts : List ℕ) (x y z : List Bool) → IsTap received offset skews counts x y z → HasSmallSkew skews
     → (d e f : ℕ) → IsFirst x y z d e f
-    → (a : ℕ) × IsDviAccounted ps sent received (aligned_columns x y z d e f) a
+    → (a : ℕ) × IsDviAccounted ps sent received (aligned_columns x y z d e f) a × BeginColumn offset skews (a + 12) d e f
 
 -- Examples.
 

@@ -200,6 +200,7 @@ dvi_headlined words ending before after status ends is named t tapped d e f firs
       law.0,
       record {
         accounted = law.1;
+        begins = law.2;
         status_is = sym answer.status ∙ is.status;
         written = subst (λ out. Appends before.held after.held out) is.output answer.written;
       },

@@ -16,6 +16,7 @@ pub mod Tracked
 pub mod TrackHeadline
 pub mod TrackSlip
 pub mod Unnoticed
+pub mod NoticedOrNot
 pub mod TrackPasses
 pub mod TrackExamples
 pub mod RelayBlocks

@@ -30,11 +30,11 @@ pub shorter : (text front back : List ℕ) (n : ℕ) → text ≡ front ++ back 
 shorter text front back n is lt = grind (arith, length-append)
 
 -- of two beginnings of events the one is the beginning of the other
-pub record Goes (first taken : List Event) : Type 0 where
-  pub mid : List Event
+pub record Goes {T : Type 0} (first taken : List T) : Type 0 where
+  pub mid : List T
   pub is : taken ≡ first ++ mid
 
-goes_on : (first taken more rest : List Event) → first ++ more ≡ taken ++ rest → length first ≤ length taken → Goes first taken
+pub goes_on : {T : Type 0} (first taken more rest : List T) → first ++ more ≡ taken ++ rest → length first ≤ length taken → Goes first taken
 goes_on [] taken more rest is le = record { mid = taken; is = refl }
 goes_on (x ∷ first) [] more rest is le = absurd (omega (arith, le))
 goes_on (x ∷ first) (y ∷ taken) more rest is le = grind (arith, goes_on first taken more rest)
@@ -50,7 +50,7 @@ lines_parts listing after last events taken rest next it is = grind (arith, appe
 
 pub broken_past : {A : Type 0} (g : Grammar) (listing : Listing) (after : List Event → List Event → List ℕ) (last : List Event → List ℕ) (took : A → A → List Event → Type 0) (broke : A → A → Event → Type 0) (held : A → Option (List ℕ)) (before : Fed) (events : List Event) (old new : A)
     → IsText listing after last → Writes listing after took broke held old → (b : IsBroken g took broke before events old new)
-    → IsWrittenPast listing b.first (listing.lines events) (held old) (held new)
+    → IsWrittenPast (listing.lines b.first) (listing.lines events) (held old) (held new)
 broken_past g listing after last took broke held before events old new it writes b =
     let s = b.stops in
     let broken = writes.breaks s.between new s.taken s.next s.took_some s.broke_then in
@@ -71,12 +71,12 @@ broken_past g listing after last took broke held before events old new it writes
 
 -- a part of the lines is one of the whole text
 pub text_past : (listing : Listing) (after : List Event → List Event → List ℕ) (last : List Event → List ℕ) (first events : List Event) (old new : Option (List ℕ)) → IsText listing after last
-    → IsWrittenPast listing first (listing.lines events) old new → IsWrittenPast listing first (listing.text events) old new
+    → IsWrittenPast (listing.lines first) (listing.lines events) old new → IsWrittenPast (listing.lines first) (listing.text events) old new
 text_past listing after last first events old new it p = grind (arith, length-append, take-append-le)
 
 -- the last line was not written whole
 pub end_past : (listing : Listing) (after : List Event → List Event → List ℕ) (last : List Event → List ℕ) (first events : List Event) (n : ℕ) (old mid new : Option (List ℕ)) → IsText listing after last
-    → Goes first events → n < length (last events) → Appends old mid (listing.lines events) → Appends mid new (take n (last events)) → IsWrittenPast listing first (listing.text events) old new
+    → Goes first events → n < length (last events) → Appends old mid (listing.lines events) → Appends mid new (take n (last events)) → IsWrittenPast (listing.lines first) (listing.text events) old new
 end_past listing after last first events n old mid new it g lt written then =
     let least = least_of listing after last first events it g in
     record {

@@ -1,7 +1,7 @@
 -- Taps of the short stream, one lane of which loses three bits in its first line, with the bytes of their captures: one that is noticed, and two that are not.
-use Rattle.std.proofs.Common.{◌≡◌, ℕ, suc, zero, ◌+◌, ◌*◌, ◌^◌, ◌<◌, ◌≤◌, Bool, true, not, ◌&&◌, List, [], ◌∷◌, length, drop, refl, ap, ap₂, ◌∙◌, subst, arith}
+use Rattle.std.proofs.Common.{◌≡◌, ℕ, suc, zero, ◌+◌, ◌*◌, ◌^◌, ◌<◌, ◌≤◌, Bool, true, not, ◌&&◌, List, [], ◌∷◌, length, take, drop, refl, ap, ap₂, ◌∙◌, subst, arith}
 use Rattle.std.specs.Prelude.{slice_index}
-use Rattle.std.proofs.lemmas.List.{length-map}
+use Rattle.std.proofs.lemmas.List.{length-map, take-take}
 use Rattle.tmds_word.specs.Bits.{bits_of, word_bits, row_bits, number, window}
 use Rattle.tmds_word.specs.Column.{blues, greens, reds}
 use Rattle.tmds_word.specs.Taps.{part_of, IsPart, IsTap, HasSmallSkew}
@@ -10,9 +10,9 @@ use Rattle.terc4.specs.Tables.{control_words, is_in, is_control, video_guard}
 use Rattle.capture_file.specs.Captures.{IsCaptureOf, layout}
 use Rattle.island_pack.specs.Kinds.{control_column, pixel_column}
 use Rattle.island_pack.specs.Periods.{values_of}
-use Rattle.lane_align.specs.Lanes.{HasControl, IsRun, IsEdge}
+use Rattle.lane_align.specs.Lanes.{HasControl, IsRun, IsLock, IsEdge}
 use Rattle.lane_deskew.specs.Triples.{IsFirst}
-use Rattle.link_laws.proofs.Computed.{has, not_true, clash}
+use Rattle.link_laws.proofs.Computed.{has, not_true, clash, runs_at, none_before, is_lock}
 use Rattle.link_laws.specs.Laws.{HoldsEnd}
 use Rattle.link_sink.specs.Sinks.{Fed}
 use Rattle.link_laws.proofs.Aligning.{first_until}
@@ -20,11 +20,11 @@ use Rattle.lane_track.specs.Slips.{slipped}
 use Rattle.lane_track.proofs.Around.{length-part}
 use Rattle.lane_track.proofs.Cutting.{length_slipped}
 use Rattle.track_sink.specs.Epochs.{lane_of}
-use Rattle.track_laws.specs.Laws.{Slipped, SlipsInVideo}
+use Rattle.track_laws.specs.Laws.{Received, Slipped, SlipsInVideo}
 use Rattle.track_laws.proofs.First.{first_same}
-use Rattle.hdmi_cli.proofs.Unnoticed.{lane_like}
+use Rattle.hdmi_cli.proofs.Unnoticed.{lane_like, lane_edges, short_passes}
 use Rattle.track_laws.proofs.SlipExample.{lock}
-use Rattle.track_laws.proofs.SlipStream.{stream, sent, received, long_received, reception, alone, after_second, pixels, then_control, middle, damaged}
+use Rattle.track_laws.proofs.SlipStream.{stream, sent, received, long_received, reception, alone, after_first, after_second, pixels, then_control, middle, damaged}
 use Rattle.hdmi_cli.specs.Headline.{TappedStream}
 use Rattle.hdmi_cli.specs.TrackSlip.{LineSlip, IsSlippedTap, IsNoticed}
 use Rattle.hdmi_cli.specs.TrackPasses.{HasNoLockBefore, EndsBeforeTwelve}
@@ -135,18 +135,24 @@ slipped_tap offset place b g r fit =
 slip_case : (says : Type 0) (offset place b g r : ℕ) → AreFit offset place b g r → says → IsSlipCase says (tapped offset place b g r) (loses place) (left place (lanes offset b g r))
 slip_case says offset place b g r fit holds = record { bytes_are = refl; slipped = slipped_tap offset place b g r fit; damaged = damaged; holds = holds }
 
+each_lane : (P : ℕ → Type 0) → P 0 → P 1 → P 2 → (l : ℕ) → l < 3 → P l
+each_lane P p q r zero lt = p
+each_lane P p q r (suc zero) lt = q
+each_lane P p q r (suc (suc zero)) lt = r
+each_lane P p q r (suc (suc (suc l))) lt = absurd (omega arith)
+
 -- One that is noticed.
 
 noticed_fit : AreFit 7 400 903 833 868
 noticed_fit = record { at = omega arith; begins = omega arith; ends = omega arith; blue_within = omega arith; green_within = omega arith; red_within = omega arith }
 
 is_noticed : IsNoticed (tapped 7 400 903 833 868) (loses 400)
-is_noticed = record { lock = 3; is_lock = lock; before = omega arith; whole = omega arith }
+is_noticed = record { lock = 3; is_lock = lock; before = omega arith; early = 0; few = omega arith; control = λ k less. absurd (omega arith); whole = omega arith }
 
 pub noticed : HasNoticedSlip
 noticed = (tapped 7 400 903 833 868, loses 400, left 400 (lanes 7 903 833 868), slip_case _ 7 400 903 833 868 noticed_fit is_noticed)
 
--- One whose lane ends in the line.
+-- One whose lane ends in the line, after the first full alignment.
 
 short_fit : AreFit 7 400 600 833 868
 short_fit = record { at = omega arith; begins = omega arith; ends = omega arith; blue_within = omega arith; green_within = omega arith; red_within = omega arith }
@@ -154,8 +160,64 @@ short_fit = record { at = omega arith; begins = omega arith; ends = omega arith;
 ends_before : EndsBeforeTwelve (tapped 7 400 600 833 868) (loses 400)
 ends_before early few control = omega arith
 
+unfoldable short_blue : List Bool
+short_blue = part_of (blues received) 7 600
+
+run_test : runs_at short_blue 3 ≡ true
+unfolding passes_below short_blue received values_of control_words video_guard has window row_bits word_bits bits_of number is_control is_in
+run_test = refl
+
+before_test : none_before short_blue 3 ≡ true
+unfolding passes_below short_blue received values_of control_words video_guard has window row_bits word_bits bits_of number is_control is_in
+before_test = refl
+
+short_lock : IsLock (lanes 7 600 833 868).blue 3
+unfolding short_blue
+short_lock = is_lock short_blue 3 run_test before_test
+
+small : HasSmallSkew skews
+small = record { first_second = (omega arith, omega arith); second_third = (omega arith, omega arith); first_third = (omega arith, omega arith) }
+
+abbrev short_x : Fed
+short_x = lanes 7 600 833 868
+
+abbrev short_y : Fed
+short_y = left 400 short_x
+
+short_aligned : (d e f : ℕ) × IsFirst short_y.blue short_y.green short_y.red d e f
+short_aligned =
+    let t = is_tap 7 400 600 833 868 short_fit in
+    let counts : List ℕ = 600 ∷ (833 ∷ (868 ∷ [])) in
+    let ns : List ℕ = 400 ∷ (833 ∷ (868 ∷ [])) in
+    let is : Received stream sent received 7 skews counts short_x = record { reception = reception; tapped = t } in
+    let line = in_line 7 400 600 833 868 short_fit in
+    let none = short_passes stream sent received 7 skews counts short_x short_y 0 400 3 26 56 is (slips 400 short_x) line ends_before in
+    let edges = lane_edges stream sent received 7 skews counts short_x short_y 0 400 3 26 56 is (slips 400 short_x) line 3 short_lock (omega arith) none in
+    let long = long_blue in
+    let tap : IsTap received 7 skews ns (take 400 short_x.blue) short_x.green short_x.red = record {
+      blue_part = record { within = omega arith; bits_are = take-take 400 600 (drop 7 (row_bits (blues received))) (omega arith) };
+      green_part = t.green_part;
+      red_part = t.red_part;
+    } in
+    let holds : HoldsEnd 7 skews ns 24 = record {
+      begins = each_lane (λ l. 7 + slice_index skews l + 120 ≤ 10 * 24) (omega arith) (omega arith) (omega arith);
+      reaches = each_lane (λ l. 10 * 24 + 10 ≤ 7 + slice_index skews l + slice_index ns l) (omega arith) (omega arith) (omega arith);
+    } in
+    let h = first_until stream sent received reception 7 skews ns _ _ _ tap small 24 (record { after = after_first; spares = alone.spares 24; holds = holds }) in (
+      h.0,
+      h.1,
+      h.2,
+      first_same (IsEdge (take 400 short_x.blue)) (IsEdge short_x.green) (IsEdge short_x.red) (IsEdge short_y.blue) (IsEdge short_y.green) (IsEdge short_y.red)
+          (λ e. let b = edges e in (b.1, b.0)) (λ e. (λ g. g, λ g. g)) (λ e. (λ g. g, λ g. g)) h.0 h.1 h.2 h.3,
+    )
+
 pub short : HasShortSlip
-short = (tapped 7 400 600 833 868, loses 400, left 400 (lanes 7 600 833 868), slip_case _ 7 400 600 833 868 short_fit ends_before)
+short = (
+  tapped 7 400 600 833 868,
+  loses 400,
+  short_y,
+  slip_case _ 7 400 600 833 868 short_fit (ends_before, (3, (short_lock, omega arith)), short_aligned),
+)
 
 -- One whose lane begins with eleven control characters.
 
@@ -191,12 +253,6 @@ no_run p lt run =
 no_lock : HasNoLockBefore (tapped 127 280 783 713 748) (loses 280)
 unfolding blue
 no_lock lock is = let before = is.1 in no_run lock (omega arith) is.0.run
-
-each_lane : (P : ℕ → Type 0) → P 0 → P 1 → P 2 → (l : ℕ) → l < 3 → P l
-each_lane P p q r zero lt = p
-each_lane P p q r (suc zero) lt = q
-each_lane P p q r (suc (suc zero)) lt = r
-each_lane P p q r (suc (suc (suc l))) lt = absurd (omega arith)
 
 abbrev x : Fed
 x = lanes 127 783 713 748

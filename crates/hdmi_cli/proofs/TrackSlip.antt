@@ -71,7 +71,7 @@ across : (t : TappedStream) (s : LineSlip) (y : Fed) → IsSlippedTap t s y → 
 across t s y tapped noticed o status old new (epochs, aligned, track_events, track, outcome) status_is written =
     let reception : Received t.periods t.sent t.received t.offset t.skews t.counts (lanes_of t) = record { reception = tapped.reception; tapped = tapped.tap } in
     let found = slip_noticed t.periods t.sent t.received t.offset t.skews t.counts (lanes_of t) y s.lane s.place s.dropped s.first s.next reception tapped.slips tapped.in_line
-    noticed.lock noticed.is_lock noticed.before noticed.whole in
+    noticed.lock noticed.is_lock noticed.before noticed.early noticed.few noticed.control noticed.whole in
     let start = found.0 in
     let end = found.1 in
     let law = second_epoch t.periods t.sent t.received t.offset t.skews t.counts (lanes_of t) y s.lane s.place s.dropped s.first s.next reception tapped.slips tapped.in_line s.lane start end in

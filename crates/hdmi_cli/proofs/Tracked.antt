@@ -17,18 +17,18 @@ use Rattle.track_sink.specs.Tracks.{HasTracked}
 use Rattle.track_sink.specs.Trackers.{Stops}
 use Rattle.command_line.specs.declared.command.Command.TheVariants.{RecoverTrack}
 use Rattle.hdmi_cli.specs.Blocks.{AreNext}
-use Rattle.hdmi_cli.specs.Endings.{Devices, Ends, IsAnswered, TracksPart, heard_ending, judged_ending, note_of, seen, status_of}
+use Rattle.hdmi_cli.specs.Endings.{Devices, Ends, IsAnswered, IsWrittenPast, TracksPart, heard_ending, judged_ending, note_of, seen, status_of}
 use Rattle.hdmi_cli.specs.Hearings.{IsCausedBy}
 use Rattle.hdmi_cli.specs.Notes.{alignment_note, capture_note}
 use Rattle.hdmi_cli.specs.Outcome.{status_with}
 use Rattle.hdmi_cli.specs.TrackText.{track_event_text, no_track_events, one_track_event, track_faults, track_lines, track_lines_append, track_text}
-use Rattle.hdmi_cli.specs.Tracking.{IsUntakenOn, StopsOn}
+use Rattle.hdmi_cli.specs.Tracking.{IsUntakenOn, StopsOn, StopsPast}
 use Rattle.hdmi_cli.specs.declared.ending.Ending.{Ending}
 use Rattle.hdmi_cli.specs.declared.ending.Ending.TheVariants.{Done, Faulty, Unaligned}
 use Rattle.hdmi_cli.specs.declared.hearing.HearError.{HearError}
 use Rattle.hdmi_cli.specs.declared.hearing.HearError.TheVariants.{Bad, Read, Ear}
 use Rattle.hdmi_cli.proofs.Heard.{all_read, no_faults, some_faults, rose_after}
-use Rattle.hdmi_cli.proofs.Listings.{kept_nothing, shorter, front_of}
+use Rattle.hdmi_cli.proofs.Listings.{Goes, front_of, goes_on, kept_nothing, shorter}
 
 -- of lanes of which no epoch is aligned nothing is reported
 
@@ -85,6 +85,9 @@ unfolding track_text
 text_whole track_events = refl
 
 record IsFollowed (fed : Fed) (epochs aligned : ℕ) (track_events : List TrackEvent) (mid : Option (List ℕ)) (before now : Devices) : Type 0 where
+  first : List TrackEvent
+  reported : HasTracked fed first
+  goes : Goes first track_events
   track : IsTrack fed epochs aligned track_events
   some : 0 < aligned
   captured : (bytes : List ℕ) → before.left ≡ Some bytes → IsCaptureOf fed.blue fed.green fed.red bytes
@@ -101,6 +104,25 @@ all_followed e fed epochs aligned track_events mid before now bytes h is status 
   written = subst (λ (bs : List ℕ). Appends before.held now.held bs) (sym (text_whole track_events)) (Appends-trans before.held mid now.held (track_lines track_events) (codes "end\n") h.written then);
 }
 
+lines_least : (first taken : List TrackEvent) → Goes first taken → length (track_lines first) ≤ length (track_lines taken)
+lines_least first taken g =
+    let e = ap track_lines g.is ∙ track_lines_append first g.mid in
+    let n = length-append (track_lines first) (track_lines g.mid) in
+    omega (arith, ap length e, n)
+
+-- the last line was not written whole
+end_past : (first track_events : List TrackEvent) (n : ℕ) (old mid new : Option (List ℕ)) → Goes first track_events → n < 4 → Appends old mid (track_lines track_events) → Appends mid new (take n (codes "end\n"))
+    → IsWrittenPast (track_lines first) (track_text track_events) old new
+end_past first track_events n old mid new g lt written then =
+    let least = lines_least first track_events g in
+    record {
+      gone = length (track_lines track_events) + n;
+      least = omega (arith, least);
+      missing = shorter (track_text track_events) (track_lines track_events) (codes "end\n") n (text_whole track_events) lt;
+      written = subst (λ (bytes : List ℕ). Appends old new bytes) (front_of (track_text track_events) (track_lines track_events) (codes "end\n") n (text_whole track_events))
+          (Appends-trans old mid new (track_lines track_events) (take n (codes "end\n")) written then);
+    }
+
 judged_track : {E : Type 0} (fed : Fed) (epochs aligned : ℕ) (track_events : List TrackEvent) (mid : Option (List ℕ)) (middle : ℕ) (before now : Devices) (r : Result (Unit {0}) E) (faults : ℕ)
     → IsFollowed fed epochs aligned track_events mid before now → faults ≡ counted 0 (track_faults track_events) → before.output_faults ≤ middle
     → OnOk r (Appends mid now.held (codes "end\n")) → OnErr r ((n : ℕ) × (n < 4) × Appends mid now.held (take n (codes "end\n"))) → OnErr r (Rose middle now.output_faults)
@@ -112,23 +134,21 @@ judged_track fed epochs aligned track_events mid middle before now (Ok done) (su
 judged_track fed epochs aligned track_events mid middle before now (Err failed) faults h count le whole part rose = (
   rose_after before.output_faults middle now.output_faults le rose,
   record {
-    track_events = track_events;
     fed = fed;
-    gone = length (track_lines track_events) + part.0;
-    missing = shorter (track_text track_events) (track_lines track_events) (codes "end\n") part.0 (text_whole track_events) part.1;
-    written = subst (λ (bytes : List ℕ). Appends before.held now.held bytes) (front_of (track_text track_events) (track_lines track_events) (codes "end\n") part.0 (text_whole track_events))
-        (Appends-trans before.held mid now.held (track_lines track_events) (take part.0 (codes "end\n")) h.written part.2);
-    reported = inr (epochs, aligned, h.ended, h.captured, h.track);
+    first = h.first;
+    reported = h.reported;
+    track_events = track_events;
+    some = inr (epochs, aligned, h.ended, h.captured, h.track, end_past h.first track_events part.0 before.held mid now.held h.goes part.1 h.written part.2);
   },
 )
 
-pub aligned_ends : {E : Type 0} (fed : Fed) (epochs aligned : ℕ) (track_events : List TrackEvent) (mid : Option (List ℕ)) (middle : ℕ) (before now : Devices) (r : Result (Unit {0}) E) (faults : ℕ)
-    → IsTrack fed epochs aligned track_events → 0 < aligned → ((bytes : List ℕ) → before.left ≡ Some bytes → IsCaptureOf fed.blue fed.green fed.red bytes) → IsAtEnd now.left → Appends before.held mid (track_lines track_events)
+pub aligned_ends : {E : Type 0} (fed : Fed) (epochs aligned : ℕ) (first track_events : List TrackEvent) (mid : Option (List ℕ)) (middle : ℕ) (before now : Devices) (r : Result (Unit {0}) E) (faults : ℕ)
+    → HasTracked fed first → Goes first track_events → IsTrack fed epochs aligned track_events → 0 < aligned → ((bytes : List ℕ) → before.left ≡ Some bytes → IsCaptureOf fed.blue fed.green fed.red bytes) → IsAtEnd now.left → Appends before.held mid (track_lines track_events)
     → faults ≡ counted 0 (track_faults track_events) → before.output_faults ≤ middle
     → OnOk r (Appends mid now.held (codes "end\n")) → OnErr r ((n : ℕ) × (n < 4) × Appends mid now.held (take n (codes "end\n"))) → OnErr r (Rose middle now.output_faults)
     → Ends RecoverTrack (judged_ending r faults) before now
-aligned_ends fed epochs aligned track_events mid middle before now r faults track some captured end written count le whole part rose =
-    judged_track fed epochs aligned track_events mid middle before now r faults (record { track = track; some = some; captured = captured; ended = end; written = written }) count le whole part rose
+aligned_ends fed epochs aligned first track_events mid middle before now r faults reported goes track some captured end written count le whole part rose =
+    judged_track fed epochs aligned track_events mid middle before now r faults (record { first = first; reported = reported; goes = goes; track = track; some = some; captured = captured; ended = end; written = written }) count le whole part rose
 
 -- a capture that was not followed to its end
 
@@ -141,42 +161,61 @@ lines_parts : (track_events taken rest : List TrackEvent) (next : TrackEvent) �
 lines_parts track_events taken rest next is =
     ap track_lines is ∙ track_lines_append taken (next ∷ rest) ∙ ap (λ t. track_lines taken ++ t) (track_lines_append (next ∷ []) rest ∙ ap (λ t. t ++ track_lines rest) (one_track_event next))
 
-record IsPast (track_events : List TrackEvent) (old new : Option (List ℕ)) : Type 0 where
-  gone : ℕ
-  missing : gone < length (track_text track_events)
-  written : Appends old new (take gone (track_text track_events))
-
-broken_text : {A : Type 0} (tracked : A → A → List TrackEvent → Type 0) (lost : A → A → TrackEvent → Type 0) (held : A → Option (List ℕ)) (track_events : List TrackEvent) (old new : A)
-    → WritesTrackEvents tracked lost held → Stops tracked lost old new track_events → IsPast track_events (held old) (held new)
-broken_text tracked lost held track_events old new writes s =
+lost_past : {A : Type 0} (tracked : A → A → List TrackEvent → Type 0) (lost : A → A → TrackEvent → Type 0) (held : A → Option (List ℕ)) (fed : Fed) (track_events : List TrackEvent) (old new : A)
+    → WritesTrackEvents tracked lost held → (b : StopsPast tracked lost fed track_events old new) → IsWrittenPast (track_lines b.first) (track_lines track_events) (held old) (held new)
+lost_past tracked lost held fed track_events old new writes b =
+    let s = b.stops in
     let broken = writes.breaks s.between new s.next s.lost_then in
     let line = track_event_text s.next in
-    let more = track_lines s.rest ++ codes "end\n" in
-    let parts : track_text track_events ≡ track_lines s.taken ++ (line ++ more) =
-    text_whole track_events ∙ ap (λ t. t ++ codes "end\n") (lines_parts track_events s.taken s.rest s.next s.track_events_are)
-    ∙ append_assoc (track_lines s.taken) (line ++ track_lines s.rest) (codes "end\n")
-    ∙ ap (λ t. track_lines s.taken ++ t) (append_assoc line (track_lines s.rest) (codes "end\n")) in
+    let more = track_lines s.rest in
+    let parts = lines_parts track_events s.taken s.rest s.next s.track_events_are in
     let m = length-append line more in
+    let least = lines_least b.first s.taken (goes_on b.first s.taken b.more (s.next ∷ s.rest) (sym b.track_events_are ∙ s.track_events_are) b.past) in
     record {
       gone = length (track_lines s.taken) + broken.0;
-      missing = shorter (track_text track_events) (track_lines s.taken) (line ++ more) broken.0 parts (let lt = broken.1 in omega (arith, m, lt));
-      written = subst (λ (bytes : List ℕ). Appends (held old) (held new) bytes) (front_of (track_text track_events) (track_lines s.taken) (line ++ more) broken.0 parts)
+      least = omega (arith, least);
+      missing = shorter (track_lines track_events) (track_lines s.taken) (line ++ more) broken.0 parts (let lt = broken.1 in omega (arith, m, lt));
+      written = subst (λ (bytes : List ℕ). Appends (held old) (held new) bytes) (front_of (track_lines track_events) (track_lines s.taken) (line ++ more) broken.0 parts)
           (Appends-trans (held old) (held s.between) (held new) (track_lines s.taken) (take broken.0 (line ++ more)) (writes.grows old s.between s.taken s.took_some)
           (subst (λ (bytes : List ℕ). Appends (held s.between) (held new) bytes) (sym (take-append-le broken.0 line more (let lt = broken.1 in omega (arith, lt)))) broken.2));
+    }
+
+-- a part of the lines is one of the whole text
+text_past : (first : List ℕ) (track_events : List TrackEvent) (old new : Option (List ℕ)) → IsWrittenPast first (track_lines track_events) old new → IsWrittenPast first (track_text track_events) old new
+text_past first track_events old new p =
+    let missing = p.missing in
+    let n = length-append (track_lines track_events) (codes "end\n") in
+    record {
+      gone = p.gone;
+      least = p.least;
+      missing = let e = ap length (text_whole track_events) in omega (arith, e, n, missing);
+      written = subst (λ (bytes : List ℕ). Appends old new bytes)
+          (sym (ap (take p.gone) (text_whole track_events) ∙ take-append-le p.gone (track_lines track_events) (codes "end\n") (omega (arith, missing)))) p.written;
     }
 
 untaken_part : {A : Type 0} (tracked : A → A → List TrackEvent → Type 0) (lost : A → A → TrackEvent → Type 0) (held : A → Option (List ℕ)) (faults : A → ℕ) (left rest : Option (List ℕ)) (reads read_faults : ℕ) (old new : A)
     → WritesTrackEvents tracked lost held → (u : IsUntakenOn tracked lost left rest old new) → TracksPart (seen left reads (held old) (faults old)) (seen rest read_faults (held new) (faults new))
 untaken_part tracked lost held faults left rest reads read_faults old new writes u =
-    let p = broken_text tracked lost held u.track_events old new writes u.stops in
-    record { track_events = u.track_events; fed = u.after; gone = p.gone; missing = p.missing; written = p.written; reported = by u.reported }
+    record { fed = u.fed; first = u.stopped.first; reported = u.stopped.reported; track_events = u.track_events; some = by u.some }
   where
-    by : (AreNext u.before u.after u.read × HasTracked u.after u.track_events) ⊎ (IsAtEnd rest × IsCaptureOf u.after.blue u.after.green u.after.red u.read × ((epochs aligned : ℕ) × IsTrack u.after epochs aligned u.track_events))
-        → ((was : Fed) × (read : List ℕ) × Consumes left rest read × AreNext was u.after read × HasTracked u.after u.track_events)
-        ⊎ ((epochs aligned : ℕ) × IsAtEnd rest × ((bytes : List ℕ) → left ≡ Some bytes → IsCaptureOf u.after.blue u.after.green u.after.red bytes) × IsTrack u.after epochs aligned u.track_events)
-    by (inl (next, passes)) = inl (u.before, u.read, u.consumed, next, passes)
+    past : IsWrittenPast (track_lines u.stopped.first) (track_lines u.track_events) (held old) (held new)
+    past = lost_past tracked lost held u.fed u.track_events old new writes u.stopped
+
+    by : ((now : Fed) × AreNext u.fed now u.read × HasTracked now u.track_events) ⊎ (IsAtEnd rest × IsCaptureOf u.fed.blue u.fed.green u.fed.red u.read × ((epochs aligned : ℕ) × IsTrack u.fed epochs aligned u.track_events))
+        → ((now : Fed) × (read : List ℕ) × Consumes left rest read × AreNext u.fed now read × HasTracked now u.track_events
+        × IsWrittenPast (track_lines u.stopped.first) (track_lines u.track_events) (held old) (held new))
+        ⊎ ((epochs aligned : ℕ) × IsAtEnd rest × ((bytes : List ℕ) → left ≡ Some bytes → IsCaptureOf u.fed.blue u.fed.green u.fed.red bytes) × IsTrack u.fed epochs aligned u.track_events
+        × IsWrittenPast (track_lines u.stopped.first) (track_text u.track_events) (held old) (held new))
+    by (inl (now, next, reported)) = inl (now, u.read, u.consumed, next, reported, past)
     by (inr (end, captured, track)) =
-        inr (track.0, track.1, end, λ bytes is. subst (λ (bs : List ℕ). IsCaptureOf u.after.blue u.after.green u.after.red bs) (sym (all_read left rest u.read bytes u.consumed end is)) captured, track.2)
+        inr (
+          track.0,
+          track.1,
+          end,
+          λ bytes is. subst (λ (bs : List ℕ). IsCaptureOf u.fed.blue u.fed.green u.fed.red bs) (sym (all_read left rest u.read bytes u.consumed end is)) captured,
+          track.2,
+          text_past (track_lines u.stopped.first) u.track_events (held old) (held new) past,
+        )
 
 pub short_ends : {A : Type 0} (tracked : A → A → List TrackEvent → Type 0) (lost : A → A → TrackEvent → Type 0) (held : A → Option (List ℕ)) (faults : A → ℕ) (left rest : Option (List ℕ)) (reads read_faults : ℕ) (old new : A) (e : HearError)
     → WritesTrackEvents tracked lost held → StopsOn tracked lost left rest old new e → IsCausedBy reads read_faults (faults old) (faults new) e

@@ -1,5 +1,5 @@
 -- How a capture is followed block by block whose lanes may lose bits.
-use Rattle.std.proofs.Common.{arith, ◌≡◌, ◌≤◌, ◌+◌, ◌⊎◌, ◌<◌, ◌++◌, ◌∷◌, [], ℕ, List, Bool, sym, subst, refl, ap, ◌∙◌, inl, inr, length, append-nil, append_assoc, Option, Some}
+use Rattle.std.proofs.Common.{arith, ◌≡◌, ◌≤◌, ◌+◌, ◌⊎◌, ◌<◌, ◌++◌, ◌∷◌, [], ℕ, List, Bool, sym, subst, refl, ap, ◌∙◌, inl, inr, length, append-nil, append_assoc, length-append, Option, Some}
 use Rattle.std.specs.Io.KnownBytes.{Consumes, IsAtEnd}
 use Rattle.std.proofs.KnownBytes.{Consumes-trans}
 use Rattle.capture_file.specs.Captures.{Stands, StopsIn, SaysOf, SaysRead, IsFault, IsEarlyFault, IsHeaderPart, IsBlockPart, IsCaptureOf, place_of}
@@ -13,8 +13,9 @@ use Rattle.track_sink.specs.TrackEvents.{TrackEvent}
 use Rattle.track_sink.specs.Tracks.{HasTracked}
 use Rattle.track_sink.specs.Trackers.{Stops}
 use Rattle.track_sink.specs.TrackSinks.{TrackSinkSeen, TrackSinkRepresents}
+use Rattle.hdmi_cli.specs.Blocks.{AreNext}
 use Rattle.hdmi_cli.specs.Hearings.{IsCausedBy, refused_as}
-use Rattle.hdmi_cli.specs.Tracking.{HasFollowed, HasFollowedAll, IsTrackedSoFar, IsUntakenOn, StopsOn}
+use Rattle.hdmi_cli.specs.Tracking.{HasFollowed, HasFollowedAll, IsTrackedSoFar, IsTrackedWhole, IsUntakenOn, StopsOn, StopsPast}
 use Rattle.hdmi_cli.specs.declared.hearing.HearError.{HearError}
 use Rattle.hdmi_cli.proofs.Heard.{rose_after}
 use Rattle.hdmi_cli.proofs.Hearings.{Lends, at_its_length}
@@ -45,17 +46,32 @@ follows_so tracked version version' counts counts' j j' from left sink first now
     subst (λ v. HasFollowed tracked v counts' j' from left sink first now) (sym ev)
     (subst (λ cs. HasFollowed tracked version cs j' from left sink first now) (sym ec) (subst (λ n. HasFollowed tracked version counts n from left sink first now) (sym ej) h))
 
-stops_on : {A : Type 0} (tracked : A → A → List TrackEvent → Type 0) (lost : A → A → TrackEvent → Type 0) → JoinsTrackEvents tracked → (track_events more : List TrackEvent) (first old new : A)
-    → tracked first old track_events → Stops tracked lost old new more → Stops tracked lost first new (track_events ++ more)
-stops_on tracked lost both track_events more first old new taken s = record {
-  taken = track_events ++ s.taken;
-  next = s.next;
-  rest = s.rest;
-  track_events_are = ap (λ l. track_events ++ l) s.track_events_are ∙ sym (append_assoc track_events s.taken (s.next ∷ s.rest));
-  between = s.between;
-  took_some = both first old s.between track_events s.taken taken s.took_some;
-  lost_then = s.lost_then;
+longer : (us vs : List TrackEvent) → length us ≤ length (us ++ vs)
+longer us vs = let e = length-append us vs in omega (arith, e)
+
+stops_past : {A : Type 0} (tracked : A → A → List TrackEvent → Type 0) (lost : A → A → TrackEvent → Type 0) → JoinsTrackEvents tracked → (fed : Fed) (track_events more : List TrackEvent) (first old new : A)
+    → HasTracked fed track_events → tracked first old track_events → Stops tracked lost old new more → StopsPast tracked lost fed (track_events ++ more) first new
+stops_past tracked lost both fed track_events more first old new reported taken s = record {
+  first = track_events;
+  reported = reported;
+  more = more;
+  track_events_are = refl;
+  stops = record {
+    taken = track_events ++ s.taken;
+    next = s.next;
+    rest = s.rest;
+    track_events_are = ap (λ l. track_events ++ l) s.track_events_are ∙ sym (append_assoc track_events s.taken (s.next ∷ s.rest));
+    between = s.between;
+    took_some = both first old s.between track_events s.taken taken s.took_some;
+    lost_then = s.lost_then;
+  };
+  past = longer track_events s.taken;
 }
+
+one_more : (version : ℕ) (counts : List ℕ) (j : ℕ) (taken block : List ℕ) (before now : Fed)
+    → Stands version counts j taken before.blue before.green before.red → Stands version counts (j + 1) (taken ++ block) now.blue now.green now.red → AreNext before now (taken ++ block)
+one_more version counts j taken block before now had has =
+    record { counts = counts; j = j; taken = taken; block = block; read_is = refl; had = at_its_length version counts j _ _ _ _ had; has = at_its_length version counts (j + 1) _ _ _ _ has }
 
 pub untaken_on : {A : Type 0} (tracked : A → A → List TrackEvent → Type 0) (lost : A → A → TrackEvent → Type 0) → JoinsTrackEvents tracked → (version : ℕ) (counts : List ℕ) (j : ℕ) (from left0 left1 : Option (List ℕ)) (sink : TrackSinkSeen) (a b d bits : List ℕ) (first old new : A)
     → HasFollowed tracked version counts j from left0 sink first old → Consumes left0 left1 ((a ++ b) ++ d) → Lends version counts j a b d bits
@@ -65,13 +81,12 @@ untaken_on tracked lost both version counts j from left0 left1 sink a b d bits f
     let s = stopped h.fed h.track_events h.sunk in
     let next = lent h.taken h.fed.blue h.fed.green h.fed.red h.stands in
     record {
-      before = h.fed;
-      after = grown h.fed a b d bits;
+      fed = h.fed;
       track_events = h.track_events ++ s.0;
       read = h.taken ++ ((a ++ b) ++ d);
       consumed = Consumes-trans from left0 left1 h.taken ((a ++ b) ++ d) h.consumed gone;
-      reported = grind (arith, at_its_length);
-      stops = stops_on tracked lost both h.track_events s.0 first old new h.heard s.1;
+      some = inl (grown h.fed a b d bits, one_more version counts j h.taken _ h.fed _ h.stands next, s.2);
+      stopped = stops_past tracked lost both h.fed h.track_events s.0 first old new h.sunk.tracked h.heard s.1;
     }
 
 pub followed_all : {A : Type 0} (tracked : A → A → List TrackEvent → Type 0) (version : ℕ) (counts : List ℕ) (j : ℕ) (from left0 left1 : Option (List ℕ)) (sink : TrackSinkSeen) (first now : A)
@@ -143,17 +158,20 @@ left_none left rest is ended = subst IsAtEnd is ended
 pub followed_whole : {A : Type 0} (tracked : A → A → List TrackEvent → Type 0) → JoinsTrackEvents tracked → (from left : Option (List ℕ)) (sink : TrackSinkSeen) (epochs aligned : ℕ) (first old new : A)
     → HasFollowedAll tracked from left sink first old → IsAtEnd left
     → ((fed : Fed) (reported : List TrackEvent) → TrackSinkRepresents sink fed reported → (last : List TrackEvent) × tracked old new last × IsTrack fed epochs aligned (reported ++ last))
-    → (fed : Fed) × (track_events : List TrackEvent) × IsTrack fed epochs aligned track_events × tracked first new track_events × ((bytes : List ℕ) → from ≡ Some bytes → IsCaptureOf fed.blue fed.green fed.red bytes)
+    → IsTrackedWhole tracked from epochs aligned first new
 followed_whole tracked both from left sink epochs aligned first old new h ended reported =
-    let t = reported h.fed h.track_events h.sunk in (
-      h.fed,
-      h.track_events ++ t.0,
-      t.2,
-      both first old new h.track_events t.0 h.heard t.1,
-      λ bytes is.
+    let t = reported h.fed h.track_events h.sunk in
+    record {
+      fed = h.fed;
+      captured = λ bytes is.
           let c = consumed from left bytes h.taken is h.consumed in
-          subst (λ bs. IsCaptureOf h.fed.blue h.fed.green h.fed.red bs) (sym (c.1 ∙ ap (λ bs. h.taken ++ bs) (left_none left c.0 c.2 ended) ∙ append-nil h.taken)) h.captured,
-    )
+          subst (λ bs. IsCaptureOf h.fed.blue h.fed.green h.fed.red bs) (sym (c.1 ∙ ap (λ bs. h.taken ++ bs) (left_none left c.0 c.2 ended) ∙ append-nil h.taken)) h.captured;
+      first = h.track_events;
+      last = t.0;
+      reported = h.sunk.tracked;
+      track = t.2;
+      heard = both first old new h.track_events t.0 h.heard t.1;
+    }
 
 pub unended_on : {A : Type 0} (tracked : A → A → List TrackEvent → Type 0) (lost : A → A → TrackEvent → Type 0) → JoinsTrackEvents tracked → (from left : Option (List ℕ)) (sink : TrackSinkSeen) (first old new : A)
     → HasFollowedAll tracked from left sink first old → IsAtEnd left
@@ -162,13 +180,12 @@ pub unended_on : {A : Type 0} (tracked : A → A → List TrackEvent → Type 0)
 unended_on tracked lost both from left sink first old new h ended stopped =
     let s = stopped h.fed h.track_events h.sunk in
     record {
-      before = h.fed;
-      after = h.fed;
+      fed = h.fed;
       track_events = h.track_events ++ s.2;
       read = h.taken;
       consumed = h.consumed;
-      reported = inr (ended, h.captured, (s.0, s.1, s.4));
-      stops = stops_on tracked lost both h.track_events s.2 first old new h.heard s.3;
+      some = inr (ended, h.captured, (s.0, s.1, s.4));
+      stopped = stops_past tracked lost both h.fed h.track_events s.2 first old new h.sunk.tracked h.heard s.3;
     }
 
 -- a count that rose later rose

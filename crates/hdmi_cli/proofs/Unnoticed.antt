@@ -315,6 +315,23 @@ short_edges words marks from many place dropped s lock is_lock before none e =
 lane_front : (n : ℕ) (y : Fed) (l : ℕ) → front_of n y ≡ y → take n (lane_of y l) ≡ lane_of y l
 lane_front n y l h = grind arith
 
+-- the lane of a tap
+pub lane_edges : (ps : List Period) (sent received : List Column) (offset : ℕ) (skews counts : List ℕ) (x y : Fed) (lane place dropped first next : ℕ)
+    → Received ps sent received offset skews counts x → Slipped x lane place dropped y
+    → SlipsInVideo ps sent received offset skews counts lane place dropped first next
+    → (lock : ℕ) → IsLock (lane_of x lane) lock → lock + 120 ≤ place → HasNoEnd y
+    → (e : ℕ) → IsEdge (lane_of y lane) e ↔ IsEdge (take place (lane_of x lane)) e
+lane_edges ps sent received offset skews counts x y lane place dropped first next reception slip s lock is_lock before none e =
+    let lanes = calm_lanes ps sent received offset skews counts x reception s.alone in
+    let slips = slips_at ps sent received offset skews counts x y lane place dropped first next reception slip s in
+    let mine = slipped_is x y (words_at received) (marks_at sent received) (λ l. offset + slice_index skews l) (λ l. slice_index counts l) lane place dropped lanes slip in
+    let own = lanes.parts lane slip.within in
+    let both = short_edges (words_at received lane) (marks_at sent received lane) (offset + slice_index skews lane) (slice_index counts lane) place dropped slips
+    lock (subst (λ us. IsLock us lock) own is_lock) before (none_of _ _ (sym mine) (none lane slip.within)) e in (
+      λ g. subst (λ us. IsEdge (take place us) e) (sym own) (both.0 (subst (λ us. IsEdge us e) mine g)),
+      λ g. subst (λ us. IsEdge us e) (sym mine) (both.1 (subst (λ us. IsEdge (take place us) e) own g)),
+    )
+
 -- the first bits of three lanes are all of them where there are no more
 front_whole : (n : ℕ) (y : Fed) → length y.blue ≤ n → length y.green ≤ n → length y.red ≤ n → front_of n y ≡ y
 front_whole n y blue green red = λ i. record { blue = take_all n y.blue blue i; green = take_all n y.green green i; red = take_all n y.red red i }
@@ -326,19 +343,12 @@ pub short_reported : (ps : List Period) (sent received : List Column) (offset : 
     → (d e f : ℕ) → IsFirst y.blue y.green y.red d e f
     → (start : ℕ) × (front_of start y ≡ y) × FirstAccounted ps sent received offset skews y lane place start d e f
 short_reported ps sent received offset skews counts x y lane place dropped first next reception slip s lock is_lock before none d e f alignment =
-    let lanes = calm_lanes ps sent received offset skews counts x reception s.alone in
-    let slips = slips_at ps sent received offset skews counts x y lane place dropped first next reception slip s in
-    let mine = slipped_is x y (words_at received) (marks_at sent received) (λ l. offset + slice_index skews l) (λ l. slice_index counts l) lane place dropped lanes slip in
-    let own = lanes.parts lane slip.within in
     let start = length y.blue + length y.green + length y.red + place in
     let whole : front_of start y ≡ y = front_whole start y (omega arith) (omega arith) (omega arith) in
     let lane_whole : take start (lane_of y lane) ≡ lane_of y lane = lane_front start y lane whole in
     let edges : (h : ℕ) → IsEdge (take start (lane_of y lane)) h ↔ IsEdge (take place (lane_of x lane)) h =
     λ h.
-    let both = short_edges (words_at received lane) (marks_at sent received lane) (offset + slice_index skews lane) (slice_index counts lane) place dropped slips
-    lock (subst (λ us. IsLock us lock) own is_lock) before (none_of _ _ (sym mine) (none lane slip.within)) h in (
-      λ g. subst (λ us. IsEdge (take place us) h) (sym own) (both.0 (subst (λ us. IsEdge us h) (lane_whole ∙ mine) g)),
-      λ g. subst (λ us. IsEdge us h) (sym (lane_whole ∙ mine)) (both.1 (subst (λ us. IsEdge (take place us) h) own g)),
-    ) in
+    let both = lane_edges ps sent received offset skews counts x y lane place dropped first next reception slip s lock is_lock before none h in
+    (λ g. both.0 (subst (λ us. IsEdge us h) lane_whole g), λ g. subst (λ us. IsEdge us h) (sym lane_whole) (both.1 g)) in
     let here = subst (λ (z : Fed). IsFirst z.blue z.green z.red d e f) (sym whole) alignment in
     (start, whole, front_accounted ps sent received offset skews counts x y lane place dropped first next start reception slip s (omega arith) edges d e f here)

@@ -126,10 +126,10 @@ pub record ListsRead (g : Grammar) (listing : ListingOf) (before after : Devices
   pub reported : IsReportedBy g fed events
   pub written : Appends before.held after.held (listing.lines events)
 
--- of a text not all was written, and at least the lines of these events
-pub record IsWrittenPast (listing : ListingOf) (first : List Event) (text : List ℕ) (old new : Option (List ℕ)) : Type 0 where
+-- of a text not all was written, and at least its first lines
+pub record IsWrittenPast (first text : List ℕ) (old new : Option (List ℕ)) : Type 0 where
   pub gone : ℕ
-  pub least : length (listing.lines first) ≤ gone
+  pub least : length first ≤ gone
   pub missing : gone < length text
   pub written : Appends old new (take gone text)
 
@@ -142,9 +142,9 @@ pub record ListsPart (g : Grammar) (listing : ListingOf) (before after : Devices
   pub events : List Event
   pub some :
       ((now : Fed) × (read : List ℕ) × Consumes before.left after.left read × AreNext fed now read × IsReportedBy g now events
-      × IsWrittenPast listing first (listing.lines events) before.held after.held)
+      × IsWrittenPast (listing.lines first) (listing.lines events) before.held after.held)
       ⊎ ((columns : ℕ) × IsAtEnd after.left × ((bytes : List ℕ) → before.left ≡ Some bytes → IsCaptureOf fed.blue fed.green fed.red bytes)
-      × IsAlignedBy g fed.blue fed.green fed.red columns events × IsWrittenPast listing first (listing.text events) before.held after.held)
+      × IsAlignedBy g fed.blue fed.green fed.red columns events × IsWrittenPast (listing.lines first) (listing.text events) before.held after.held)
 
 -- a read failed: what was reported so far of the whole blocks that were read was listed
 pub record TracksRead (before after : Devices) : Type 0 where
@@ -156,18 +156,18 @@ pub record TracksRead (before after : Devices) : Type 0 where
   pub reported : HasTracked fed track_events
   pub written : Appends before.held after.held (track_lines track_events)
 
--- a write failed: a part was written of the lines of the first events of the blocks that were read, or at the end of the whole
--- text
+-- a write failed: a part was written of the lines of what was reported so far of the blocks that were read, or at the end
+-- of the whole text, and at least the lines of what was reported before the last block that was read
 pub record TracksPart (before after : Devices) : Type 0 where
-  pub track_events : List TrackEvent
   pub fed : Fed
-  pub gone : ℕ
-  pub missing : gone < length (track_text track_events)
-  pub written : Appends before.held after.held (take gone (track_text track_events))
-  pub reported :
-      ((was : Fed) × (read : List ℕ) × Consumes before.left after.left read × AreNext was fed read × HasTracked fed track_events)
+  pub first : List TrackEvent
+  pub reported : HasTracked fed first
+  pub track_events : List TrackEvent
+  pub some :
+      ((now : Fed) × (read : List ℕ) × Consumes before.left after.left read × AreNext fed now read × HasTracked now track_events
+      × IsWrittenPast (track_lines first) (track_lines track_events) before.held after.held)
       ⊎ ((epochs aligned : ℕ) × IsAtEnd after.left × ((bytes : List ℕ) → before.left ≡ Some bytes → IsCaptureOf fed.blue fed.green fed.red bytes)
-      × IsTrack fed epochs aligned track_events)
+      × IsTrack fed epochs aligned track_events × IsWrittenPast (track_lines first) (track_text track_events) before.held after.held)
 
 -- how a command ends that wrote a slipped capture, or none
 abbrev pub slip_ending : Result (Unit {0}) SlipError → Ending

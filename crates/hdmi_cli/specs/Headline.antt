@@ -91,9 +91,10 @@ pub record IsDviTapped (t : TappedStream) : Type 0 where
   pub captured : IsCaptureOf t.blue t.green t.red t.bytes
 
 -- the output grew by the link listing of the account of such a stream, from twelve columns before the end of a control period
--- on, and the status says whether it has a fault
+-- on, at whose end the three edges are, and the status says whether it has a fault
 pub record IsDviRecovered (t : TappedStream) (d e f a status : ℕ) (old new : Option (List ℕ)) : Type 0 where
   pub accounted : IsDviAccounted t.periods t.sent t.received (aligned_of t d e f) a
+  pub begins : BeginColumn t.offset t.skews (a + 12) d e f
   pub status_is : status ≡ status_with (fault_lines (dvi_account t.periods t.sent t.received a (length (aligned_of t d e f))))
   pub written : Appends old new (link_text (dvi_account t.periods t.sent t.received a (length (aligned_of t d e f))))
 

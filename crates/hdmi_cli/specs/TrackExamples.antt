@@ -6,7 +6,7 @@ use Rattle.link_laws.specs.Laws.{HasUnlike}
 use Rattle.link_sink.specs.Sinks.{Fed}
 use Rattle.hdmi_cli.specs.Headline.{TappedStream}
 use Rattle.hdmi_cli.specs.TrackSlip.{LineSlip, IsSlippedTap, IsNoticed, IsFirstIn}
-use Rattle.hdmi_cli.specs.TrackPasses.{HasNoLockBefore, EndsBeforeTwelve}
+use Rattle.hdmi_cli.specs.TrackPasses.{HasNoLockBefore, EndsBeforeTwelve, IsLockBefore}
 
 -- a tapped stream with a damaged pixel, one lane of which lost bits within a line, and of which something more holds; its
 -- bytes are the capture in version 2 of the lanes that are left
@@ -27,6 +27,6 @@ HasNoticedSlip = HasSlipCase (λ t s y. IsNoticed t s)
 abbrev pub HasUnlockedSlip : Type 0
 HasUnlockedSlip = HasSlipCase (λ t s y. HasNoLockBefore t s × ((d e f : ℕ) × IsFirstIn y d e f))
 
--- and one that is not, since the lane ends in the line
+-- and one that is not, since the lane ends in the line, though it had a lock before; with a first full alignment before it
 abbrev pub HasShortSlip : Type 0
-HasShortSlip = HasSlipCase (λ t s y. EndsBeforeTwelve t s)
+HasShortSlip = HasSlipCase (λ t s y. EndsBeforeTwelve t s × ((lock : ℕ) × IsLockBefore t s lock) × ((d e f : ℕ) × IsFirstIn y d e f))

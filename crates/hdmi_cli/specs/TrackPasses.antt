@@ -15,7 +15,7 @@ use Rattle.command_line.specs.declared.command.Command.TheVariants.{RecoverLink}
 use Rattle.hdmi_cli.specs.Headline.{TappedStream, IsRecovered}
 use Rattle.hdmi_cli.specs.Listings.{link_listing}
 use Rattle.hdmi_cli.specs.Outcome.{RunOutcome, Does}
-use Rattle.hdmi_cli.specs.TrackSlip.{LineSlip, lanes_of, IsFirstIn, columns_in}
+use Rattle.hdmi_cli.specs.TrackSlip.{LineSlip, lanes_of, IsSlippedTap, IsNoticed, IsFirstIn, columns_in}
 
 -- the lane had a lock before it lost the bits, or it had none
 abbrev pub IsLockBefore : TappedStream → LineSlip → ℕ → Type 0
@@ -34,6 +34,14 @@ EndsBeforeTwelve t s =
 -- in either case the slip is not noticed
 abbrev pub IsUnnoticed : TappedStream → LineSlip → Type 0
 IsUnnoticed t s = HasNoLockBefore t s ⊎ EndsBeforeTwelve t s
+
+-- a slip is noticed, or it is not, and not both
+abbrev pub IsNoticedOrNot : TappedStream → LineSlip → Type 0
+IsNoticedOrNot t s = (IsNoticed t s ⊎ IsUnnoticed t s) × (IsNoticed t s → IsUnnoticed t s → ⊥)
+
+-- every slip within a line is one of the two
+abbrev pub SlipsAreNoticedOrNot : Type 0
+SlipsAreNoticedOrNot = (t : TappedStream) (s : LineSlip) (y : Fed) → IsSlippedTap t s y → IsNoticedOrNot t s
 
 -- the stream one lane of which was later, by the bits that were lost, from its first bit on, with the lanes
 -- that are there

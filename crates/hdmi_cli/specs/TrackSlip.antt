@@ -1,8 +1,9 @@
 -- What `recover track` makes of the capture of a tapped stream one lane of which lost bits within the pixels of a line.
-use Rattle.std.specs.Prelude.{◌≡◌, ◌+◌, ◌*◌, ◌≤◌, ◌||◌, ℕ, Bool, true, false, List, [], ◌++◌, length, slice_index, Option}
+use Rattle.std.specs.Prelude.{◌≡◌, ◌+◌, ◌-◌, ◌*◌, ◌<◌, ◌≤◌, ◌||◌, ℕ, Bool, true, false, List, [], ◌++◌, length, slice_index, Option}
 use Rattle.std.specs.Io.KnownBytes.{Appends}
 use Rattle.tmds_word.specs.Taps.{IsTap}
 use Rattle.capture_file.specs.Captures.{IsCaptureOf}
+use Rattle.terc4.specs.Tables.{is_control}
 use Rattle.lane_align.specs.Lanes.{IsLock}
 use Rattle.lane_deskew.specs.Aligned.{aligned_columns}
 use Rattle.lane_deskew.specs.Triples.{IsFirst}
@@ -14,7 +15,7 @@ use Rattle.link_sink.specs.Sinks.{Fed}
 use Rattle.link_sink.specs.declared.hear.Outcome.{Outcome}
 use Rattle.track_sink.specs.Epochs.{lane_of, rest_of, front_of}
 use Rattle.track_sink.specs.TrackEvents.{TrackEvent, track_events_of, slip_if}
-use Rattle.track_laws.specs.Laws.{Slipped, SlipsInVideo, BeginsAgain, FirstAccounted, later_skews}
+use Rattle.track_laws.specs.Laws.{Slipped, SlipsInVideo, BeginsAgain, FirstAccounted, later_skews, words_at}
 use Rattle.hdmi_cli.specs.Headline.{TappedStream}
 use Rattle.hdmi_cli.specs.Outcome.{status_with}
 use Rattle.hdmi_cli.specs.TrackText.{track_faults, track_text}
@@ -41,12 +42,19 @@ pub record IsSlippedTap (t : TappedStream) (s : LineSlip) (y : Fed) : Type 0 whe
   pub in_line : SlipsInVideo t.periods t.sent t.received t.offset t.skews t.counts s.lane s.place s.dropped s.first s.next
   pub captured : IsCaptureOf y.blue y.green y.red t.bytes
 
--- the lane had a lock before it lost the bits, and has the first twelve characters of the control period after the line
+-- the lane had a lock before it lost the bits, and has twelve characters of the control period after the line, those one or
+-- two right before that period counted in which were received as control characters
 pub record IsNoticed (t : TappedStream) (s : LineSlip) : Type 0 where
+  -- the twelve control characters at which the lane locks were received before the bits that it lost
   pub lock : ℕ
   pub is_lock : IsLock (lane_of (lanes_of t) s.lane) lock
   pub before : lock + 120 ≤ s.place
-  pub whole : 10 * (s.next + 12) ≤ t.offset + slice_index t.skews s.lane + slice_index t.counts s.lane
+  -- so many pixels right before the control period were received as control characters
+  pub early : ℕ
+  pub few : early ≤ 2
+  pub control : (k : ℕ) → k < early → is_control (slice_index (words_at t.received s.lane) (s.next - 1 - k)) ≡ true
+  -- the twelfth character from the first of these on ends before the lane does
+  pub whole : 10 * (s.next - early + 12) ≤ t.offset + slice_index t.skews s.lane + slice_index t.counts s.lane
 
 abbrev pub IsFirstIn : Fed → ℕ → ℕ → ℕ → Type 0
 IsFirstIn x d e f = IsFirst x.blue x.green x.red d e f

@@ -1,5 +1,5 @@
 -- How far a capture was followed whose lanes may lose bits, and how that ends.
-use Rattle.std.specs.Prelude.{◌≡◌, ◌⊎◌, ◌*◌, ℕ, min, List, Option, Some, slice_index}
+use Rattle.std.specs.Prelude.{◌≡◌, ◌⊎◌, ◌*◌, ◌≤◌, ℕ, min, List, ◌++◌, length, Option, Some, slice_index}
 use Rattle.std.specs.Io.KnownBytes.{Consumes, IsAtEnd}
 use Rattle.capture_file.specs.Captures.{Stands, IsCaptureOf, IsFault, place_of}
 use Rattle.capture_file.specs.declared.fault.CaptureFault.{CaptureFault}
@@ -45,6 +45,25 @@ pub record IsTrackedSoFar {A : Type 0} (tracked : A → A → List TrackEvent �
   pub reported : HasTracked fed track_events
   pub heard : tracked old new track_events
 
+-- it took all that is reported of the whole capture, what was reported of it so far first
+pub record IsTrackedWhole {A : Type 0} (tracked : A → A → List TrackEvent → Type 0) (from : Option (List ℕ)) (epochs aligned : ℕ) (old new : A) : Type 0 where
+  pub fed : Fed
+  pub captured : (bytes : List ℕ) → from ≡ Some bytes → IsCaptureOf fed.blue fed.green fed.red bytes
+  pub first : List TrackEvent
+  pub last : List TrackEvent
+  pub reported : HasTracked fed first
+  pub track : IsTrack fed epochs aligned (first ++ last)
+  pub heard : tracked old new (first ++ last)
+
+-- it failed at one of these events, after all that was reported of bits so far
+pub record StopsPast {A : Type 0} (tracked : A → A → List TrackEvent → Type 0) (lost : A → A → TrackEvent → Type 0) (fed : Fed) (track_events : List TrackEvent) (old new : A) : Type 0 where
+  pub first : List TrackEvent
+  pub reported : HasTracked fed first
+  pub more : List TrackEvent
+  pub track_events_are : track_events ≡ first ++ more
+  pub stops : Stops tracked lost old new track_events
+  pub past : length first ≤ length stops.taken
+
 -- the bytes are no capture, and the ear took what is reported so far of the whole blocks before the fault
 pub record IsRefusedOn {A : Type 0} (tracked : A → A → List TrackEvent → Type 0) (bytes : List ℕ) (fault : CaptureFault) (old new : A) : Type 0 where
   pub faulty : IsFault bytes fault
@@ -60,18 +79,16 @@ pub record IsReadFailedOn {A : Type 0} (tracked : A → A → List TrackEvent �
   pub are_read : AreRead read fed
   pub heard : IsTrackedSoFar tracked fed old new
 
--- a call of it failed at one of the first events that are reported of the blocks that were read, or of
--- the whole capture
+-- a call of it failed in what is reported of one block more, or of the whole capture
 pub record IsUntakenOn {A : Type 0} (tracked : A → A → List TrackEvent → Type 0) (lost : A → A → TrackEvent → Type 0) (from left : Option (List ℕ)) (old new : A) : Type 0 where
-  pub before : Fed
-  pub after : Fed
+  pub fed : Fed
   pub track_events : List TrackEvent
   pub read : List ℕ
   pub consumed : Consumes from left read
-  pub reported :
-      (AreNext before after read × HasTracked after track_events)
-      ⊎ (IsAtEnd left × IsCaptureOf after.blue after.green after.red read × ((epochs aligned : ℕ) × IsTrack after epochs aligned track_events))
-  pub stops : Stops tracked lost old new track_events
+  pub some :
+      ((now : Fed) × AreNext fed now read × HasTracked now track_events)
+      ⊎ (IsAtEnd left × IsCaptureOf fed.blue fed.green fed.red read × ((epochs aligned : ℕ) × IsTrack fed epochs aligned track_events))
+  pub stopped : StopsPast tracked lost fed track_events old new
 
 -- it took what was reported of some bits
 abbrev pub IsTrackedSome : {A : Type 0} → (A → A → List TrackEvent → Type 0) → A → A → Type 0

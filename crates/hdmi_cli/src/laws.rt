@@ -1,5 +1,12 @@
-//! That premises of the top call's clauses can be met. The functions do nothing: what they ensure are the laws.
+//! That premises of the top call's clauses can be met, and that those on slips within a line leave none out. The functions do
+//! nothing: what they ensure are the laws.
 ghost use Rattle.hdmi_cli.specs.TrackExamples.{HasNoticedSlip, HasShortSlip, HasUnlockedSlip};
+ghost use Rattle.hdmi_cli.specs.TrackPasses.{SlipsAreNoticedOrNot};
+
+/// Every slip within a line is one that `recover track` notices, or one that it does not: what it then writes is said of both.
+pub fn noticed_or_not()
+    ensures { SlipsAreNoticedOrNot }
+{}
 
 /// A capture one lane of which lost three bits of a line, which `recover track` notices.
 pub fn noticed_slip()
@@ -11,7 +18,8 @@ pub fn unlocked_slip()
     ensures { HasUnlockedSlip }
 {}
 
-/// One whose lane ends in that line, so that they are not noticed either.
+/// One whose lane ends in that line, so that they are not noticed either; it was locked, and the lanes have a first full
+/// alignment.
 pub fn short_slip()
     ensures { HasShortSlip }
 {}

@@ -1,14 +1,11 @@
 //! Follows a capture whose lanes may lose bits, block by block, while it is read.
-ghost use Rattle.std.specs.Prelude.{◌≡◌, ◌≤◌, ◌+◌, ◌*◌, ◌^◌, ◌<◌, ℕ, List, [], true, false, Option, Some, IfOk, OnOk, IfErr};
+ghost use Rattle.std.specs.Prelude.{◌≡◌, ◌≤◌, ◌+◌, ◌*◌, ◌^◌, ◌<◌, ℕ, List, [], true, false, Option, IfOk, OnOk, IfErr};
 ghost use Rattle.std.specs.Io.KnownBytes.{Consumes, IsAtEnd};
-ghost use Rattle.capture_file.specs.Captures.{CanSay, IsCaptureOf};
+ghost use Rattle.capture_file.specs.Captures.{CanSay};
 ghost use Rattle.link_sink.specs.Pieces.{no_bits};
-ghost use Rattle.link_sink.specs.Sinks.{Fed};
-ghost use Rattle.track_sink.specs.Epochs.{IsTrack};
-ghost use Rattle.track_sink.specs.TrackEvents.{TrackEvent};
 ghost use Rattle.track_sink.specs.TrackSinks.{TrackSinkRepresents, most_bits};
 ghost use Rattle.hdmi_cli.specs.Hearings.{IsCausedBy};
-ghost use Rattle.hdmi_cli.specs.Tracking.{AreFollowed, FollowedOn, HasFollowed, HasFollowedAll, StopsOn};
+ghost use Rattle.hdmi_cli.specs.Tracking.{AreFollowed, FollowedOn, HasFollowed, HasFollowedAll, IsTrackedWhole, StopsOn};
 
 use crate::hearing::{HearError, refused};
 use capture_file::CaptureReader;
@@ -90,7 +87,8 @@ fn follow_blocks<R: Threads, S: Source, E: TrackEar>(
 /// # Errors
 ///
 /// `Bad` where the bytes are no capture, and `Read` where a read failed: what is reported so far of the whole blocks
-/// before was reported to the ear. `Ear` where a call of the ear failed.
+/// before was reported to the ear. `Ear` where a call of the ear failed: it took all that was reported before the last block
+/// that was read.
 pub(crate) fn follow_capture<R: Threads, S: Source, E: TrackEar>(
     rt: &R,
     sink: &mut TrackSink,
@@ -100,8 +98,7 @@ pub(crate) fn follow_capture<R: Threads, S: Source, E: TrackEar>(
     requires open { sink.old.is_open ≡ true }
     requires fresh { TrackSinkRepresents sink.old no_bits [] }
     requires unfed { most_bits sink.old ≡ 0 }
-    ensures heard { IfOk result (λ outcome. (fed : Fed) × (track_events : List TrackEvent) × IsTrack fed outcome.epochs outcome.aligned track_events × E.tracked ear.old ear.new track_events
-        × ((bytes : List ℕ) → S.left input.old ≡ Some bytes → IsCaptureOf fed.blue fed.green fed.red bytes)) }
+    ensures heard { IfOk result (λ outcome. IsTrackedWhole E.tracked (S.left input.old) outcome.epochs outcome.aligned ear.old ear.new) }
     ensures ended { OnOk result (IsAtEnd (S.left input.new)) }
     ensures short { IfErr result (StopsOn E.tracked E.lost (S.left input.old) (S.left input.new) ear.old ear.new) }
     ensures caused { IfErr result (IsCausedBy (S.faults input.old) (S.faults input.new) (E.faults ear.old) (E.faults ear.new)) }

@@ -120,10 +120,10 @@ begin_run words marks bit start early b le before k lt = elim (cases_lt k early)
 
 first_at : (words : List ℕ) (marks : List Bool) (from many place dropped : ℕ) → Slips words marks from many place dropped
     → (lock : ℕ) → IsLock (part_of words from many) lock → lock + 120 ≤ place
-    → (start : ℕ) → BeginsControl words marks (from + place + dropped) start → 10 * (start + 12) ≤ from + many
-    → (early : ℕ) → early ≤ 2 → ((k : ℕ) → k < early → is_control (get_or words (start - 1 - k) 0) ≡ true) → is_control (get_or words (start - 1 - early) 0) ≡ false
+    → (start : ℕ) → BeginsControl words marks (from + place + dropped) start
+    → (early : ℕ) → 10 * (start - early + 12) ≤ from + many → early ≤ 2 → ((k : ℕ) → k < early → is_control (get_or words (start - 1 - k) 0) ≡ true) → is_control (get_or words (start - 1 - early) 0) ≡ false
     → (p : ℕ) → p + dropped + from ≡ 10 * (start - early) → IsFirstStray (slipped_part words from many place dropped) p
-first_at words marks from many place dropped s lock is_lock before start b whole early few control plain p at =
+first_at words marks from many place dropped s lock is_lock before start b early whole few control plain p at =
     let xs = part_of words from many in
     let len : length xs ≡ many = length-part words from many s.within in
     let ends = s.ends in
@@ -167,14 +167,19 @@ early_of words marks from many place dropped start s b =
 
 pub stray_begins_control : (words : List ℕ) (marks : List Bool) (from many place dropped : ℕ) → Slips words marks from many place dropped
     → (lock : ℕ) → IsLock (part_of words from many) lock → lock + 120 ≤ place
-    → (start : ℕ) → BeginsControl words marks (from + place + dropped) start → 10 * (start + 12) ≤ from + many
+    → (start : ℕ) → BeginsControl words marks (from + place + dropped) start
+    → (ahead : ℕ) → ahead ≤ 2 → ((k : ℕ) → k < ahead → is_control (get_or words (start - 1 - k) 0) ≡ true) → 10 * (start - ahead + 12) ≤ from + many
     → (early : ℕ) × (early ≤ 2)
     × ((k : ℕ) → k < early → is_control (get_or words (start - 1 - k) 0) ≡ true)
     × (is_control (get_or words (start - 1 - early) 0) ≡ false)
     × ((p : ℕ) → p + dropped + from ≡ 10 * (start - early) → IsFirstStray (slipped_part words from many place dropped) p)
-stray_begins_control words marks from many place dropped s lock is_lock before start b whole =
+stray_begins_control words marks from many place dropped s lock is_lock before start b ahead few control whole =
     let e = early_of words marks from many place dropped start s b in
-    (e.0, e.1, e.2, e.3, first_at words marks from many place dropped s lock is_lock before start b whole e.0 e.1 e.2 e.3)
+    let most : ahead ≤ e.0 = elim (cases_lt e.0 ahead) [
+      | inl less ↦ let is = control e.0 less in let plain = e.3 in absurd cc
+      | inr le ↦ le
+    ] in
+    (e.0, e.1, e.2, e.3, first_at words marks from many place dropped s lock is_lock before start b e.0 (omega arith) e.1 e.2 e.3)
 
 pub stray_starts : (words : List ℕ) (marks : List Bool) (from many place dropped : ℕ) → Slips words marks from many place dropped
     → (lock : ℕ) → IsLock (part_of words from many) lock → lock + 120 ≤ place

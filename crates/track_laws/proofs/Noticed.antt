@@ -1,9 +1,10 @@
 -- Where a slip within a line is noticed, and what is reported of the epoch that begins there.
-use Rattle.std.proofs.Common.{◌≡◌, ℕ, ◌+◌, ◌-◌, ◌*◌, ◌<◌, ◌≤◌, Bool, List, length, drop, ap, ◌∙◌, sym, subst, arith, inl, inr}
+use Rattle.std.proofs.Common.{◌≡◌, ℕ, ◌+◌, ◌-◌, ◌*◌, ◌<◌, ◌≤◌, Bool, true, List, length, drop, ap, ◌∙◌, sym, subst, arith, inl, inr}
 use Rattle.std.specs.Prelude.{slice_index}
 use Rattle.std.proofs.lemmas.Bool.{cases_lt}
 use Rattle.tmds_word.specs.Column.{Column}
 use Rattle.tmds_word.specs.Taps.{part_of}
+use Rattle.terc4.specs.Tables.{is_control}
 use Rattle.lane_align.specs.Lanes.{IsLock}
 use Rattle.lane_deskew.specs.Triples.{IsFirst}
 use Rattle.lane_deskew.specs.Aligned.{aligned_columns}
@@ -126,9 +127,11 @@ others_none ps sent received offset skews counts x y lane place dropped first ne
 pub slip_noticed : (ps : List Period) (sent received : List Column) (offset : ℕ) (skews counts : List ℕ) (x y : Fed) (lane place dropped first next : ℕ)
     → Received ps sent received offset skews counts x → Slipped x lane place dropped y
     → SlipsInVideo ps sent received offset skews counts lane place dropped first next
-    → (lock : ℕ) → IsLock (lane_of x lane) lock → lock + 120 ≤ place → 10 * (next + 12) ≤ offset + slice_index skews lane + slice_index counts lane
+    → (lock : ℕ) → IsLock (lane_of x lane) lock → lock + 120 ≤ place
+    → (ahead : ℕ) → ahead ≤ 2 → ((k : ℕ) → k < ahead → is_control (slice_index (words_at received lane) (next - 1 - k)) ≡ true)
+    → 10 * (next - ahead + 12) ≤ offset + slice_index skews lane + slice_index counts lane
     → (start : ℕ) × IsEnd y lane start
-slip_noticed ps sent received offset skews counts x y lane place dropped first next reception slip s lock is_lock before whole =
+slip_noticed ps sent received offset skews counts x y lane place dropped first next reception slip s lock is_lock before ahead two control whole =
     let from = offset + slice_index skews lane in
     let many = slice_index counts lane in
     let lanes = calm_lanes ps sent received offset skews counts x reception s.alone in
@@ -136,7 +139,7 @@ slip_noticed ps sent received offset skews counts x y lane place dropped first n
     let mine = slipped_is x y (words_at received) (marks_at sent received) (λ l. offset + slice_index skews l) (λ l. slice_index counts l) lane place dropped lanes slip in
     let lock_is = subst (λ us. IsLock us lock) (lanes.parts lane slip.within) is_lock in
     let b = begins_control ps sent received offset skews counts lane place dropped first next reception.reception s in
-    let at = stray_begins_control (words_at received lane) (marks_at sent received lane) from many place dropped slips lock lock_is before next b whole in
+    let at = stray_begins_control (words_at received lane) (marks_at sent received lane) from many place dropped slips lock lock_is before next b ahead two control whole in
     let few = at.1 in
     let ends = s.before in
     let start = 10 * (next - at.0) - dropped - from in

@@ -109,7 +109,7 @@ unfolding blue
 lock = is_lock blue 3 run_test none_test
 
 found : (start : ℕ) × IsEnd y 0 start
-found = slip_noticed stream sent received 7 skews counts x y 0 400 3 26 56 tapped slips in_line 3 lock (omega arith) (omega arith)
+found = slip_noticed stream sent received 7 skews counts x y 0 400 3 26 56 tapped slips in_line 3 lock (omega arith) 0 (omega arith) (λ k less. absurd (omega arith)) (omega arith)
 
 -- The two alignments.
 

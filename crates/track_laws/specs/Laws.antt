@@ -127,13 +127,16 @@ SecondEpoch =
     → (a : ℕ) × IsAccounted ps sent received (aligned_columns (drop start y.blue) (drop start y.green) (drop start y.red) d e f) a
     × BeginColumn (offset + start) (later_skews skews lane dropped) (a + 12) d e f)
 
--- it is noticed where the lane has a lock before it and the first twelve characters of that control period
+-- it is noticed where the lane has a lock before it and twelve characters of that control period, those one or two right
+-- before it counted in that were received as control characters
 abbrev pub SlipNoticed : Type 0
 SlipNoticed =
     (ps : List Period) (sent received : List Column) (offset : ℕ) (skews counts : List ℕ) (x y : Fed) (lane place dropped first next : ℕ)
     → Received ps sent received offset skews counts x → Slipped x lane place dropped y
     → SlipsInVideo ps sent received offset skews counts lane place dropped first next
-    → (lock : ℕ) → IsLock (lane_of x lane) lock → lock + 120 ≤ place → 10 * (next + 12) ≤ offset + slice_index skews lane + slice_index counts lane
+    → (lock : ℕ) → IsLock (lane_of x lane) lock → lock + 120 ≤ place
+    → (ahead : ℕ) → ahead ≤ 2 → ((k : ℕ) → k < ahead → is_control (slice_index (words_at received lane) (next - 1 - k)) ≡ true)
+    → 10 * (next - ahead + 12) ≤ offset + slice_index skews lane + slice_index counts lane
     → (start : ℕ) × IsEnd y lane start
 
 -- and not where the lane has no lock before it: there is one epoch, in which the lane locks after the slip

@@ -45,7 +45,7 @@ control_decided xs p = by (window xs p) refl
         (λ h. let k = h.here in let same : h.word ≡ w = cc in subst (λ v. is_control v ≡ true) same h.control)
         (Bool-discrete (is_control w) true)
 
-run_decided : (xs : List Bool) (p : ℕ) → Dec (IsRun xs p)
+pub run_decided : (xs : List Bool) (p : ℕ) → Dec (IsRun xs p)
 run_decided xs p = each_below (λ k. HasControl xs (p + 10 * k)) 12 (λ k. control_decided xs (p + 10 * k))
 
 stray_decided : (xs : List Bool) (p : ℕ) → Dec (IsStray xs p)

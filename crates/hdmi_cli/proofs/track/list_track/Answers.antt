@@ -1,4 +1,4 @@
-use Rattle.std.proofs.Common.{rules, ◌≡◌, ◌∙◌, ℕ, sym, ap, subst, arith}
+use Rattle.std.proofs.Common.{rules, ◌≡◌, ◌∙◌, ◌++◌, ℕ, refl, sym, ap, subst, arith}
 use Rattle.listing_writer.specs.Texts.{counted}
 use Rattle.command_line.specs.declared.command.Command.TheVariants.{RecoverTrack}
 use Rattle.hdmi_cli.specs.Endings.{Ends, heard_ending, judged_ending, seen}
@@ -13,23 +13,25 @@ use Rattle.hdmi_cli.proofs.track.list_track.Goals as goal
 pub returns-in-Ok-clause-ends : goal.returns-in-Ok-clause-ends
 returns-in-Ok-clause-ends g c =
     let heard = c.in-Ok.ensures.heard in
+    let events = heard.first ++ heard.last in
     let mid = c.follow_capture.new.ear.lister.sink.now in
     let same : c.output-1.given.0 ≡ c.end.new.self.lister.sink.now = search rules in
-    let count : c.faults.result ≡ counted 0 (track_faults heard.1) =
-    c.faults.ensures ∙ c.end.ensures.faults ∙ heard.3.1 ∙ ap (λ (n : ℕ). counted n (track_faults heard.1)) c.open.ensures.faults in
+    let count : c.faults.result ≡ counted 0 (track_faults events) =
+    c.faults.ensures ∙ c.end.ensures.faults ∙ heard.heard.1 ∙ ap (λ (n : ℕ). counted n (track_faults events)) c.open.ensures.faults in
     subst (λ (e : Ending). Ends RecoverTrack e (seen (g.S.Source.left c.args.input.now) (g.S.Source.faults c.args.input.now) (g.K.Sink.held c.args.output.now) (g.K.Sink.faults c.args.output.now)) (seen (g.S.Source.left c.follow_capture.new.input) (g.S.Source.faults c.follow_capture.new.input) (g.K.Sink.held c.output-1.given.0) (g.K.Sink.faults c.output-1.given.0))) (sym c.judged.ensures)
     (between (λ x y. Ends RecoverTrack (judged_ending c.end.result c.faults.result) (seen (g.S.Source.left c.args.input.now) (g.S.Source.faults c.args.input.now) (g.K.Sink.held x) (g.K.Sink.faults x)) (seen (g.S.Source.left c.follow_capture.new.input) (g.S.Source.faults c.follow_capture.new.input) (g.K.Sink.held y) (g.K.Sink.faults y))) c.args.output.now _ _ _ c.open.ensures.sink same
-    (aligned_ends heard.0 c.in-Ok.outcome.epochs c.in-Ok.outcome.aligned heard.1 (g.K.Sink.held mid) (g.K.Sink.faults mid) _ _ c.end.result c.faults.result heard.2 c.if-outcome-gt0.true heard.4 (search rules) heard.3.2 count
+    (aligned_ends heard.fed c.in-Ok.outcome.epochs c.in-Ok.outcome.aligned heard.first events (g.K.Sink.held mid) (g.K.Sink.faults mid) _ _ c.end.result c.faults.result heard.reported (record { mid = heard.last; is = refl }) heard.track c.if-outcome-gt0.true heard.captured (search rules) heard.heard.2 count
     c.follow_capture.ensures.ear_later c.end.ensures.whole c.end.ensures.part c.end.ensures.cause.failed))
 
 pub returns-in-Ok-2-clause-ends : goal.returns-in-Ok-2-clause-ends
 returns-in-Ok-2-clause-ends g c =
     let heard = c.in-Ok.ensures.heard in
+    let events = heard.first ++ heard.last in
     let few = c.if-outcome-gt0.false in
     let zeros : c.in-Ok.outcome.aligned ≡ 0 = omega (arith, few) in
     let same : c.output-else-outcome-gt0-1.given.0 ≡ c.follow_capture.new.ear.lister.sink.now = search rules in
     between (λ x y. Ends RecoverTrack Unaligned (seen (g.S.Source.left c.args.input.now) (g.S.Source.faults c.args.input.now) (g.K.Sink.held x) (g.K.Sink.faults x)) (seen (g.S.Source.left c.follow_capture.new.input) (g.S.Source.faults c.follow_capture.new.input) (g.K.Sink.held y) (g.K.Sink.faults y))) c.args.output.now _ _ _ c.open.ensures.sink same
-    (unaligned_ends heard.0 c.in-Ok.outcome.epochs c.in-Ok.outcome.aligned heard.1 _ _ heard.2 zeros heard.4 (search rules) heard.3.2)
+    (unaligned_ends heard.fed c.in-Ok.outcome.epochs c.in-Ok.outcome.aligned events _ _ heard.track zeros heard.captured (search rules) heard.heard.2)
 
 pub returns-in-Err-clause-ends : goal.returns-in-Err-clause-ends
 returns-in-Err-clause-ends g c =

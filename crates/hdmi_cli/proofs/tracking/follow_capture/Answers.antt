@@ -1,7 +1,7 @@
 use Rattle.std.proofs.Common.{rules, ◌∙◌, ap, sym, subst}
 use Rattle.std.proofs.lemmas.Result.{err_from_is_err_and}
 use Rattle.hdmi_cli.specs.Hearings.{IsCausedBy}
-use Rattle.hdmi_cli.specs.Tracking.{IsUntakenOn, StopsOn}
+use Rattle.hdmi_cli.specs.Tracking.{IsTrackedWhole, IsUntakenOn, StopsOn}
 use Rattle.hdmi_cli.specs.declared.hearing.HearError.{HearError}
 use Rattle.outside_io.proofs.Consumed.{Takes, takes_more}
 use Rattle.hdmi_cli.proofs.Hearings.{carried}
@@ -18,7 +18,7 @@ returns-in-Ok-clause-heard g c =
     let head = followed_head g.E.TrackEar.tracked r.version r.bits r.block (left old) (left r.source.now) c.args.sink.now ear (g.met.E.TrackEar.tracked_none ear) c.requires.fresh c.in_default.ensures.ok in
     let h = followed_whole g.E.TrackEar.tracked g.met.E.TrackEar.tracked_both (left old) (left new) c.follow_blocks.new.sink c.in-Ok.outcome.epochs c.in-Ok.outcome.aligned ear c.follow_blocks.new.ear c.finish.new.ear
     (c.in_ok-follow_blocks.ensures.whole (left old) ear head) c.in_ok-follow_blocks.ensures.ended c.in-Ok.ensures.reported in
-    (h.0, h.1, h.2, h.3, λ bytes is. h.4 bytes (ap left c.new-reader.ensures.source ∙ is))
+    subst (λ x. IsTrackedWhole g.E.TrackEar.tracked (left x) c.in-Ok.outcome.epochs c.in-Ok.outcome.aligned ear c.finish.new.ear) c.new-reader.ensures.source h
 
 pub returns-in-Err-finish-clause-short : goal.returns-in-Err-finish-clause-short
 returns-in-Err-finish-clause-short g c =
