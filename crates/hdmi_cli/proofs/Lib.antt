@@ -10,6 +10,7 @@ pub mod Exact
 pub mod Hearings
 pub mod Samples
 pub mod SampleRaster
+pub mod Taken
 pub mod Relaying
 pub mod Trackings
 pub mod Tracked

@@ -10,6 +10,7 @@ pub mod TrackText
 pub mod Samples
 pub mod Relays
 pub mod Outcome
+pub mod Taken
 pub mod Endings
 pub mod ListsCommands
 pub mod RunNotes
