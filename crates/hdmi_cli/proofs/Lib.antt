@@ -26,3 +26,4 @@ pub mod RelayHeadline
 pub mod RelayClean
 pub mod RelayAgain
 pub mod RelaySettles
+pub mod RelayExamples

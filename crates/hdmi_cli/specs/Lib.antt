@@ -23,4 +23,5 @@ pub mod Pictures
 pub mod Sounds
 pub mod Exact
 pub mod RelaySettles
+pub mod RelayExamples
 pub mod Theorem
