@@ -61,6 +61,12 @@ written from left held holds now new rest a then =
 pub read_of : (from left held holds : Option (List ℕ)) (new : FrameLines) (rest : List ℕ) (a : Ahead from left held holds new rest) → new.count ≤ most_frames → AreRead a.all rest from left
 read_of from left held holds new rest a few = record { carried = a.carried; few = omega (arith, a.counted, few); consumed = a.consumed }
 
+-- how many bytes that is
+pub read_size : (from left held holds : Option (List ℕ)) (new : FrameLines) (rest : List ℕ) (a : Ahead from left held holds new rest)
+    → length (flat_map frame_bytes a.all ++ rest) ≡ 16 * new.count + length rest
+read_size from left held holds new rest a =
+    let n = length-append (flat_map frame_bytes a.all) rest in let m = length-frames a.all in omega (arith, n, m, a.counted)
+
 pub unwritten : (from left held holds now : Option (List ℕ)) (new : FrameLines) (rest : List ℕ) (n : ℕ) → Ahead from left held holds new rest → new.count ≤ most_frames
     → n < length new.text → Appends holds now (take n new.text) → IsUnwritten from left held now
 unwritten from left held holds now new rest n a few lt then =

@@ -1,5 +1,5 @@
 -- How the reading of a piece ends, by what is answered for its frames.
-use Rattle.std.proofs.Common.{◌≡◌, ◌∙◌, inl, inr, ℕ, ◌+◌, ◌-◌, ◌*◌, ◌%◌, ◌<◌, ◌≤◌, ◌==◌, min, Bool, true, false, List, [], ◌++◌, length, take, Option, Some, Result, Ok, Err, ap, sym, subst, append-nil, length-take-le, arith}
+use Rattle.std.proofs.Common.{◌≡◌, ◌∙◌, inl, inr, ℕ, ◌+◌, ◌-◌, ◌*◌, ◌%◌, ◌<◌, ◌≤◌, ◌==◌, min, Bool, true, false, List, [], ◌++◌, length, take, Option, Some, Result, Ok, Err, ap, sym, subst, append-nil, length-take-le, refl, arith}
 use Rattle.std.specs.Prelude.{codes, flat_map, OnOk, IfOk, IfErr}
 use Rattle.std.specs.Io.KnownBytes.{Appends, Consumes, IsAtEnd}
 use Rattle.std.proofs.lemmas.Bool.{cases_lt, eqb-true, eq-eqb}
@@ -10,54 +10,67 @@ use Rattle.audio_out.specs.Frames.{frame_bytes}
 use Rattle.biphase_listing.specs.FrameText.{frames_text, text_after}
 use Rattle.biphase_listing.specs.Groups.{most_frames}
 use Rattle.biphase_listing.specs.Refusals.{IsRefused}
-use Rattle.biphase_listing.specs.Reading.{HasListed, IsListed, IsUnwritten, Judges, ListsPiece, Stops, StopsAt, stopped}
+use Rattle.biphase_listing.specs.Reading.{HasListed, IsListed, IsReadTo, IsUnwritten, Judges, ListsPiece, Stops, StopsAt, TakesUpTo, stopped}
 use Rattle.biphase_listing.specs.declared.fault.BiphaseError.{BiphaseError}
 use Rattle.biphase_listing.specs.declared.fault.BiphaseError.TheVariants.{Bad, Read}
+use Rattle.biphase_listing.specs.declared.fault.BiphaseFault.{BiphaseFault}
 use Rattle.biphase_listing.specs.declared.fault.BiphaseFault.TheVariants.{Subframe, Long, Short}
 use Rattle.biphase_listing.specs.declared.frame_lines.FrameLines.{FrameLines}
 use Rattle.biphase_listing.specs.declared.frame_lines.Stop.{Stop}
 use Rattle.biphase_listing.specs.declared.frame_lines.Stop.TheVariants.{End, Left, Right}
-use Rattle.biphase_listing.proofs.Answering.{Ahead, adds_few, adds_length, ahead, bad_left, bad_right, bytes_split, read_of, too_long, too_short, unwritten, written}
+use Rattle.biphase_listing.proofs.Answering.{Ahead, adds_few, adds_length, ahead, bad_left, bad_right, bytes_split, read_of, read_size, too_long, too_short, unwritten, written}
 
 error_of : {T : Type 0} → Result T BiphaseError → BiphaseError
 error_of (Ok done) = Read
 error_of (Err error) = error
 
+-- what was read is as long as it is to be
+takes_to : (fault : BiphaseFault) (from left held holds : Option (List ℕ)) (new : FrameLines) (rest : List ℕ) → Ahead from left held holds new rest
+    → IsReadTo fault (16 * new.count + length rest) left → TakesUpTo fault from left
+takes_to fault from left held holds new rest a size = record {
+  taken = flat_map frame_bytes a.all ++ rest;
+  consumed = a.consumed;
+  size = subst (λ (n : ℕ). IsReadTo fault n left) (sym (read_size from left held holds new rest a)) size;
+}
+
 -- a group is no subframe of its side
 left_refused : (from left held holds out : Option (List ℕ)) (new : FrameLines) (rest : List ℕ) → Ahead from left held holds new rest → Appends holds out new.text
-    → new.count < most_frames → StopsAt Left rest → Stops from left held out (Bad (Subframe (2 * new.count)))
-left_refused from left held holds out new rest a then few stops = λ bytes is.
-    let s = bytes_split from left bytes a.all rest is a.consumed in
-    record {
-      samples = a.all;
-      refused = subst (λ (n : ℕ). IsRefused bytes (Subframe (2 * n)) a.all) (sym a.counted) (bad_left bytes a.all rest s.0 a.carried s.1 (omega (arith, a.counted, few)) stops);
-      written = written from left held holds out new rest a then;
-    }
+    → new.count < most_frames → length rest ≤ 4096 → StopsAt Left rest → Stops from left held out (Bad (Subframe (2 * new.count)))
+left_refused from left held holds out new rest a then few short stops = (
+  takes_to (Subframe (2 * new.count)) from left held holds new rest a (omega (arith, short)),
+  λ bytes is. let s = bytes_split from left bytes a.all rest is a.consumed in record {
+    samples = a.all;
+    refused = subst (λ (n : ℕ). IsRefused bytes (Subframe (2 * n)) a.all) (sym a.counted) (bad_left bytes a.all rest s.0 a.carried s.1 (omega (arith, a.counted, few)) stops);
+    written = written from left held holds out new rest a then;
+  },
+)
 
 right_refused : (from left held holds out : Option (List ℕ)) (new : FrameLines) (rest : List ℕ) → Ahead from left held holds new rest → Appends holds out new.text
-    → new.count < most_frames → StopsAt Right rest → Stops from left held out (Bad (Subframe (2 * new.count + 1)))
-right_refused from left held holds out new rest a then few stops = λ bytes is.
-    let s = bytes_split from left bytes a.all rest is a.consumed in
-    record {
-      samples = a.all;
-      refused = subst (λ (n : ℕ). IsRefused bytes (Subframe (2 * n + 1)) a.all) (sym a.counted) (bad_right bytes a.all rest s.0 a.carried s.1 (omega (arith, a.counted, few)) stops);
-      written = written from left held holds out new rest a then;
-    }
+    → new.count < most_frames → length rest ≤ 4096 → StopsAt Right rest → Stops from left held out (Bad (Subframe (2 * new.count + 1)))
+right_refused from left held holds out new rest a then few short stops = (
+  takes_to (Subframe (2 * new.count + 1)) from left held holds new rest a (omega (arith, short)),
+  λ bytes is. let s = bytes_split from left bytes a.all rest is a.consumed in record {
+    samples = a.all;
+    refused = subst (λ (n : ℕ). IsRefused bytes (Subframe (2 * n + 1)) a.all) (sym a.counted) (bad_right bytes a.all rest s.0 a.carried s.1 (omega (arith, a.counted, few)) stops);
+    written = written from left held holds out new rest a then;
+  },
+)
 
 answered : (stop : Stop) (from left held holds out : Option (List ℕ)) (new : FrameLines) (rest : List ℕ) (e : BiphaseError) → Ahead from left held holds new rest → Appends holds out new.text
-    → 16 * new.count + length rest ≤ 16 * most_frames + 1 → StopsAt stop rest → Err e ≡ stopped stop new.count → Stops from left held out e
+    → 16 * new.count + length rest ≤ 16 * most_frames + 1 → length rest ≤ 4096 → StopsAt stop rest → Err e ≡ stopped stop new.count → Stops from left held out e
 unfolding error_of
-answered End from left held holds out new rest e a then few stops is = absurd (cc is)
-answered Left from left held holds out new rest e a then few stops is =
-    subst (λ (f : BiphaseError). Stops from left held out f) (sym (ap error_of is)) (left_refused from left held holds out new rest a then (omega (arith, few, stops.0)) stops)
-answered Right from left held holds out new rest e a then few stops is =
-    subst (λ (f : BiphaseError). Stops from left held out f) (sym (ap error_of is)) (right_refused from left held holds out new rest a then (omega (arith, few, stops.0)) stops)
+answered End from left held holds out new rest e a then few short stops is = absurd (cc is)
+answered Left from left held holds out new rest e a then few short stops is =
+    subst (λ (f : BiphaseError). Stops from left held out f) (sym (ap error_of is)) (left_refused from left held holds out new rest a then (omega (arith, few, stops.0)) short stops)
+answered Right from left held holds out new rest e a then few short stops is =
+    subst (λ (f : BiphaseError). Stops from left held out f) (sym (ap error_of is)) (right_refused from left held holds out new rest a then (omega (arith, few, stops.0)) short stops)
 
 -- what was listed, and what was read and made of it
 pub record Begun (from left now held holds : Option (List ℕ)) (old : FrameLines) (piece : List ℕ) : Type 0 where
   pub has : HasListed from left held holds old.blocks old.count
   pub read : Consumes left now piece
   pub few : 16 * old.count + length piece ≤ 16 * most_frames + 1
+  pub short : length piece ≤ 4096
 
 ahead_of : (from left now held holds out : Option (List ℕ)) (old new : FrameLines) (piece : List ℕ) (result : Result (Unit {0}) BiphaseError)
     → Begun from left now held holds old piece → (l : ListsPiece piece old new holds out result) → Ahead from now held holds new l.rest
@@ -75,7 +88,7 @@ piece_stopped from left now held holds out old new piece e begun l =
     let a = ahead_of from left now held holds out old new piece (Err e) begun l in
     let n = size_of from left now held holds out old new piece (Err e) begun l in
     elim l.writes [
-      | inl (is, then) ↦ answered l.stop from now held holds out new l.rest e a then (omega (arith, n, begun.few)) l.stops is
+      | inl (is, then) ↦ answered l.stop from now held holds out new l.rest e a then (omega (arith, n, begun.few)) (omega (arith, n, begun.short, l.adds.count)) l.stops is
       | inr (is, part) ↦
           subst (λ (f : BiphaseError). Stops from now held out f) (sym (ap error_of is))
           (unwritten from now held holds out new l.rest part.0 a (adds_few piece old new l.samples l.rest l.adds begun.few) part.1 part.2)
@@ -89,6 +102,7 @@ pub record Through (from now held out : Option (List ℕ)) (new : FrameLines) (o
   pub then : Appends holds out new.text
   pub stops : StopsAt End rest
   pub sized : 16 * new.count + length rest ≡ 16 * old + size
+  pub within : 16 * old + size ≤ 16 * most_frames + 1
   pub few : new.count ≤ most_frames
 
 is_end : (stop : Stop) (count : ℕ) (rest : List ℕ) → Ok tt ≡ stopped stop count → StopsAt stop rest → StopsAt End rest
@@ -105,6 +119,7 @@ piece_through from left now held holds out old new piece done begun l =
         then = then;
         stops = is_end l.stop new.count l.rest is l.stops;
         sized = size_of from left now held holds out old new piece (Ok done) begun l;
+        within = begun.few;
         few = adds_few piece old new l.samples l.rest l.adds begun.few;
       }
       | inr (is, part) ↦ absurd (cc is)
@@ -152,26 +167,30 @@ at_end from left bytes front is read ended = ended_known left bytes front (subst
 -- a byte follows the last frame that there may be
 pub long_stopped : (from now held out : Option (List ℕ)) (new : FrameLines) (old size : ℕ) (t : Through from now held out new old size)
     → 16 * most_frames < 16 * new.count + length t.rest → Stops from now held out (Bad Long)
-long_stopped from now held out new old size t long = λ bytes is.
-    let s = bytes_split from now bytes t.ahead.all t.rest is t.ahead.consumed in
-    let most : length t.ahead.all ≡ most_frames = omega (arith, long, t.stops.0, t.few, t.ahead.counted) in
-    record {
-      samples = t.ahead.all;
-      refused = too_long bytes t.ahead.all t.rest s.0 t.ahead.carried s.1 most (omega (arith, long, most, t.ahead.counted));
-      written = written from now held t.holds out new t.rest t.ahead t.then;
-    }
+long_stopped from now held out new old size t long =
+    let most : length t.ahead.all ≡ most_frames = omega (arith, long, t.stops.0, t.few, t.ahead.counted) in (
+      takes_to Long from now held t.holds new t.rest t.ahead (omega (arith, long, t.within, t.sized)),
+      λ bytes is. let s = bytes_split from now bytes t.ahead.all t.rest is t.ahead.consumed in record {
+        samples = t.ahead.all;
+        refused = too_long bytes t.ahead.all t.rest s.0 t.ahead.carried s.1 most (omega (arith, long, most, t.ahead.counted));
+        written = written from now held t.holds out new t.rest t.ahead t.then;
+      },
+    )
 
 -- the bytes that were read to the end are no whole frames
 pub short_stopped : (from now held out : Option (List ℕ)) (new : FrameLines) (old size : ℕ) (t : Through from now held out new old size) → IsAtEnd now
     → 16 * new.count + length t.rest ≤ 16 * most_frames → (length t.rest ≡ 0 → ⊥) → Stops from now held out (Bad (Short (16 * new.count + length t.rest)))
-short_stopped from now held out new old size t ended few some = λ bytes is.
-    let whole = at_end from now bytes (flat_map frame_bytes t.ahead.all ++ t.rest) is t.ahead.consumed ended in
-    let split = whole ∙ ap (λ (xs : List ℕ). flat_map frame_bytes t.ahead.all ++ xs) (sym (append-nil t.rest)) in
-    record {
-      samples = t.ahead.all;
-      refused = too_short bytes t.ahead.all t.rest (16 * new.count + length t.rest) t.ahead.carried split (omega (arith, t.ahead.counted)) few some t.stops;
-      written = written from now held t.holds out new t.rest t.ahead t.then;
-    }
+short_stopped from now held out new old size t ended few some = (
+  takes_to (Short (16 * new.count + length t.rest)) from now held t.holds new t.rest t.ahead (refl, ended),
+  λ bytes is.
+      let whole = at_end from now bytes (flat_map frame_bytes t.ahead.all ++ t.rest) is t.ahead.consumed ended in
+      let split = whole ∙ ap (λ (xs : List ℕ). flat_map frame_bytes t.ahead.all ++ xs) (sym (append-nil t.rest)) in
+      record {
+        samples = t.ahead.all;
+        refused = too_short bytes t.ahead.all t.rest (16 * new.count + length t.rest) t.ahead.carried split (omega (arith, t.ahead.counted)) few some t.stops;
+        written = written from now held t.holds out new t.rest t.ahead t.then;
+      },
+)
 
 -- what is judged
 pub judged_stopped : (from now held out : Option (List ℕ)) (new : FrameLines) (old size : ℕ) (t : Through from now held out new old size) (full : Bool) (result : Result Bool BiphaseError)

@@ -53,9 +53,22 @@ pub record IsUnwritten (from left held holds : Option (List ℕ)) : Type 0 where
       ((n : ℕ) × (n < length (frames_text samples)) × Appends held holds (take n (frames_text samples)))
       ⊎ ((rest ≡ []) × IsAtEnd left × ((n : ℕ) × (n < 4) × Appends held holds (frames_text samples ++ take n (codes "end\n"))))
 
+-- how many bytes were read where they are no list of frames: as far as the first byte of the frame too many, or all of them, or,
+-- where a subframe is wrong, 4,096 at most from its first byte on
+abbrev pub IsReadTo : BiphaseFault → ℕ → Option (List ℕ) → Type 0
+IsReadTo (Subframe n) size left = size ≤ 8 * n + 4096
+IsReadTo Long size left = size ≡ 16 * most_frames + 1
+IsReadTo (Short p) size left = (size ≡ p) × IsAtEnd left
+
+-- so many were taken, and no more
+pub record TakesUpTo (fault : BiphaseFault) (from left : Option (List ℕ)) : Type 0 where
+  pub taken : List ℕ
+  pub consumed : Consumes from left taken
+  pub size : IsReadTo fault (length taken) left
+
 -- why frames were not listed to the end
 abbrev pub Stops : Option (List ℕ) → Option (List ℕ) → Option (List ℕ) → Option (List ℕ) → BiphaseError → Type 0
-Stops from left held holds (Bad fault) = (bytes : List ℕ) → from ≡ Some bytes → IsListedBefore bytes fault held holds
+Stops from left held holds (Bad fault) = TakesUpTo fault from left × ((bytes : List ℕ) → from ≡ Some bytes → IsListedBefore bytes fault held holds)
 Stops from left held holds Read = IsUnread from left held holds
 Stops from left held holds Write = IsUnwritten from left held holds
 

@@ -405,7 +405,7 @@ frames_end (Ok done) before after it = (
 )
 frames_end (Err (biphases.Bad fault)) before after it = (
   λ last. absurd last,
-  λ bytes reported. let l = it.stopped bytes reported in record {
+  λ bytes reported. let l = it.stopped.1 bytes reported in record {
     outcome = record { status = 3; output = frames_text l.samples; note = frames_note fault };
     does = inr (fault, l.samples, l.refused, refl);
     status = refl;

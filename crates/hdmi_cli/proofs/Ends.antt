@@ -338,7 +338,7 @@ sample_says words frames Unaligned before after named left ends = absurd ends
 
 -- what a run says
 pub says : (words : List (List ℕ)) (e : Ending) (before after : Devices) (r : ℕ) → RunEnds words e before after → r ≡ status_of e → Says words before after r (note_of e)
-says words e before after r (inl (command, named, reads, ends)) is = subst (λ s. Says words before after s (note_of e)) (sym is) (command_says words command e before after named reads ends)
+says words e before after r (inl (command, named, reads, ends, stops)) is = subst (λ s. Says words before after s (note_of e)) (sym is) (command_says words command e before after named reads ends)
 says words e before after r (inr (inl (frames, named, left, ends))) is = subst (λ s. Says words before after s (note_of e)) (sym is) (sample_says words frames e before after named left ends)
 says words e before after r (inr (inr (inl (none, usage, left, held)))) is =
     subst (λ s. Says words before after s (note_of e)) (sym (is ∙ ap status_of usage))

@@ -111,7 +111,7 @@ named_ends words command this ending before after named again ends =
 -- what a run of a command says, from what each of its ends with an outcome says
 pub run_ended : (P : ℕ → Option (List ℕ) → Option (List ℕ) → Type 0) (this : Command) (words : List (List ℕ)) (ending : Ending) (before after : Devices) (status : ℕ) → RunEnds words ending before after
     → status ≡ status_of ending → IsCommand words this → (Answers this ending before after → P (status_of ending) before.held after.held) → Unless P status before after
-run_ended P this words ending before after status (inl (command, named, reads, ends)) is again says =
+run_ended P this words ending before after status (inl (command, named, reads, ends, stops)) is again says =
     subst (λ s. Unless P s before after) (sym is) (ended P this ending before after says (named_ends words command this ending before after named again ends))
 run_ended P this words ending before after status (inr (inl (frames, named, kept, ends))) is again says =
     subst (λ s. Unless P s before after) (sym is) (sample_ended P frames ending before after ends

@@ -10,6 +10,7 @@ pub mod Exact
 pub mod Hearings
 pub mod Samples
 pub mod SampleRaster
+pub mod Taken
 pub mod Relaying
 pub mod Trackings
 pub mod Tracked
@@ -26,3 +27,4 @@ pub mod RelayHeadline
 pub mod RelayClean
 pub mod RelayAgain
 pub mod RelaySettles
+pub mod RelayExamples

@@ -4,7 +4,9 @@ use Rattle.std.specs.Prelude.{Option, Some}
 use Rattle.std.specs.Io.KnownBytes.{Appends}
 use Rattle.std.proofs.lemmas.List.{drop-append-le, append-nil, length-map}
 use Rattle.tmds_word.specs.Column.{Column}
+use Rattle.capture_file.specs.Captures.{IsCaptureOf}
 use Rattle.capture_file.specs.Taps.{tapped_capture}
+use Rattle.lane_deskew.specs.Aligned.{aligned_columns}
 use Rattle.island_pack.specs.Conforming.{IsConforming, conforms}
 use Rattle.island_pack.specs.Periods.{ControlRun, Period, control, video, island, values_of, period_columns, columns_of}
 use Rattle.island_pack.specs.Spelling.{control_column, SpellsBy, Spells, freely}
@@ -26,7 +28,7 @@ use Rattle.hdmi_cli.specs.RelayClauses.{ComesBack, IsRelayedAgain}
 use Rattle.hdmi_cli.specs.Relays.{IsRelayed, whole_tap}
 use Rattle.hdmi_cli.specs.declared.ending.Ending.{Ending}
 use Rattle.hdmi_cli.proofs.Headline.{run_ended}
-use Rattle.hdmi_cli.proofs.OwnCapture.{blue_of, green_of, red_of, own_aligned, own_captured, own_nowhere}
+use Rattle.hdmi_cli.proofs.OwnCapture.{IsOwn, blue_of, green_of, red_of, own_aligned, own_captured, own_nowhere}
 use Rattle.hdmi_cli.proofs.RelayHeadline.{capture_relay, keeps_of, nowhere_relay}
 
 -- What is spelled without the first columns.
@@ -36,7 +38,7 @@ map-drop zero vs = refl
 map-drop (suc a) [] = refl
 map-drop (suc a) (v ∷ vs) = map-drop a vs
 
-cut_spelled : (a : ℕ) (runs : List ControlRun) (ps : List Period) (cs : List Column) → a ≤ length (values_of runs) → SpellsBy freely (control runs ∷ ps) cs
+pub cut_spelled : (a : ℕ) (runs : List ControlRun) (ps : List Period) (cs : List Column) → a ≤ length (values_of runs) → SpellsBy freely (control runs ∷ ps) cs
     → SpellsBy freely (cut_first a (control runs ∷ ps)) (drop a cs)
 unfolding cut_first
 cut_spelled a runs ps cs le h = grind (arith, length-map, drop-append-le, map-drop, values_longest)
@@ -48,10 +50,20 @@ columns_more : (runs : List ControlRun) (q : Period) (ps : List Period) → IsCo
 unfolding conforms columns_of period_columns
 columns_more runs q ps h = grind arith
 
-pub comes_back : RelayedAgain → (events : List Event) (runs : List ControlRun) (q : Period) (ps : List Period) (columns : List Column) (o : RunOutcome) (status : ℕ) (old new : Option (List ℕ))
-    → relayed events ≡ control runs ∷ (q ∷ ps) → columns_of (relayed events) ≤ 20000000 → Spells (relayed events) columns → o.status ≡ status → Appends old new o.output
-    → Relays (tapped_capture columns whole_tap) o → ComesBack runs (q ∷ ps) status old new
-comes_back law events runs q ps columns o status old new are few spelled is written does =
+-- what is heard of what was relayed: all from the last twelve columns of its first control period on, without a fault
+pub record IsHeardAgain (runs : List ControlRun) (ps : List Period) (columns : List Column) : Type 0 where
+  pub own : IsOwn runs ps columns
+  pub events : List Event
+  pub reported : heard (aligned_columns (blue_of columns) (green_of columns) (red_of columns) own.d own.e own.f) ≡ events
+  pub back : relayed events ≡ cut_first own.a (control runs ∷ ps)
+  pub few : columns_of (relayed events) ≤ 20000000
+  pub front : IsFront (drop own.a columns)
+  pub faultless_is : faultless events ≡ true
+  pub captured : IsCaptureOf (blue_of columns) (green_of columns) (red_of columns) (tapped_capture columns whole_tap)
+
+pub heard_again : RelayedAgain → (events : List Event) (runs : List ControlRun) (q : Period) (ps : List Period) (columns : List Column)
+    → relayed events ≡ control runs ∷ (q ∷ ps) → columns_of (relayed events) ≤ 20000000 → Spells (relayed events) columns → IsHeardAgain runs (q ∷ ps) columns
+heard_again law events runs q ps columns are few spelled =
     let all = control runs ∷ (q ∷ ps) in
     let good : IsConforming all = subst (λ (xs : List Period). IsConforming xs) are (relayed_conforms events) in
     let own_spelled : Spells all columns = subst (λ (xs : List Period). Spells xs columns) are spelled in
@@ -73,10 +85,29 @@ comes_back law events runs q ps columns o status old new are few spelled is writ
     let conforming = subst (λ (ps : List Period). IsConforming ps) back (relayed_conforms reported) in
     let front : IsFront (drop a columns) = record { periods = _; spelled = drop a columns; conforming = conforming; spells = cut; rest = []; front = sym (append-nil (drop a columns)) } in
     let same : heard (drop a columns) ≡ reported = ap heard (sym own.aligned) ∙ own.reported in
-    let clean_columns : faultless reported ≡ true = subst (λ (ts : List Event). faultless ts ≡ true) same (front_is_clean (drop a columns) front) in
-    let captured = own_captured columns (subst (λ n. n ≤ 20000000) (size ∙ sym many) few) in
-    elim (capture_relay reported (blue_of columns) (green_of columns) (red_of columns) own.d own.e own.f (tapped_capture columns whole_tap) o captured own.first own.reported does) [
-      | inl long ↦ let passes = long.passes in absurd (omega (arith, passes, back_many, cut_many, rest, many, size, few))
+    record {
+      own = own;
+      events = reported;
+      reported = own.reported;
+      back = back;
+      few = omega (arith, back_many, cut_many, rest, many, size, few);
+      front = front;
+      faultless_is = subst (λ (ts : List Event). faultless ts ≡ true) same (front_is_clean (drop a columns) front);
+      captured = own_captured columns (subst (λ n. n ≤ 20000000) (size ∙ sym many) few);
+    }
+
+pub comes_back : RelayedAgain → (events : List Event) (runs : List ControlRun) (q : Period) (ps : List Period) (columns : List Column) (o : RunOutcome) (status : ℕ) (old new : Option (List ℕ))
+    → relayed events ≡ control runs ∷ (q ∷ ps) → columns_of (relayed events) ≤ 20000000 → Spells (relayed events) columns → o.status ≡ status → Appends old new o.output
+    → Relays (tapped_capture columns whole_tap) o → ComesBack runs (q ∷ ps) status old new
+comes_back law events runs q ps columns o status old new are few spelled is written does =
+    let again = heard_again law events runs q ps columns are few spelled in
+    let own = again.own in
+    let from = own.from in
+    let reported = again.events in
+    let back = again.back in
+    let clean_columns = again.faultless_is in
+    elim (capture_relay reported (blue_of columns) (green_of columns) (red_of columns) own.d own.e own.f (tapped_capture columns whole_tap) o again.captured own.first again.reported does) [
+      | inl long ↦ let passes = long.passes in absurd (omega (arith, passes, again.few))
       | inr sent ↦ grind arith
     ]
 

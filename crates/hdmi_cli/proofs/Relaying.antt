@@ -1,5 +1,5 @@
 -- How `relay` ends, from how the capture was heard and what the relay stands for.
-use Rattle.std.proofs.Common.{◌≡◌, ◌⊎◌, ℕ, ◌+◌, ◌<◌, ◌≤◌, Bool, true, false, not, List, [], ◌∷◌, ◌++◌, refl, ap, sym, ◌∙◌, subst, inl, inr, arith, append_assoc}
+use Rattle.std.proofs.Common.{◌≡◌, ℕ, ◌≤◌, Bool, true, false, not, List, [], ◌∷◌, refl, ap, subst, inl, inr, arith}
 use Rattle.std.specs.Prelude.{Option, Some, None, Contains}
 use Rattle.std.specs.Io.KnownBytes.{Consumes, IsAtEnd, Keeps}
 use Rattle.island_pack.specs.Periods.{Period, columns_of}
@@ -7,36 +7,30 @@ use Rattle.island_pack.specs.Spelling.{Spells}
 use Rattle.capture_file.specs.Captures.{IsCaptureOf, IsFault, place_of}
 use Rattle.capture_file.specs.Taps.{tapped_capture}
 use Rattle.capture_file.specs.declared.fault.CaptureFault.{CaptureFault}
-use Rattle.capture_file.proofs.Marks.{consumed}
 use Rattle.capture_file.proofs.Damages.{nothing_written}
 use Rattle.period_grammar.specs.Exact.{faultless}
 use Rattle.period_grammar.specs.Events.{Event}
 use Rattle.link_sink.specs.Alignment.{AreReported, reported_by, IsAlignedReported}
 use Rattle.link_sink.specs.Grammar.{link_grammar}
-use Rattle.link_sink.specs.Sinks.{Fed, IsReportedSoFar}
+use Rattle.link_sink.specs.Sinks.{Fed}
 use Rattle.link_sink.specs.declared.hear.Outcome.{Outcome}
 use Rattle.relay.specs.Relayed.{relayed}
-use Rattle.relay.specs.Standing.{RelayRepresents, Took, Broke, IsTooLong}
+use Rattle.relay.specs.Standing.{RelayRepresents, Took}
 use Rattle.relay.specs.declared.relaying.Relay.{Relay as RelayValue}
 use Rattle.relay.specs.declared.relaying.RelayFault.TheVariants.{Long, NoMemory as Wanting}
 use Rattle.relay.specs.declared.relaying.RelayFault.{RelayFault}
-use Rattle.relay.proofs.Growing.{columns_grow}
-use Rattle.relay.proofs.Going.{stream_columns}
 use Rattle.tmds_word.specs.Column.{Column}
-use Rattle.hdmi_cli.proofs.Heard.{all_read}
 use Rattle.command_line.specs.declared.command.Command.TheVariants.{Relay}
-use Rattle.hdmi_cli.specs.Blocks.{AreBefore, AreNext}
-use Rattle.link_sink.specs.Ears.{IsBroken, IsHeardSoFar}
+use Rattle.hdmi_cli.specs.Blocks.{AreBefore}
+use Rattle.link_sink.specs.Ears.{IsHeardSoFar}
 use Rattle.hdmi_cli.specs.Endings.{Devices, Ends, RelayEnds, StreamEnds, faulty_end, marked_end, relay_ending}
 use Rattle.hdmi_cli.specs.Notes.{alignment_note, capture_note, long_note}
 use Rattle.hdmi_cli.specs.Outcome.{RunOutcome, Relays}
-use Rattle.hdmi_cli.specs.Relays.{PassesLimit, relay_status, whole_tap}
+use Rattle.hdmi_cli.specs.Relays.{relay_status, whole_tap}
+use Rattle.hdmi_cli.specs.Taken.{RelayStops}
+use Rattle.hdmi_cli.proofs.Taken.{Reported, broken_stops, few_of, passes_limit, refused_stops}
 use Rattle.hdmi_cli.specs.declared.ending.Ending.{Ending}
 use Rattle.hdmi_cli.specs.declared.ending.Ending.TheVariants.{Done, Faulty, Usage, Listing, Raster, Capture, Place, Frames, TooLong, ReadFailed, WriteFailed, NoMemory, Unaligned}
-
--- what a relay stands for passes the limit nowhere
-pub few_of : (relay : RelayValue) (events : List Event) → RelayRepresents relay events → columns_of (relayed events) ≤ 20000000
-few_of relay events s = grind (arith, stream_columns)
 
 -- the capture was heard to its end, and what is relayed of it was written, whole or in part
 
@@ -136,96 +130,34 @@ pub refused_sent : (fault : CaptureFault) (first now : RelayValue) (before after
     → Ends Relay (Capture fault) before after
 refused_sent fault first now before after fresh kept bad = (
   λ last. kept,
-  λ bytes reported. let b = bad bytes reported in let h = b.1.2 in record {
+  λ bytes reported. record {
     outcome = record { status = 3; output = []; note = capture_note fault };
-    does = inr (inr (inr (fault, record { is = b.0; fed = b.1.0; before = b.1.1; events = h.events; reported = h.reported; few = few_of now h.events (h.taken.0 [] fresh) }, refl)));
+    does = inr (inr (inr (fault, refused_stops fault first now before.left after.left fresh bad bytes reported, refl)));
     status = refl;
     note = refl;
     written = nothing_written before.held after.held kept;
   },
 )
 
--- too much was reported: some things, and with one more too many columns
-
-passes : (first between now : RelayValue) (events taken rest : List Event) (next : Event) → RelayRepresents first [] → Took first between taken → IsTooLong between next → events ≡ taken ++ next ∷ rest
-    → 20000000 < columns_of (relayed events)
-passes first between now events taken rest next fresh took long is =
-    let more = long taken (took.0 [] fresh) in
-    let grow = columns_grow (taken ++ next ∷ []) rest in
-    let same : columns_of (relayed ((taken ++ next ∷ []) ++ rest)) ≡ columns_of (relayed events) = ap (λ ts. columns_of (relayed ts)) (append_assoc taken (next ∷ []) rest ∙ sym is) in
-    omega (arith, more, grow, same)
-
-abbrev Reported : Option (List ℕ) → Fed → Fed → List Event → List ℕ → RelayValue → RelayValue → Type 0
-Reported rest before now events read first last =
-    (AreNext before now read × IsReportedSoFar now events × IsBroken link_grammar Took Broke before events first last)
-    ⊎ ((outcome : Outcome) × IsAtEnd rest × IsCaptureOf now.blue now.green now.red read × AreReported now.blue now.green now.red outcome events × IsBroken link_grammar Took Broke now events first last)
-
-long_next : (bytes read rest : List ℕ) (before now : Fed) (events : List Event) → bytes ≡ read ++ rest → (next : AreNext before now read) → IsReportedSoFar now events → 20000000 < columns_of (relayed events) → PassesLimit bytes
-long_next bytes read rest before now events is next reported more =
-    record { fed = now; events = events; reported = inl (read, rest, next.counts, next.j + 1, is, next.has, reported); passes = more }
-
-nothing_more : {A : Type 0} (x : A) (xs : List A) → [] ≡ x ∷ xs → ⊥
-nothing_more x xs h = cc
-
-aligned_if : (b : Bool) (x y z : List Bool) (columns : ℕ) (events taken rest : List Event) (next : Event) → reported_by b x y z columns events → events ≡ taken ++ (next ∷ rest) → IsAlignedReported x y z columns events
-aligned_if true x y z columns events taken rest next reported is = reported
-aligned_if false x y z columns events [] rest next reported is = absurd (nothing_more next rest (sym reported.reported ∙ is))
-aligned_if false x y z columns events (t ∷ taken) rest next reported is = absurd (nothing_more t (taken ++ (next ∷ rest)) (sym reported.reported ∙ is))
-
--- the trouble of a relay that broke
-broke_of : (first last : RelayValue) (fed : Fed) (events : List Event) → first.trouble ≡ None → (b : IsBroken link_grammar Took Broke fed events first last)
-    → ((last.trouble ≡ Some Long) × IsTooLong b.stops.between b.stops.next) ⊎ (last.trouble ≡ Some Wanting)
-broke_of first last fed events none b = b.stops.broke_then (b.stops.took_some.1 ∙ none)
-
-too_long : (left rest : Option (List ℕ)) (first last : RelayValue) (before now : Fed) (events : List Event) (read : List ℕ) → RelayRepresents first [] → first.trouble ≡ None → Consumes left rest read → Reported rest before now events read first last
-    → ((last.trouble ≡ Some Long) × ((bytes : List ℕ) → left ≡ Some bytes → PassesLimit bytes)) ⊎ (last.trouble ≡ Some Wanting)
-too_long left rest first last before now events read fresh none took (inl (next, reported, b)) =
-    by (broke_of first last before events none b)
-  where
-    by : ((last.trouble ≡ Some Long) × IsTooLong b.stops.between b.stops.next) ⊎ (last.trouble ≡ Some Wanting) → ((last.trouble ≡ Some Long) × ((bytes : List ℕ) → left ≡ Some bytes → PassesLimit bytes)) ⊎ (last.trouble ≡ Some Wanting)
-    by (inl (long, more)) = inl (
-      long,
-      λ bytes is. let c = consumed left rest bytes read is took in
-          long_next bytes read c.0 before now events c.1 next reported (passes first b.stops.between last events b.stops.taken b.stops.rest b.stops.next fresh b.stops.took_some more b.stops.events_are),
-    )
-    by (inr wanting) = inr wanting
-too_long left rest first last before now events read fresh none took (inr (outcome, ended, captured, reported, b)) =
-    by (broke_of first last now events none b)
-  where
-    by : ((last.trouble ≡ Some Long) × IsTooLong b.stops.between b.stops.next) ⊎ (last.trouble ≡ Some Wanting) → ((last.trouble ≡ Some Long) × ((bytes : List ℕ) → left ≡ Some bytes → PassesLimit bytes)) ⊎ (last.trouble ≡ Some Wanting)
-    by (inl (long, more)) = inl (
-      long,
-      λ bytes is. record {
-        fed = now;
-        events = events;
-        reported = inr (
-          outcome.columns,
-          subst (λ (bs : List ℕ). IsCaptureOf now.blue now.green now.red bs) (sym (all_read left rest read bytes took ended is)) captured,
-          aligned_if outcome.aligned now.blue now.green now.red outcome.columns events b.stops.taken b.stops.rest b.stops.next reported b.stops.events_are,
-        );
-        passes = passes first b.stops.between last events b.stops.taken b.stops.rest b.stops.next fresh b.stops.took_some more b.stops.events_are;
-      },
-    )
-    by (inr wanting) = inr wanting
-
-troubled : (before after : Devices) (trouble : Option RelayFault) → Keeps before.held after.held
-    → ((trouble ≡ Some Long) × ((bytes : List ℕ) → before.left ≡ Some bytes → PassesLimit bytes)) ⊎ (trouble ≡ Some Wanting) → Ends Relay (relay_ending trouble) before after
-troubled before after trouble kept (inl (long, passing)) = subst (λ (t : Option RelayFault). Ends Relay (relay_ending t) before after) (sym long) (
+-- a relay that failed
+troubled : (before after : Devices) (trouble : Option RelayFault) → Keeps before.held after.held → RelayStops (relay_ending trouble) before.left after.left → Ends Relay (relay_ending trouble) before after
+troubled before after (Some Long) kept stops = (
   kept,
   λ bytes reported. record {
     outcome = record { status = 3; output = []; note = long_note };
-    does = inr (inr (inl (passing bytes reported, refl)));
+    does = inr (inr (inl (passes_limit before.left after.left bytes reported stops, refl)));
     status = refl;
     note = refl;
     written = nothing_written before.held after.held kept;
   },
 )
-troubled before after trouble kept (inr wanting) = subst (λ (t : Option RelayFault). Ends Relay (relay_ending t) before after) (sym wanting) (kept, λ on. absurd on)
+troubled before after (Some Wanting) kept stops = (kept, λ on. absurd on)
+troubled before after None kept stops = (kept, λ on. absurd on)
 
 pub broken_sent : (before after : Devices) (first last : RelayValue) (fed now : Fed) (events : List Event) (read : List ℕ) → RelayRepresents first [] → first.trouble ≡ None → Keeps before.held after.held → Consumes before.left after.left read
     → Reported after.left fed now events read first last → Ends Relay (relay_ending last.trouble) before after
 broken_sent before after first last fed now events read fresh none kept took reported =
-    troubled before after last.trouble kept (too_long before.left after.left first last fed now events read fresh none took reported)
+    troubled before after last.trouble kept (broken_stops before.left after.left first last fed now events read fresh none took reported)
 
 -- a stream of what is relayed was written
 

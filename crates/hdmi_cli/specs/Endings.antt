@@ -40,6 +40,7 @@ use Rattle.hdmi_cli.specs.Listings.{Listing as ListingOf, link_listing, check_li
 use Rattle.hdmi_cli.specs.Notes.{listing_note, raster_note, capture_note, place_note, frames_note, long_note, usage_note, read_note, write_note, memory_note, alignment_note}
 use Rattle.hdmi_cli.specs.Outcome.{RunOutcome, Does, NamesNone}
 use Rattle.hdmi_cli.specs.Samples.{IsSampleCut, SampleEnds}
+use Rattle.hdmi_cli.specs.Taken.{StopsOf}
 use Rattle.command_line.specs.Commands.{IsCommand}
 use Rattle.command_line.specs.declared.command.Command.{Command}
 use Rattle.command_line.specs.declared.command.Command.TheVariants.{MakeLink, MakeContent, MakeDvi, RecoverLink, RecoverContent, RecoverTrack, RecoverBiphase, RecoverDvi, Check, Damage, Slip, ReadBiphase, Relay, Sample}
@@ -316,7 +317,7 @@ Ends command Usage before after = ⊥
 -- as there was no memory to read them. `sample` reads nothing
 abbrev pub RunEnds : List (List ℕ) → Ending → Devices → Devices → Type 0
 RunEnds words ending before after =
-    ((command : Command) × IsCommand words command × ReadsInput command × Ends command ending before after)
+    ((command : Command) × IsCommand words command × ReadsInput command × Ends command ending before after × StopsOf command ending before.left after.left before.held after.held)
     ⊎ ((frames : ℕ) × IsCommand words (Sample frames) × Keeps before.left after.left × SampleEnds frames ending before.held after.held before.output_faults after.output_faults)
     ⊎ (NamesNone words × (ending ≡ Usage) × Keeps before.left after.left × Keeps before.held after.held)
     ⊎ ((ending ≡ NoMemory) × Keeps before.left after.left × Keeps before.held after.held)

@@ -10,6 +10,7 @@ pub mod TrackText
 pub mod Samples
 pub mod Relays
 pub mod Outcome
+pub mod Taken
 pub mod Endings
 pub mod ListsCommands
 pub mod RunNotes
@@ -22,4 +23,5 @@ pub mod Pictures
 pub mod Sounds
 pub mod Exact
 pub mod RelaySettles
+pub mod RelayExamples
 pub mod Theorem

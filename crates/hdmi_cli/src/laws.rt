@@ -1,5 +1,6 @@
 //! That premises of the top call's clauses can be met, and that those on slips within a line leave none out. The functions do
 //! nothing: what they ensure are the laws.
+ghost use Rattle.hdmi_cli.specs.RelayExamples.{HasCleanCapture, HasRelayedTwice};
 ghost use Rattle.hdmi_cli.specs.TrackExamples.{HasNoticedSlip, HasShortSlip, HasUnlockedSlip};
 ghost use Rattle.hdmi_cli.specs.TrackPasses.{SlipsAreNoticedOrNot};
 
@@ -23,3 +24,15 @@ pub fn unlocked_slip()
 pub fn short_slip()
     ensures { HasShortSlip }
 {}
+
+/// A capture of which `check` says `clean`, and whose aligned columns end in a control period.
+pub fn clean_capture()
+    ensures { HasCleanCapture }
+{}
+
+/// A data island and a line that were relayed, and what is relayed of that capture.
+pub fn relayed_twice()
+    ensures { HasRelayedTwice }
+{
+    relay_laws::relayed_again();
+}

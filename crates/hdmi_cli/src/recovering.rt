@@ -4,6 +4,7 @@ ghost use Rattle.std.specs.Io.KnownBytes.{Consumes};
 ghost use Rattle.link_sink.specs.Pieces.{no_bits};
 ghost use Rattle.link_sink.specs.Streams.{StandsBy, most_bits};
 ghost use Rattle.hdmi_cli.specs.ListsCommands.{IsLists};
+ghost use Rattle.hdmi_cli.specs.Taken.{FramesStop};
 ghost use Rattle.hdmi_cli.specs.Endings.{Ends, frames_ending, heard_ending, judged_ending, seen};
 ghost use Rattle.command_line.specs.declared.command.Command.{Command as CommandValue};
 ghost use Rattle.command_line.specs.declared.command.Command.TheVariants.{RecoverLink, RecoverContent, RecoverBiphase, RecoverDvi, Check, ReadBiphase};
@@ -224,6 +225,7 @@ pub(crate) fn read_biphase<S: Source, K: Sink>(input: &mut S, output: &mut K) ->
     ensures ends { Ends ReadBiphase result
         (seen (S.left input.old) (S.faults input.old) (K.held output.old) (K.faults output.old))
         (seen (S.left input.new) (S.faults input.new) (K.held output.new) (K.faults output.new)) }
+    ensures stops { FramesStop result (S.left input.old) (S.left input.new) (K.held output.old) (K.held output.new) }
     ensures taken { (taken : List ℕ) × Consumes (S.left input.old) (S.left input.new) taken }
     ensures input_later { S.faults input.old ≤ S.faults input.new }
     ensures output_later { K.faults output.old ≤ K.faults output.new }

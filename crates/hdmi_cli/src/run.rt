@@ -8,6 +8,7 @@ ghost use Rattle.hdmi_cli.specs.Endings.{RunEnds, RunReadFailed, RunWriteFailed,
 ghost use Rattle.hdmi_cli.specs.Theorem.{Promises};
 ghost use Rattle.hdmi_cli.specs.RunNotes.{IsNoteOf};
 ghost use Rattle.hdmi_cli.specs.Samples.{IsSampleWritten};
+ghost use Rattle.hdmi_cli.specs.Taken.{EndsRefused, WantsMemory};
 ghost use Rattle.command_line.specs.Commands.{IsCommand};
 ghost use Rattle.command_line.specs.declared.command.Command.{Command as CommandValue};
 ghost use Rattle.command_line.specs.declared.command.Command.TheVariants.{Sample};
@@ -74,11 +75,15 @@ pub fn run<R: Threads, S: Source, K: Sink, N: Sink, G: Gate>(
 
     // What is read, and what is written where not all is. After a failed read exactly what is reported so far of the
     // whole blocks read is listed; after a failed write a part, and at least all that was reported before the last
-    // block read.
+    // block read. `read biphase` reads no further than shows that its input is refused, and `relay` no block more than that with
+    // which what it relays passes the limit; memory is wanting to it only while the limit is not passed.
     ensures ended { ((n : ℕ) → IsCommand words.now (Sample n) → ⊥) → Contains (0 ∷ 1 ∷ 7 ∷ []) result → IsAtEnd (S.left input.new) }
     ensures unread { result ≡ 2 → Keeps (S.left input.old) (S.left input.new) }
     ensures unwritten { Contains (2 ∷ 6 ∷ 7 ∷ []) result → Keeps (K.held output.old) (K.held output.new) }
     ensures refused { result ≡ 3 → (command : CommandValue) → IsCommand words.now command → WritesLast command → Keeps (K.held output.old) (K.held output.new) }
+    ensures refused_at { result ≡ 3 → (command : CommandValue) → IsCommand words.now command
+        → EndsRefused command (S.left input.old) (S.left input.new) (K.held output.old) (K.held output.new) }
+    ensures relay_memory { result ≡ 6 → IsCommand words.now RelayCommand → WantsMemory (S.left input.old) (S.left input.new) }
     ensures cut_short { result ≡ 4 → RunReadFailed words.now
         (seen (S.left input.old) (S.faults input.old) (K.held output.old) (K.faults output.old))
         (seen (S.left input.new) (S.faults input.new) (K.held output.new) (K.faults output.new)) }

@@ -7,6 +7,7 @@ ghost use Rattle.period_grammar.specs.Events.{Event};
 ghost use Rattle.relay.specs.Standing.{RelayRepresents};
 ghost use Rattle.hdmi_cli.specs.Endings.{Ends, RelayEnds, marked_end, relay_ending, seen};
 ghost use Rattle.hdmi_cli.specs.Relays.{whole_tap};
+ghost use Rattle.hdmi_cli.specs.Taken.{RelayStops};
 ghost use Rattle.command_line.specs.declared.command.Command.TheVariants.{Relay as RelayCommand};
 
 use crate::ending::Ending;
@@ -33,6 +34,7 @@ pub(crate) fn send_on<R: Threads, S: Source, K: Sink, G: Gate>(
     ensures ends { Ends RelayCommand result
         (seen (S.left input.old) (S.faults input.old) (K.held output.old) (K.faults output.old))
         (seen (S.left input.new) (S.faults input.new) (K.held output.new) (K.faults output.new)) }
+    ensures stops { RelayStops result (S.left input.old) (S.left input.new) }
     ensures taken { (taken : List ℕ) × Consumes (S.left input.old) (S.left input.new) taken }
     ensures input_later { S.faults input.old ≤ S.faults input.new }
     ensures output_later { K.faults output.old ≤ K.faults output.new }
@@ -58,6 +60,7 @@ fn send_lanes<R: Threads, S: Source, K: Sink, G: Gate>(
     ensures ends { Ends RelayCommand result
         (seen (S.left input.old) (S.faults input.old) (K.held output.old) (K.faults output.old))
         (seen (S.left input.new) (S.faults input.new) (K.held output.new) (K.faults output.new)) }
+    ensures stops { RelayStops result (S.left input.old) (S.left input.new) }
     ensures taken { (taken : List ℕ) × Consumes (S.left input.old) (S.left input.new) taken }
     ensures input_later { S.faults input.old ≤ S.faults input.new }
     ensures output_later { K.faults output.old ≤ K.faults output.new }

@@ -1,6 +1,7 @@
 -- What a relay keeps, one period more.
 use Rattle.std.proofs.Common.{◌⊎◌, inl, inr, Bool, true, false, min, take, ◌≡◌, ℕ, ◌+◌, ◌-◌, ◌^◌, ◌≤◌, max, List, [], ◌∷◌, ◌++◌, length, map, refl, ap, ap₂, sym, ◌∙◌, subst, arith, zero, suc}
-use Rattle.std.specs.Prelude.{Option, Some, None, Result, not, nat_le}
+use Rattle.std.specs.Prelude.{Option, Some, None, Result, Ok, Err, not, nat_le}
+use Rattle.std.specs.Result.{IsErrAnd}
 use Rattle.std.specs.List.{list_all, fold}
 use Rattle.std.proofs.lemmas.Bool.{and_parts, and_from, le-leb}
 use Rattle.std.proofs.lemmas.List.{append_assoc, map-append, length-map}
@@ -17,6 +18,7 @@ use Rattle.source_end.proofs.Gathered.{same_some}
 use Rattle.period_grammar.specs.Events.{Event}
 use Rattle.relay.specs.declared.relaying.Relay.{Relay}
 use Rattle.relay.specs.declared.relaying.RelayFault.{RelayFault}
+use Rattle.relay.specs.declared.relaying.RelayFault.TheVariants.{Long, NoMemory}
 use Rattle.relay.specs.Relayed.{Judged, Begun, WholeIsland, data_of, some_island, where_so, closed, sure, with_nulls, nulled, joined, with_packet, Data, a_line, an_island, Turn, Alternation, ended, on_turn, filled, lengthened, announcing, preamble_of, announced_turn, announced, on_values, period_of, settled, relayed}
 use Rattle.relay.specs.Changed.{changed_from}
 use Rattle.relay.specs.Handed.{Took}
@@ -200,6 +202,12 @@ pub closed_steps : {A : Type 0} (now : Relay) (r : Result A RelayFault) (t : Alt
     → ((x.packets ≡ [] → ⊥) → length x.packets ≤ 18 → Steps now r (ended t (an_island (record { opening = x.opening; packets = x.packets; closing = pair }))) None good)
     → Steps now r (fold joined t (nulled (closed pair b))) None good
 closed_steps now r t b good x pair e h p f g = grind (arith, some_or_none, closed_empty, closed_some, few_held)
+
+-- memory was wanting for what is not too long
+pub wanting_steps : {A : Type 0} (now : Relay) (r : Result A RelayFault) (t : Alternation) (b : Option Begun) (good : Bool) → IsErrAnd r (λ e. e ≡ NoMemory) → size t ≤ 20000000 → Steps now r t b good
+wanting_steps now (Ok a) t b good h few = absurd h
+wanting_steps now (Err Long) t b good h few = absurd (cc h)
+wanting_steps now (Err NoMemory) t b good h few = (tt, few)
 
 -- The stream.
 

@@ -2,6 +2,7 @@
 use Rattle.std.proofs.Common.{◌≡◌, ℕ, ◌<◌, ◌≤◌, Bool, true, false, ◌&&◌, not, List, [], ◌∷◌, ◌++◌, refl, ap, sym, ◌∙◌, subst, arith}
 use Rattle.std.specs.Prelude.{Option, Some, None, Result, Ok, Err, IfErr}
 use Rattle.std.specs.List.{fold}
+use Rattle.std.specs.Result.{IsErrAnd}
 use Rattle.std.proofs.lemmas.Bool.{and_from, lt-ltb, le-leb}
 use Rattle.std.proofs.lemmas.List.{append-nil}
 use Rattle.std.proofs.lemmas.List.Folds.{list_all-append}
@@ -16,11 +17,11 @@ use Rattle.period_grammar.specs.Events.{Event, run, line, cut, open_island, pack
 use Rattle.period_grammar.specs.Exact.{is_fault_event, faultless}
 use Rattle.relay.specs.declared.relaying.Relay.{Relay}
 use Rattle.relay.specs.declared.relaying.RelayFault.{RelayFault}
-use Rattle.relay.specs.declared.relaying.RelayFault.TheVariants.{Long}
+use Rattle.relay.specs.declared.relaying.RelayFault.TheVariants.{Long, NoMemory}
 use Rattle.relay.specs.Relayed.{Begun, Alternation, some_columns, some_line, a_line, where_so, with_packet, closed, ended, joined, without_faults, kept_from, nulled, relayed}
 use Rattle.relay.specs.Laws.{begun_after, begun_in, turns_in}
 use Rattle.relay.specs.Sizes.{size}
-use Rattle.relay.specs.Standing.{IsAt, RelayRepresents, IsTooLong}
+use Rattle.relay.specs.Standing.{IsAt, IsCause, Refuses, RelayRepresents}
 use Rattle.relay.proofs.Gaining.{gained}
 use Rattle.relay.proofs.Growing.{columns_settled}
 
@@ -45,11 +46,10 @@ faultless_more reported x = list_all-append (λ t. not (is_fault_event t)) repor
 pub stands_after : (relay : Relay) (reported : List Event) (x : Event) → IsAt relay (turns_after (turns_in reported) (begun_in reported) x) (island_after (begun_in reported) x) (good_after (faultless reported) x) → RelayRepresents relay (reported ++ x ∷ [])
 stands_after relay reported x h = grind (arith, gained, faultless_more)
 
-pub long_after : (reported : List Event) (x : Event) → 20000000 < size (turns_after (turns_in reported) (begun_in reported) x) → 20000000 < columns_of (relayed (reported ++ x ∷ []))
-long_after reported x h =
+columns_after : (reported : List Event) (x : Event) → columns_of (relayed (reported ++ x ∷ [])) ≡ size (turns_after (turns_in reported) (begun_in reported) x)
+columns_after reported x =
     let g = gained reported (x ∷ []) in
-    let e = ap columns_of (gained (reported ++ x ∷ []) []).relayed_is ∙ columns_settled (turns_in (reported ++ x ∷ [])) ∙ ap size g.turns in
-    omega arith
+    ap columns_of (gained (reported ++ x ∷ []) []).relayed_is ∙ columns_settled (turns_in (reported ++ x ∷ [])) ∙ ap size g.turns
 
 -- The events.
 
@@ -82,15 +82,21 @@ fault_turns t b (LongIsland column) = (refl, refl, refl)
 fault_turns t b (Broken column) = (refl, refl, refl)
 fault_turns t b (Guard column) = (refl, refl, refl)
 
--- a refusal for the length, asked of each reported list
-pub long_for_each : (r : Result Unit RelayFault) (old : Relay) (x : Event) → ((reported : List Event) → RelayRepresents old reported → IfErr r (λ fault. fault ≡ Long → 20000000 < columns_of (relayed (reported ++ x ∷ []))))
-    → IfErr r (λ fault. fault ≡ Long → IsTooLong old x)
-long_for_each (Ok u) old x h = tt
-long_for_each (Err f) old x h = λ e reported s. h reported s e
+-- a refusal, asked of each reported list
+pub cause_for_each : (r : Result Unit RelayFault) (old : Relay) (x : Event) → ((reported : List Event) → RelayRepresents old reported → IfErr r (λ fault. IsCause fault (columns_of (relayed (reported ++ x ∷ [])))))
+    → IfErr r (Refuses old x)
+cause_for_each (Ok u) old x h = tt
+cause_for_each (Err f) old x h = h
 
-pub if_err : (r : Result Unit RelayFault) (P Q : Type 0) → (P → Q) → IfErr r (λ fault. fault ≡ Long → P) → IfErr r (λ fault. fault ≡ Long → Q)
-if_err (Ok u) P Q f h = tt
-if_err (Err e) P Q f h = λ is. f (h is)
+pub if_err : (r : Result Unit RelayFault) (n m : ℕ) → n ≡ m → IfErr r (λ fault. IsCause fault m) → IfErr r (λ fault. IsCause fault n)
+if_err r n m same h = subst (λ k. IfErr r (λ fault. IsCause fault k)) (sym same) h
+
+-- memory was wanting for an event with which what is relayed is not too long
+pub wanting_refuses : (r : Result Unit RelayFault) (old : Relay) (x : Event) → IsErrAnd r (λ e. e ≡ NoMemory) → ((reported : List Event) → RelayRepresents old reported → columns_of (relayed (reported ++ x ∷ [])) ≤ 20000000)
+    → IfErr r (Refuses old x)
+wanting_refuses (Ok u) old x h few = tt
+wanting_refuses (Err Long) old x h few = absurd (cc h)
+wanting_refuses (Err NoMemory) old x h few = few
 
 and_yes : (a : Bool) → (a && true) ≡ a
 and_yes true = refl
@@ -139,6 +145,9 @@ moved relay reported x y t b good same e f g h =
     (subst (λ (c : Option Begun). IsAt relay t c (good_after (faultless reported) y)) (sym f)
     (subst (λ (q : Bool). IsAt relay t b q) (sym g) h))))
 
-pub moved_long : (reported : List Event) (x y : Event) (t : Alternation) → x ≡ y → turns_after (turns_in reported) (begun_in reported) y ≡ t → 20000000 < size t → 20000000 < columns_of (relayed (reported ++ x ∷ []))
-moved_long reported x y t same e h =
-    subst (λ z. 20000000 < columns_of (relayed (reported ++ z ∷ []))) (sym same) (long_after reported y (subst (λ (u : Alternation). 20000000 < size u) (sym e) h))
+pub moved_columns : (reported : List Event) (x y : Event) (t : Alternation) → x ≡ y → turns_after (turns_in reported) (begun_in reported) y ≡ t → columns_of (relayed (reported ++ x ∷ [])) ≡ size t
+moved_columns reported x y t same e = ap (λ z. columns_of (relayed (reported ++ z ∷ []))) same ∙ columns_after reported y ∙ ap size e
+
+-- what a relay keeps is not too long
+pub few_at : (relay : Relay) (t : Alternation) (b : Option Begun) (good : Bool) → IsAt relay t b good → size t ≤ 20000000
+few_at relay t b good at = let n = at.few in let m = at.columns in let k = at.period_columns in omega arith

@@ -1,5 +1,5 @@
 -- What a relay keeps of the events that were reported to it.
-use Rattle.std.specs.Prelude.{◌≡◌, ◌≤◌, ◌<◌, ◌⊎◌, ◌+◌, Bool, true, not, List, [], ◌∷◌, ◌++◌, map, take, length, max, Option, Some, None}
+use Rattle.std.specs.Prelude.{◌≡◌, ◌≤◌, ◌<◌, ℕ, ◌+◌, Bool, true, not, List, [], ◌∷◌, ◌++◌, map, take, length, max, Option, Some, None}
 use Rattle.std.specs.List.{list_all}
 use Rattle.outside_io.specs.Causes.{next}
 use Rattle.island_pack.specs.Periods.{SyncPair, DataIsland, columns_of}
@@ -10,6 +10,7 @@ use Rattle.period_grammar.specs.Exact.{faultless}
 use Rattle.source_end.specs.Gathering.{Has}
 use Rattle.source_end.specs.Raster.{Part}
 use Rattle.relay.specs.declared.relaying.Relay.{Relay}
+use Rattle.relay.specs.declared.relaying.RelayFault.{RelayFault}
 use Rattle.relay.specs.declared.relaying.RelayFault.TheVariants.{Long, NoMemory}
 use Rattle.relay.specs.Relayed.{Begun, sure, Turn, Alternation, on_turn, filled, lengthened, announced_turn, relayed}
 use Rattle.relay.specs.Laws.{begun_in, turns_in}
@@ -52,13 +53,18 @@ RelayRepresents relay reported = IsAt relay (turns_in reported) (begun_in report
 abbrev pub Took : Relay → Relay → List Event → Type 0
 Took x y events = ((reported : List Event) → RelayRepresents x reported → RelayRepresents y (reported ++ events)) × (y.trouble ≡ x.trouble)
 
--- an event that makes what is relayed too long
-abbrev pub IsTooLong : Relay → Event → Type 0
-IsTooLong x event = (reported : List Event) → RelayRepresents x reported → 20000000 < columns_of (relayed (reported ++ event ∷ []))
+-- why so many columns are not relayed: for their number exactly where they are too many
+abbrev pub IsCause : RelayFault → ℕ → Type 0
+IsCause Long columns = 20000000 < columns
+IsCause NoMemory columns = columns ≤ 20000000
 
--- from the first state, without trouble, to the second it failed at this event: it would be too long, or memory was wanting
+-- why an event is refused: with it what is relayed is too long, or it is not, and memory was wanting
+abbrev pub Refuses : Relay → Event → RelayFault → Type 0
+Refuses x event fault = (reported : List Event) → RelayRepresents x reported → IsCause fault (columns_of (relayed (reported ++ event ∷ [])))
+
+-- from the first state, without trouble, to the second it failed at this event
 abbrev pub Broke : Relay → Relay → Event → Type 0
-Broke x y event = x.trouble ≡ None → ((y.trouble ≡ Some Long) × IsTooLong x event) ⊎ (y.trouble ≡ Some NoMemory)
+Broke x y event = x.trouble ≡ None → (fault : RelayFault) × (y.trouble ≡ Some fault) × Refuses x event fault
 
 -- only its count of failures is another
 abbrev pub counted_again : Relay → Relay

@@ -4,5 +4,7 @@
 mod packets;
 mod relaying;
 mod settling;
+#[cfg(test)]
+mod tests;
 
 pub use relaying::{Relay, RelayFault};

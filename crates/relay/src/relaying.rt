@@ -9,12 +9,11 @@ ghost use Rattle.period_grammar.specs.Events.{Event, line};
 ghost use Rattle.period_grammar.specs.Lending.{lent_event};
 ghost use Rattle.period_grammar.specs.Sizes.{IsSized};
 ghost use Rattle.relay.specs.declared.relaying.RelayFault.{RelayFault};
-ghost use Rattle.relay.specs.declared.relaying.RelayFault.TheVariants.{Long};
 ghost use Rattle.source_end.specs.Pairs.{pair_of};
 ghost use Rattle.relay.specs.Relayed.{Begun, Judged, Alternation, a_line, an_island, ended, joined, some_columns, filled, lengthened, with_packet, closed, nulled, relayed};
 ghost use Rattle.relay.specs.Changed.{changed_from};
 ghost use Rattle.relay.specs.Sizes.{size};
-ghost use Rattle.relay.specs.Standing.{IsAt, RelayRepresents, Took, Broke, IsTooLong, counted_again};
+ghost use Rattle.relay.specs.Standing.{IsAt, RelayRepresents, Took, Broke, Refuses, counted_again};
 ghost use Rattle.relay.specs.Steps.{Steps, IsSettled};
 
 use crate::packets::sent_on;
@@ -246,7 +245,7 @@ impl Relay {
     fn take_in(&mut self, event: EventRef<'_>) -> Result<(), RelayFault>
         requires { IsSized (lent_event event) }
         ensures stands { (events : List Event) → RelayRepresents self.old events → OnOk result (RelayRepresents self.new (events ++ lent_event event.entry ∷ [])) }
-        ensures long { IfErr result (λ fault. fault ≡ Long → IsTooLong self.old (lent_event event.entry)) }
+        ensures refused { IfErr result (Refuses self.old (lent_event event.entry)) }
         ensures same { (self.new.trouble ≡ self.old.trouble) × (self.new.faults ≡ self.old.faults) }
     {
         match event {

@@ -9,6 +9,7 @@ use Rattle.hdmi_cli.proofs.RelayAgain.{relay_again}
 use Rattle.hdmi_cli.proofs.RelayClean.{relay_passes}
 use Rattle.hdmi_cli.proofs.RelayHeadline.{relay_headlined}
 use Rattle.hdmi_cli.proofs.RelaySettles.{relay_agrees, relay_settles}
+use Rattle.hdmi_cli.proofs.Taken.{run_refused, run_wants}
 use Rattle.hdmi_cli.proofs.TrackHeadline.{tracks_as_link}
 use Rattle.hdmi_cli.proofs.TrackSlip.{tracked_across}
 use Rattle.hdmi_cli.proofs.TrackPasses.{tracked_as_one}
@@ -40,6 +41,8 @@ returns g c =
       unread = s.unread;
       unwritten = s.unwritten;
       refused = s.refused;
+      refused_at = run_refused words ending before after status ends known;
+      relay_memory = run_wants words ending before after status ends known;
       cut_short = s.cut_short;
       part = s.part;
       sampled = s.sampled;

@@ -6,6 +6,8 @@ use Rattle.hdmi_cli.specs.declared.ending.Ending.{Ending}
 use Rattle.hdmi_cli.specs.declared.ending.Ending.TheVariants.{Capture}
 use Rattle.hdmi_cli.proofs.Ends.{keeps_itself}
 use Rattle.hdmi_cli.proofs.Relaying.{heard_sent, nowhere_sent, refused_sent, broken_sent}
+use Rattle.hdmi_cli.specs.Taken.{RelayStops}
+use Rattle.hdmi_cli.proofs.Taken.{broken_stops, heard_stops, refused_stops}
 use Rattle.hdmi_cli.proofs.sending.send_lanes.Goals as goal
 
 pub write_relayed-requires : goal.write_relayed-requires
@@ -42,6 +44,30 @@ returns-clause-ends g c =
     let b = c.in-Err-Ear.ensures.broken c.in-Err-Ear.field-0-is in
     subst (λ (e : Ending). Ends Relay e before after) (sym (c.untaken.ensures ∙ ap relay_ending c.trouble.ensures))
     (broken_sent before after c.open-relay.result c.hear_capture.new.ear b.1 b.2 b.3 b.4 c.open-relay.ensures.stands c.open-relay.ensures.trouble (keeps_itself (g.K.Sink.held c.args.output.now)) b.5 b.6)
+
+pub returns-in-Ok-clause-stops : goal.returns-in-Ok-clause-stops
+returns-in-Ok-clause-stops g c =
+    let before = seen (g.S.Source.left c.args.input.now) (g.S.Source.faults c.args.input.now) (g.K.Sink.held c.args.output.now) (g.K.Sink.faults c.args.output.now) in
+    let after = seen (g.S.Source.left c.hear_capture.new.input) (g.S.Source.faults c.hear_capture.new.input) (g.K.Sink.held c.write_relayed.new.output) (g.K.Sink.faults c.write_relayed.new.output) in
+    let heard = c.in-Ok.ensures.heard in
+    let stands = heard.3.0 [] c.open-relay.ensures.stands in
+    heard_stops heard.0 c.in-Ok.heard heard.1 c.hear_capture.new.ear c.write_relayed.result before after heard.2 c.if-heard.true heard.4 (search rules) stands (c.write_relayed.ensures.ends heard.1 stands)
+
+pub returns-in-Err-Bad-clause-stops : goal.returns-in-Err-Bad-clause-stops
+returns-in-Err-Bad-clause-stops g c =
+    let from = g.S.Source.left c.args.input.now in
+    let left = g.S.Source.left c.hear_capture.new.input in
+    subst (λ (f : CaptureFault). RelayStops (Capture f) from left) (sym c.in-Err-Bad.fault-is)
+    (refused_stops c.in-Err-Bad.fault c.open-relay.result c.hear_capture.new.ear from left c.open-relay.ensures.stands
+    (λ bytes reported. c.in-Err-Bad.ensures.bad bytes c.in-Err-Bad.fault reported c.in-Err-Bad.field-0-is))
+
+pub returns-clause-stops : goal.returns-clause-stops
+returns-clause-stops g c =
+    let from = g.S.Source.left c.args.input.now in
+    let left = g.S.Source.left c.hear_capture.new.input in
+    let b = c.in-Err-Ear.ensures.broken c.in-Err-Ear.field-0-is in
+    subst (λ (e : Ending). RelayStops e from left) (sym (c.untaken.ensures ∙ ap relay_ending c.trouble.ensures))
+    (broken_stops from left c.open-relay.result c.hear_capture.new.ear b.1 b.2 b.3 b.4 c.open-relay.ensures.stands c.open-relay.ensures.trouble b.5 b.6)
 
 pub returns-in-Ok-clause-taken : goal.returns-in-Ok-clause-taken
 returns-in-Ok-clause-taken g c = c.hear_capture.ensures.taken

@@ -6,12 +6,34 @@ use Rattle.relay.specs.Sizes.{size}
 use Rattle.relay.specs.Standing.{IsAt}
 use Rattle.relay.specs.declared.relaying.Relay.{Relay}
 use Rattle.relay.proofs.Growing.{size_ended}
-use Rattle.relay.proofs.Going.{at_ended}
+use Rattle.relay.proofs.Going.{at_ended, wanting_steps}
 use Rattle.relay.proofs.relaying.Relay.line.Goals as goal
 
 pub returns-then-is_long-clause-steps : goal.returns-then-is_long-clause-steps
 unfolding period_columns
 returns-then-is_long-clause-steps c t b good h = grind (arith, size_ended, ltb-true)
+
+pub returns-in_err-settle-clause-steps : goal.returns-in_err-settle-clause-steps
+unfolding period_columns
+returns-in_err-settle-clause-steps c t b good h =
+    let d = a_line c.args.pixels.now in
+    let n = h.period_columns in
+    let m = h.columns in
+    let s = size_ended t d in
+    let l = ltb-false _ _ (sym c.is_long.ensures ∙ c.if-is_long.false) in
+    let k = c.line_columns-columns.ensures in
+    wanting_steps c.settle.new.self c.from_residual.result (ended t d) None good c.from_residual.ensures.1 (omega arith)
+
+pub returns-in_err-row-clause-steps : goal.returns-in_err-row-clause-steps
+unfolding period_columns
+returns-in_err-row-clause-steps c t b good h =
+    let d = a_line c.args.pixels.now in
+    let n = h.period_columns in
+    let m = h.columns in
+    let s = size_ended t d in
+    let l = ltb-false _ _ (sym c.is_long.ensures ∙ c.if-is_long.false) in
+    let k = c.line_columns-columns.ensures in
+    wanting_steps (record { whole = c.row.new.self; period = c.settle.new.self.period; period_columns = c.settle.new.self.period_columns; columns = c.settle.new.self.columns; island = c.settle.new.self.island; faulty = c.settle.new.self.faulty; trouble = c.settle.new.self.trouble; faults = c.settle.new.self.faults }) c.from_residual-in_err-row.result (ended t d) None good c.from_residual-in_err-row.ensures.1 (omega arith)
 
 pub returns-clause-steps : goal.returns-clause-steps
 unfolding period_columns

@@ -1,4 +1,4 @@
-use Rattle.std.proofs.Common.{◌≡◌, None, true, false, refl, ap, subst}
+use Rattle.std.proofs.Common.{◌≡◌, None, arith, true, false, refl, ap, subst}
 use Rattle.period_grammar.specs.Events.{run, line, cut, open_island, packet, close_island}
 use Rattle.period_grammar.specs.Lending.{lent_event}
 use Rattle.period_grammar.specs.Faults.{fault_event}
@@ -10,7 +10,7 @@ use Rattle.relay.specs.declared.relaying.Relay.{Relay}
 use Rattle.relay.specs.Laws.{turns_in, begun_in}
 use Rattle.relay.specs.Standing.{IsAt}
 use Rattle.relay.proofs.Fits.{line_reported}
-use Rattle.relay.proofs.Moving.{run_turns, line_turns, close_turns, fault_turns, no_fault, some_fault, run_island, line_island, open_after, packet_after, close_island_after, cut_after, moved, moved_long, long_for_each, if_err}
+use Rattle.relay.proofs.Moving.{run_turns, line_turns, close_turns, fault_turns, no_fault, some_fault, run_island, line_island, open_after, packet_after, close_island_after, cut_after, moved, moved_columns, few_at, cause_for_each, if_err, wanting_refuses}
 use Rattle.relay.proofs.relaying.Relay.take_in.Goals as goal
 
 pub returns-in-Run-clause-stands : goal.returns-in-Run-clause-stands
@@ -23,15 +23,15 @@ returns-in-Run-clause-stands c events s =
     let steps = c.run.ensures.steps (turns_in events) b good s in
     on_ok c.run.result _ _ (λ at. moved c.run.new.self events (lent_event c.args.event) x _ None good e (run_turns (turns_in events) b c.in-Run.value c.in-Run.count sized.0 sized.1) (run_island b c.in-Run.value c.in-Run.count) (no_fault good x refl) at) steps.0
 
-pub returns-in-Run-clause-long : goal.returns-in-Run-clause-long
-returns-in-Run-clause-long c =
+pub returns-in-Run-clause-refused : goal.returns-in-Run-clause-refused
+returns-in-Run-clause-refused c =
     let x = run c.in-Run.value c.in-Run.count in
     let e : lent_event c.args.event ≡ x = ap lent_event c.in-Run.is in
     let sized : IsSized x = subst IsSized e c.requires in
-    long_for_each c.run.result c.args.self.now (lent_event c.args.event)
+    cause_for_each c.run.result c.args.self.now (lent_event c.args.event)
     (λ events s.
     let b = begun_in events in
-    if_err c.run.result _ _ (λ big. moved_long events (lent_event c.args.event) x _ e (run_turns (turns_in events) b c.in-Run.value c.in-Run.count sized.0 sized.1) big) (c.run.ensures.steps (turns_in events) b (faultless events) s).1)
+    if_err c.run.result _ _ (moved_columns events (lent_event c.args.event) x _ e (run_turns (turns_in events) b c.in-Run.value c.in-Run.count sized.0 sized.1)) (c.run.ensures.steps (turns_in events) b (faultless events) s).1)
 
 pub returns-in-Line-clause-stands : goal.returns-in-Line-clause-stands
 returns-in-Line-clause-stands c events s =
@@ -43,15 +43,15 @@ returns-in-Line-clause-stands c events s =
     let steps = c.line.ensures.steps (turns_in events) b good s in
     on_ok c.line.result _ _ (λ at. moved c.line.new.self events (lent_event c.args.event) x _ None good e (line_turns (turns_in events) b c.in-Line.pixels.now (line_reported c.in-Line.pixels.now sized)) (line_island b c.in-Line.pixels.now) (no_fault good x refl) at) steps.0
 
-pub returns-in-Line-clause-long : goal.returns-in-Line-clause-long
-returns-in-Line-clause-long c =
+pub returns-in-Line-clause-refused : goal.returns-in-Line-clause-refused
+returns-in-Line-clause-refused c =
     let x = line c.in-Line.pixels.now in
     let e : lent_event c.args.event ≡ x = ap lent_event c.in-Line.is in
     let sized : IsSized x = subst IsSized e c.requires in
-    long_for_each c.line.result c.args.self.now (lent_event c.args.event)
+    cause_for_each c.line.result c.args.self.now (lent_event c.args.event)
     (λ events s.
     let b = begun_in events in
-    if_err c.line.result _ _ (λ big. moved_long events (lent_event c.args.event) x _ e (line_turns (turns_in events) b c.in-Line.pixels.now (line_reported c.in-Line.pixels.now sized)) big) (c.line.ensures.steps (turns_in events) b (faultless events) s).1)
+    if_err c.line.result _ _ (moved_columns events (lent_event c.args.event) x _ e (line_turns (turns_in events) b c.in-Line.pixels.now (line_reported c.in-Line.pixels.now sized))) (c.line.ensures.steps (turns_in events) b (faultless events) s).1)
 
 pub returns-in-Close-clause-stands : goal.returns-in-Close-clause-stands
 returns-in-Close-clause-stands c events s =
@@ -63,15 +63,15 @@ returns-in-Close-clause-stands c events s =
     let steps = c.close.ensures.steps (turns_in events) b good s in
     on_ok c.close.result _ _ (λ at. moved c.close.new.self events (lent_event c.args.event) x _ None good e (close_turns (turns_in events) b (slice_index c.in-Close.sync 0) (slice_index c.in-Close.sync 1)) (close_island_after b (slice_index c.in-Close.sync 0) (slice_index c.in-Close.sync 1)) (no_fault good x refl) at) steps.0
 
-pub returns-in-Close-clause-long : goal.returns-in-Close-clause-long
-returns-in-Close-clause-long c =
+pub returns-in-Close-clause-refused : goal.returns-in-Close-clause-refused
+returns-in-Close-clause-refused c =
     let x = close_island (slice_index c.in-Close.sync 0) (slice_index c.in-Close.sync 1) in
     let e : lent_event c.args.event ≡ x = ap lent_event c.in-Close.is in
     let sized : IsSized x = subst IsSized e c.requires in
-    long_for_each c.close.result c.args.self.now (lent_event c.args.event)
+    cause_for_each c.close.result c.args.self.now (lent_event c.args.event)
     (λ events s.
     let b = begun_in events in
-    if_err c.close.result _ _ (λ big. moved_long events (lent_event c.args.event) x _ e (close_turns (turns_in events) b (slice_index c.in-Close.sync 0) (slice_index c.in-Close.sync 1)) big) (c.close.ensures.steps (turns_in events) b (faultless events) s).1)
+    if_err c.close.result _ _ (moved_columns events (lent_event c.args.event) x _ e (close_turns (turns_in events) b (slice_index c.in-Close.sync 0) (slice_index c.in-Close.sync 1))) (c.close.ensures.steps (turns_in events) b (faultless events) s).1)
 
 pub returns-in-Open-clause-stands : goal.returns-in-Open-clause-stands
 returns-in-Open-clause-stands c events s =
@@ -90,6 +90,18 @@ returns-in_ok-packet-in-Packet-clause-stands c events s =
     let both = packet_after (turns_in events) (begun_in events) p v c.in-Packet.column in
     let good = faultless events in
     moved c.packet.new.self events (lent_event c.args.event) x _ _ good (ap lent_event c.in-Packet.is) both.0 both.1 (no_fault good x refl) (c.in_ok-packet-in-Packet.ensures.at (turns_in events) (begun_in events) good s)
+
+pub returns-in_err-packet-in-Packet-clause-refused : goal.returns-in_err-packet-in-Packet-clause-refused
+returns-in_err-packet-in-Packet-clause-refused c =
+    let p = c.in-Packet.packet.packet.now in
+    let v = c.in-Packet.packet.verdicts.now in
+    let x = packet p v c.in-Packet.column in
+    wanting_refuses c.from_residual.result c.args.self.now (lent_event c.args.event) c.from_residual.ensures.1
+    (λ events s.
+    let both = packet_after (turns_in events) (begun_in events) p v c.in-Packet.column in
+    let same = moved_columns events (lent_event c.args.event) x (turns_in events) (ap lent_event c.in-Packet.is) both.0 in
+    let few = few_at c.args.self.now (turns_in events) (begun_in events) (faultless events) s in
+    omega (arith, same, few))
 
 pub returns-in-Fault-clause-stands : goal.returns-in-Fault-clause-stands
 returns-in-Fault-clause-stands c events s =
