@@ -11,7 +11,7 @@ ghost use Rattle.hdmi_cli.specs.Samples.{IsSampleWritten};
 ghost use Rattle.hdmi_cli.specs.Taken.{EndsRefused, WantsMemory};
 ghost use Rattle.command_line.specs.Commands.{IsCommand};
 ghost use Rattle.command_line.specs.declared.command.Command.{Command as CommandValue};
-ghost use Rattle.command_line.specs.declared.command.Command.TheVariants.{Sample};
+ghost use Rattle.command_line.specs.declared.command.Command.TheVariants.{Relay as RelayCommand, Sample};
 
 use crate::Words;
 use crate::copying::{damage, slip};
