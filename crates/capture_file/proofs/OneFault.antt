@@ -243,12 +243,14 @@ one_way bytes place taken took x y z u v w a b le =
     (begin_below j k (packed x) (packed y) (packed z) (packed u) (packed v) (packed w) le lanes rests) in
     let nx = a.read.count_x in
     let ny = a.read.count_y in
-    let nz = a.read.count_z in
-    (same, record {
-      blue = lane_same x u j (omega (arith, nx)) blue below.first;
-      green = lane_same y v j (omega (arith, ny)) green below.second;
-      red = lane_same z w j (omega (arith, nz)) red below.third;
-    })
+    let nz = a.read.count_z in (
+      same,
+      record {
+        blue = lane_same x u j (omega (arith, nx)) blue below.first;
+        green = lane_same y v j (omega (arith, ny)) green below.second;
+        red = lane_same z w j (omega (arith, nz)) red below.third;
+      },
+    )
 
 pub one_reading : OneReading
 one_reading bytes place taken took x y z u v w a b = elim (cases_lt b.block a.block) [
