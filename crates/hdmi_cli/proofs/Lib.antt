@@ -28,3 +28,4 @@ pub mod RelayClean
 pub mod RelayAgain
 pub mod RelaySettles
 pub mod RelayExamples
+pub mod Local

@@ -8,6 +8,7 @@ use Rattle.source_end.specs.Content.{Frame}
 use Rattle.source_end.specs.Raster.{raster_of}
 use Rattle.source_end.specs.RasterRefusals.{raster_fault}
 use Rattle.hdmi_cli.specs.Headline.{TappedStream, IsTapped, AlignsBy, IsFirstOf, IsRecovered, IsRecoveredBy, Aligns, FromFirst, IsDviTapped, IsDviRecovered}
+use Rattle.hdmi_cli.specs.Local.{IsTappedUntil, IsHeardBy}
 use Rattle.hdmi_cli.specs.TrackSlip.{LineSlip, IsSlippedTap, IsNoticed, IsTrackedAcross}
 use Rattle.hdmi_cli.specs.TrackPasses.{IsUnnoticed, IsTrackedAsOne}
 use Rattle.hdmi_cli.specs.RelayClauses.{IsCleanToEnd, IsPassedOn, IsRelayedAgain, IsSentWithin}
@@ -39,6 +40,12 @@ pub record Promises (words : List (List ℕ)) (status : ℕ) (before after : Dev
   pub headline_anywhere : IsCommand words RecoverLink → (t : TappedStream) → IsTapped t
     → (until : ℕ) → AlignsBy t until → before.left ≡ Some t.bytes
     → Unless (IsRecoveredBy link_listing t until) status before after
+
+  -- Whatever is received after that column: each line and each island that was received with few words damaged, after twelve
+  -- control columns and before one, is reported as its row, and has its lines in what `recover link` writes.
+  pub headline_local : IsCommand words RecoverLink → (t : TappedStream) → (until : ℕ) → IsTappedUntil t until → AlignsBy t until
+    → before.left ≡ Some t.bytes
+    → Unless (IsHeardBy link_listing t until) status before after
 
   -- `check` of a capture with a first full alignment ends with `clean`, and the status is 0, where some conforming sender
   -- could have sent the aligned columns before the cut, and with `faulty`, and it is 1, where none could.

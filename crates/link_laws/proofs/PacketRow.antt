@@ -24,11 +24,11 @@ use Rattle.link_laws.proofs.WrongBits.{header_wrong, body_wrong, IsFlipped, same
 -- Blocks.
 
 -- the verdict under which the bits are taken as the bytes
-record IsMended (x : List Bool) (bytes : List ℕ) : Type 0 where
-  verdict : Verdict
-  taken : IsTaken x bytes verdict
+pub record IsMended (x : List Bool) (bytes : List ℕ) : Type 0 where
+  pub verdict : Verdict
+  pub taken : IsTaken x bytes verdict
 
-sent_block : (s x : List Bool) (bytes : List ℕ) → x ≡ s → BeginsWith s bytes → IsMended x bytes
+pub sent_block : (s x : List Bool) (bytes : List ℕ) → x ≡ s → BeginsWith s bytes → IsMended x bytes
 sent_block s x bytes e b = subst (λ y. IsMended y bytes) (sym e) (record { verdict = Clean; taken = record { found = b.block; begins = sym b.begins } })
 
 flipped_block : (s x : List Bool) (bytes : List ℕ) → length bytes ≤ 7 → IsFlipped s x → BeginsWith s bytes → IsMended x bytes
@@ -48,21 +48,21 @@ mended_block s x bytes few same wrong b = elim (same_or_flipped s x same wrong) 
 
 -- Of one length.
 
-length-header : (ss rs : List Column) → length rs ≡ length ss → length (header_bits (map column_words rs)) ≡ length (header_bits (map column_words ss))
+pub length-header : (ss rs : List Column) → length rs ≡ length ss → length (header_bits (map column_words rs)) ≡ length (header_bits (map column_words ss))
 unfolding header_bits nibbles_of
 length-header [] [] e = refl
 length-header [] (r ∷ rs) e = absurd (omega arith)
 length-header (s ∷ ss) [] e = absurd (omega arith)
 length-header (s ∷ ss) (r ∷ rs) e = ap suc (length-header ss rs (omega arith))
 
-length-body : (b : ℕ) (ss rs : List Column) → length rs ≡ length ss → length (body_bits (map column_words rs) b) ≡ length (body_bits (map column_words ss) b)
+pub length-body : (b : ℕ) (ss rs : List Column) → length rs ≡ length ss → length (body_bits (map column_words rs) b) ≡ length (body_bits (map column_words ss) b)
 unfolding body_bits nibbles_of by_turns
 length-body b [] [] e = refl
 length-body b [] (r ∷ rs) e = absurd (omega arith)
 length-body b (s ∷ ss) [] e = absurd (omega arith)
 length-body b (s ∷ ss) (r ∷ rs) e = ap (λ n. suc (suc n)) (length-body b ss rs (omega arith))
 
-length-body_of : (p : Packet) (b : ℕ) → length p.bodies ≡ 28 → b < 4 → length (body_of p b) ≡ 7
+pub length-body_of : (p : Packet) (b : ℕ) → length p.bodies ≡ 28 → b < 4 → length (body_of p b) ≡ 7
 length-body_of p b long lt = length-take-le 7 (drop (7 * b) p.bodies) (omega (arith, long, lt, length-drop (7 * b) p.bodies))
 
 -- Sync values.
@@ -74,7 +74,7 @@ sync_of_sent [] (r ∷ rs) e = absurd (omega arith)
 sync_of_sent (s ∷ ss) [] e = absurd (omega arith)
 sync_of_sent (s ∷ ss) (r ∷ rs) e = grind (arith, eqb-true, sync_of_sent ss rs)
 
-sync_taken : (p : Packet) (first : Bool) (ss rs : List Column) → CarriesFreely p (map column_words ss) → length rs ≡ length ss → sync_row p.sync ss rs ≡ sync_values (map column_words rs)
+pub sync_taken : (p : Packet) (first : Bool) (ss rs : List Column) → CarriesFreely p (map column_words ss) → length rs ≡ length ss → sync_row p.sync ss rs ≡ sync_values (map column_words rs)
 sync_taken p first ss rs carries same = ap (λ vs. sync_row vs ss rs) (sym carries.sync) ∙ sync_of_sent ss rs same
 
 -- Packets.
@@ -100,7 +100,7 @@ bodies_taken ws p v0 v1 v2 v3 header t0 t1 t2 t3 (suc (suc (suc zero))) lt = t3
 bodies_taken ws p v0 v1 v2 v3 header t0 t1 t2 t3 (suc (suc (suc (suc b)))) lt = absurd (omega arith)
 
 -- a packet whose blocks are taken as its bytes is the one that is computed
-by_blocks : (p : Packet) (ws : List (List ℕ)) → IsPacket p → length ws ≡ 32
+pub by_blocks : (p : Packet) (ws : List (List ℕ)) → IsPacket p → length ws ≡ 32
     → IsMended (body_bits ws 0) (body_of p 0) → IsMended (body_bits ws 1) (body_of p 1)
     → IsMended (body_bits ws 2) (body_of p 2) → IsMended (body_bits ws 3) (body_of p 3)
     → IsMended (header_bits ws) p.header

@@ -1,0 +1,9 @@
+use Rattle.link_laws.proofs.Noticed.{noticed_reported}
+use Rattle.link_laws.proofs.WrongBits.{few_on_lanes}
+use Rattle.link_laws.proofs.link.noticed_reported.Goals as goal
+
+pub returns-clause-reported : goal.returns-clause-reported
+returns-clause-reported c = noticed_reported
+
+pub returns-clause-few : goal.returns-clause-few
+returns-clause-few c = few_on_lanes
