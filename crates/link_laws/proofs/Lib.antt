@@ -41,5 +41,6 @@ pub mod CleanReceived
 pub mod Local
 pub mod LocalLanes
 pub mod FewWrong
+pub mod LocalExample
 pub mod Noticed
 pub mod LocalStream

@@ -9,7 +9,7 @@ use Rattle.lane_deskew.specs.Aligned.{aligned_columns}
 use Rattle.island_pack.specs.Periods.{DataIsland, Period, control, video, island, period_columns, columns_of}
 use Rattle.island_pack.specs.Conforming.{is_video_period, is_data_island, IsConforming}
 use Rattle.island_pack.specs.Spelling.{SpellsBy, freely}
-use Rattle.island_pack.specs.Sparse.{IsNarrow, column_at, IsSparse}
+use Rattle.island_pack.specs.Sparse.{IsNarrow, column_at, unlike_at, IsSparse}
 use Rattle.period_grammar.specs.Events.{Event, event_of, all_at, reported_before}
 use Rattle.period_grammar.specs.Heard.{other_words, heard_so_far, heard}
 use Rattle.link_laws.specs.Freely.{PeriodReceivedFreely}
@@ -113,3 +113,22 @@ AlignedWhateverFollows =
     → (p q r : ℕ) × IsFirst x y z p q r
     × ((a : ℕ) × EndsControl ps (a + 11) × (a + 12 ≤ f) × BeginColumn offset skews (a + 12) p q r
     × (aligned_columns x y z p q r ≡ take (length (aligned_columns x y z p q r)) (drop a received)))
+
+-- Examples.
+
+-- periods of which one stands alone, and a column before it, after the alignment, of which no word was received as it was
+-- sent; and the columns of the tap go on past that period, wherever in them the first full alignment is
+pub record IsLocalExample (front : List Period) (p : Period) (back : List Period) (sent received : List Column) (counts : List ℕ) (until : ℕ) (x y z : List Bool) : Type 0 where
+  pub reception : ReceivedUntil (front ++ (p ∷ back)) sent received until
+  pub tapped : IsTap received 7 (0 ∷ 70 ∷ 35 ∷ []) counts x y z
+  pub aligns : AlignsUntil (front ++ (p ∷ back)) sent received 7 (0 ∷ 70 ∷ 35 ∷ []) counts until
+  pub damaged : (i : ℕ) × (until < i) × (i < columns_of front) × (unlike_at sent received i ≡ 3)
+  pub between : is_between p ≡ true
+  pub alone : StandsAlone received p sent (columns_of front)
+  pub later : until ≤ columns_of front
+  pub within : (a d e f : ℕ) → BeginColumn 7 (0 ∷ 70 ∷ 35 ∷ []) (a + 12) d e f → columns_of front + period_columns p < a + length (aligned_columns x y z d e f)
+
+abbrev pub HasLocalExample : Type 0
+HasLocalExample =
+    (front : List Period) × (p : Period) × (back : List Period) × (sent received : List Column) × (counts : List ℕ) × (until : ℕ) × (x y z : List Bool)
+    × IsLocalExample front p back sent received counts until x y z

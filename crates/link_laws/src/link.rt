@@ -9,7 +9,7 @@ ghost use Rattle.link_laws.specs.Calm.{LanesAreCalm};
 ghost use Rattle.link_laws.specs.Exact.{CleanIsFront, FrontIsClean, CheckIsExact};
 ghost use Rattle.link_sink.specs.Sinks.{SomeReported, OneReported};
 ghost use Rattle.link_laws.specs.Freely.{FramingStandsFreely, PeriodsStandFreely, LinkLawFreely, ControlLawFreely, VideoLawFreely, IslandLawFreely, JoiningLawFreely, AccountLiteralFreely, EdgesEndFreely, FirstEndsFreely, FirstUntilFreely, TapAccountedFreely, PayloadAccountedFreely, CleanReceived};
-ghost use Rattle.link_laws.specs.Local.{VideoAnywhere, IslandAnywhere, IslandClosesAnywhere, RowAnywhere, StreamAnywhere, AlignedWhateverFollows};
+ghost use Rattle.link_laws.specs.Local.{VideoAnywhere, IslandAnywhere, IslandClosesAnywhere, RowAnywhere, StreamAnywhere, AlignedWhateverFollows, HasLocalExample};
 ghost use Rattle.link_laws.specs.Noticed.{Noticed, NoticedReported, FewOnLanes};
 ghost use Rattle.link_laws.specs.Growth.{ReportedGrows, WholeGrows, LinkIsGrammar};
 
@@ -225,6 +225,12 @@ pub fn stream_anywhere()
 /// first full alignment is the end of one control period at or before it, whatever is received after.
 pub fn aligned_whatever_follows()
     ensures { AlignedWhateverFollows }
+{}
+
+/// The premises of the last two are met together, with a column after the alignment of which no word was received as it was
+/// sent, and skews of 0, 70 and 35.
+pub fn has_local_example()
+    ensures { HasLocalExample }
 {}
 
 /// A packet with at most three damaged words on lane 0 and three on the others is reported with a fault, or as it was sent.
