@@ -64,12 +64,13 @@ pub record Promises (words : List (List ℕ)) (status : ℕ) (before after : Dev
     → before.left ≡ Some t.bytes
     → Unless (λ status held holds. FromFirst t (λ d e f a. ArePictures mode frames t d e f a held holds)) status before after
 
-  -- And of every stream exactly the packets that were received whole, each with at most one damaged word as it was sent.
+  -- And of every stream exactly the packets that were received whole, each with at most one damaged word, or few and no fault,
+  -- as it was sent.
   pub packets : IsCommand words RecoverContent → (t : TappedStream) → IsTapped t → Aligns t → before.left ≡ Some t.bytes
     → Unless (λ status held holds. FromFirst t (λ d e f a. ArePackets t d e f a held holds)) status before after
 
   -- `recover biphase` writes the stream of the samples of the packets that were received whole, each with at most one
-  -- damaged word as it was sent.
+  -- damaged word, or few and no fault, as it was sent.
   pub biphase_headline : (pair : ℕ) → IsCommand words (RecoverBiphase pair) → (t : TappedStream) → IsTapped t → Aligns t → before.left ≡ Some t.bytes
     → Unless (λ status held holds. FromFirst t (λ d e f a. AreSamples pair t d e f a status held holds)) status before after
 

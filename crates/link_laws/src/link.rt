@@ -10,7 +10,7 @@ ghost use Rattle.link_laws.specs.Exact.{CleanIsFront, FrontIsClean, CheckIsExact
 ghost use Rattle.link_sink.specs.Sinks.{SomeReported, OneReported};
 ghost use Rattle.link_laws.specs.Freely.{FramingStandsFreely, PeriodsStandFreely, LinkLawFreely, ControlLawFreely, VideoLawFreely, IslandLawFreely, JoiningLawFreely, AccountLiteralFreely, EdgesEndFreely, FirstEndsFreely, FirstUntilFreely, TapAccountedFreely, PayloadAccountedFreely, CleanReceived};
 ghost use Rattle.link_laws.specs.Local.{VideoAnywhere, IslandAnywhere, IslandClosesAnywhere, RowAnywhere, StreamAnywhere, AlignedWhateverFollows, HasLocalExample};
-ghost use Rattle.link_laws.specs.Noticed.{Noticed, NoticedReported, FewOnLanes};
+ghost use Rattle.link_laws.specs.Noticed.{Noticed, NoticedReported, FewOnLanes, OneIsAsSent, FewIsAsSent};
 ghost use Rattle.link_laws.specs.Growth.{ReportedGrows, WholeGrows, LinkIsGrammar};
 
 /// The received control columns are those of the control periods, wherever damage lies.
@@ -238,8 +238,10 @@ pub fn noticed()
     ensures { Noticed }
 {}
 
-/// Its row in the account is then that packet alone.
+/// Its row in the account is then that packet alone; the account has it as it was sent, as it has one with one damaged word.
 pub fn noticed_reported()
     ensures reported { NoticedReported }
     ensures few { FewOnLanes }
+    ensures one { OneIsAsSent }
+    ensures as_sent { FewIsAsSent }
 {}
