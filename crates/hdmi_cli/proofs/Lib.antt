@@ -29,3 +29,4 @@ pub mod RelayAgain
 pub mod RelaySettles
 pub mod RelayExamples
 pub mod Local
+pub mod LocalPackets

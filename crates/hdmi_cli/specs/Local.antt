@@ -1,16 +1,21 @@
 -- What a command lists of a capture of which anything may have been received after the alignment: of each line and each
 -- island that was received with few words damaged, after twelve control columns and before one, its row.
-use Rattle.std.specs.Prelude.{◌≡◌, ◌+◌, ◌-◌, ◌<◌, ◌≤◌, ℕ, true, List, ◌∷◌, ◌++◌, length, map, take, drop, Option}
+use Rattle.std.specs.Prelude.{◌≡◌, ◌+◌, ◌-◌, ◌<◌, ◌≤◌, ℕ, true, List, ◌∷◌, ◌++◌, length, map, take, drop, codes, Option}
 use Rattle.std.specs.Io.KnownBytes.{Appends}
 use Rattle.capture_file.specs.Captures.{IsCaptureOf}
 use Rattle.tmds_word.specs.Column.{Column}
 use Rattle.tmds_word.specs.Taps.{IsTap, HasSmallSkew}
-use Rattle.island_pack.specs.Periods.{Period, period_columns, columns_of}
+use Rattle.island_pack.specs.Conforming.{is_data_island}
+use Rattle.island_pack.specs.Periods.{DataIsland, Period, island, period_columns, columns_of}
+use Rattle.island_pack.specs.Taken.{spotless}
 use Rattle.period_grammar.specs.Events.{Event, event_of}
 use Rattle.period_grammar.specs.Heard.{heard_so_far, heard}
 use Rattle.link_laws.specs.Laws.{EndsControl, BeginColumn}
 use Rattle.link_laws.specs.Literal.{period_placed}
 use Rattle.link_laws.specs.Local.{ReceivedUntil, is_between, part_at, twelve_before, StandsAlone}
+use Rattle.listing_writer.specs.ContentText.{content_lines, packet_lines, text_of}
+use Rattle.listing_laws.specs.ListingLaws.{Each, reported_lines, as_sent_at}
+use Rattle.listing_laws.specs.PacketLaws.{ReportedPacket, reported_packets, received_packet, each_at}
 use Rattle.hdmi_cli.specs.Headline.{TappedStream, aligned_of, IsFirstOf}
 use Rattle.hdmi_cli.specs.Listings.{Listing}
 use Rattle.hdmi_cli.specs.Outcome.{status_with}
@@ -60,3 +65,26 @@ pub record IsHeardFrom (listing : Listing) (t : TappedStream) (d e f a status : 
 abbrev pub IsHeardBy : Listing → TappedStream → ℕ → ℕ → Option (List ℕ) → Option (List ℕ) → Type 0
 IsHeardBy listing t until status old new =
     (d e f : ℕ) × IsFirstOf t d e f × ((a : ℕ) × (a + 12 ≤ until) × IsHeardFrom listing t d e f a status old new)
+
+-- the packets of a data island that stands alone at column j are reported, between those that are reported before it and
+-- others; each of which at most one word was received unlike, or few were and no fault is found, has the lines of the packet as
+-- it was sent
+pub record HasPackets (t : TappedStream) (a j : ℕ) (x : DataIsland) (aligned : List Column) : Type 0 where
+  pub more : List ReportedPacket
+  pub packets :
+      reported_packets (heard aligned)
+      ≡ reported_packets (reported_to a j aligned) ++ (map (received_packet t.sent t.received a) (each_at (j + 2) x.packets) ++ more)
+  pub lines : Each (λ k. as_sent_at t.sent t.received k ≡ true → reported_lines (received_packet t.sent t.received a k) ≡ packet_lines k.packet spotless (k.at - a)) (each_at (j + 2) x.packets)
+
+-- the output grew by the content listing of what is heard of the columns that are aligned at three edges, and the packets of each
+-- island that stands alone are reported
+pub record ArePacketsFrom (t : TappedStream) (d e f a : ℕ) (old new : Option (List ℕ)) : Type 0 where
+  pub columns : aligned_of t d e f ≡ take (length (aligned_of t d e f)) (drop a t.received)
+  pub written : Appends old new (text_of (content_lines (heard (aligned_of t d e f))) ++ codes "end\n")
+  pub packets :
+      (front : List Period) (x : DataIsland) (back : List Period) → t.periods ≡ front ++ (island x ∷ back) → is_data_island x ≡ true
+      → StandsAlone t.received (island x) t.sent (columns_of front) → a + 12 ≤ columns_of front → columns_of front + period_columns (island x) < a + length (aligned_of t d e f)
+      → HasPackets t a (columns_of front) x (aligned_of t d e f)
+
+abbrev pub ArePacketsBy : TappedStream → ℕ → Option (List ℕ) → Option (List ℕ) → Type 0
+ArePacketsBy t until old new = (d e f : ℕ) × IsFirstOf t d e f × ((a : ℕ) × (a + 12 ≤ until) × ArePacketsFrom t d e f a old new)

@@ -8,7 +8,7 @@ use Rattle.source_end.specs.Content.{Frame}
 use Rattle.source_end.specs.Raster.{raster_of}
 use Rattle.source_end.specs.RasterRefusals.{raster_fault}
 use Rattle.hdmi_cli.specs.Headline.{TappedStream, IsTapped, AlignsBy, IsFirstOf, IsRecovered, IsRecoveredBy, Aligns, FromFirst, IsDviTapped, IsDviRecovered}
-use Rattle.hdmi_cli.specs.Local.{IsTappedUntil, IsHeardBy}
+use Rattle.hdmi_cli.specs.Local.{IsTappedUntil, IsHeardBy, ArePacketsBy}
 use Rattle.hdmi_cli.specs.TrackSlip.{LineSlip, IsSlippedTap, IsNoticed, IsTrackedAcross}
 use Rattle.hdmi_cli.specs.TrackPasses.{IsUnnoticed, IsTrackedAsOne}
 use Rattle.hdmi_cli.specs.RelayClauses.{IsCleanToEnd, IsPassedOn, IsRelayedAgain, IsSentWithin}
@@ -19,7 +19,7 @@ use Rattle.relay.specs.Relayed.{relayed}
 use Rattle.hdmi_cli.specs.Pictures.{ArePackets, ArePictures}
 use Rattle.hdmi_cli.specs.Sounds.{AreSamples}
 use Rattle.hdmi_cli.specs.Exact.{IsAlignedCapture, IsJudged}
-use Rattle.hdmi_cli.specs.Listings.{link_listing, content_listing}
+use Rattle.hdmi_cli.specs.Listings.{link_listing, content_listing, check_listing}
 use Rattle.hdmi_cli.specs.Outcome.{RunOutcome, Relays}
 use Rattle.hdmi_cli.specs.Endings.{Devices, Unless}
 use Rattle.command_line.specs.Commands.{IsCommand}
@@ -68,6 +68,20 @@ pub record Promises (words : List (List ℕ)) (status : ℕ) (before after : Dev
   -- as it was sent.
   pub packets : IsCommand words RecoverContent → (t : TappedStream) → IsTapped t → Aligns t → before.left ≡ Some t.bytes
     → Unless (λ status held holds. FromFirst t (λ d e f a. ArePackets t d e f a held holds)) status before after
+
+  -- Whatever is received after a column until which damage is so: `recover content` lists the row of each line and each island that
+  -- was received with few words damaged, after twelve control columns and before one; so does `check`, of their faults.
+  pub content_local : IsCommand words RecoverContent → (t : TappedStream) → (until : ℕ) → IsTappedUntil t until → AlignsBy t until
+    → before.left ≡ Some t.bytes
+    → Unless (IsHeardBy content_listing t until) status before after
+  pub check_local : IsCommand words Check → (t : TappedStream) → (until : ℕ) → IsTappedUntil t until → AlignsBy t until
+    → before.left ≡ Some t.bytes
+    → Unless (IsHeardBy check_listing t until) status before after
+
+  -- And the packets of each such island are reported, each with at most one damaged word, or few and no fault, as it was sent.
+  pub packets_local : IsCommand words RecoverContent → (t : TappedStream) → (until : ℕ) → IsTappedUntil t until → AlignsBy t until
+    → before.left ≡ Some t.bytes
+    → Unless (λ status held holds. ArePacketsBy t until held holds) status before after
 
   -- `recover biphase` writes the stream of the samples of the packets that were received whole, each with at most one
   -- damaged word, or few and no fault, as it was sent.

@@ -51,7 +51,7 @@ row_anywhere (island x) sent received is h = heard_of (island x) sent received (
 
 -- In a stream.
 
-spelled_at : (front : List Period) (p : Period) (back : List Period) (sent : List Column) → SpellsBy freely (front ++ (p ∷ back)) sent → SpellsPeriodBy freely p (part_at (columns_of front) p sent)
+pub spelled_at : (front : List Period) (p : Period) (back : List Period) (sent : List Column) → SpellsBy freely (front ++ (p ∷ back)) sent → SpellsPeriodBy freely p (part_at (columns_of front) p sent)
 unfolding columns_of
 spelled_at [] p back sent h =
     subst (SpellsPeriodBy freely p) (sym (ap (take (period_columns p)) h.2 ∙ take_at h.0 h.1 (period_columns p) (period_size_freely p h.0 h.3))) h.3

@@ -91,10 +91,10 @@ lines_freely p sent received carries long few column =
 pub packet_lines_as_sent : PacketLinesAsSent
 packet_lines_as_sent p first sent received carries long few column = lines_freely p sent received carries.free long few column
 
-abbrev IsListed : List Column → List Column → ℕ → Placed → Type 0
+abbrev pub IsListed : List Column → List Column → ℕ → Placed → Type 0
 IsListed sent received a k = as_sent_at sent received k ≡ true → reported_lines (received_packet sent received a k) ≡ packet_lines k.packet spotless (k.at - a)
 
-listed_here : (sent received : List Column) (a y : ℕ) (p : Packet) (own reception : List Column) → CarriesFreely p (map column_words own) → length reception ≡ 32 → take 32 (drop y sent) ≡ own → take 32 (drop y received) ≡ reception
+pub listed_here : (sent received : List Column) (a y : ℕ) (p : Packet) (own reception : List Column) → CarriesFreely p (map column_words own) → length reception ≡ 32 → take 32 (drop y sent) ≡ own → take 32 (drop y received) ≡ reception
     → IsListed sent received a (record { packet = p; at = y })
 listed_here sent received a y p own reception carries long e d few =
     let n : is_as_sent own reception ≡ true = subst (λ (cs : List Column). is_as_sent own cs ≡ true) d (subst (λ (cs : List Column). is_as_sent cs (take 32 (drop y received)) ≡ true) e few) in
