@@ -28,3 +28,5 @@ pub mod RelayClean
 pub mod RelayAgain
 pub mod RelaySettles
 pub mod RelayExamples
+pub mod Local
+pub mod LocalPackets

@@ -1,6 +1,6 @@
--- The samples that `recover biphase K` writes of a tapped stream are those of the received packets, each with at most
--- one damaged word as it was sent.
-use Rattle.std.proofs.Common.{arith, ◌≡◌, ◌≤◌, ℕ, ◌+◌, List, [], ◌∷◌, ◌++◌, length, refl, ap, ◌∙◌, subst}
+-- The samples that `recover biphase K` writes of a tapped stream are those of the received packets, each that is as sent in the
+-- account with the samples that it was sent with.
+use Rattle.std.proofs.Common.{arith, ◌≡◌, ◌≤◌, ℕ, true, ◌+◌, List, [], ◌∷◌, ◌++◌, length, refl, ap, ◌∙◌, subst}
 use Rattle.std.specs.Prelude.{flat_map, Option, Some}
 use Rattle.std.specs.Io.KnownBytes.{Appends}
 use Rattle.tmds_word.specs.Column.{Column}
@@ -8,7 +8,7 @@ use Rattle.audio_out.specs.Frames.{biphase}
 use Rattle.period_grammar.specs.Events.{Event, packet}
 use Rattle.link_laws.specs.Account.{account}
 use Rattle.link_laws.specs.Laws.{ReceivedOf}
-use Rattle.listing_laws.specs.ListingLaws.{Each, unlike_in}
+use Rattle.listing_laws.specs.ListingLaws.{Each, as_sent_at}
 use Rattle.listing_laws.specs.PacketLaws.{IsAsSent, Placed, received_packet, placed, reported_packets}
 use Rattle.listing_laws.proofs.PacketsAsSent.{packets_as_sent}
 use Rattle.listing_laws.proofs.Reported.{packets_come_back}
@@ -35,10 +35,10 @@ of_events pair (event ∷ events) = of_events pair events
 -- each packet that was sent
 
 abbrev IsSent : List Column → List Column → ℕ → Placed → Type 0
-IsSent sent received a k = unlike_in sent received k ≤ 1 → IsAsSent k.packet (received_packet sent received a k).packet (received_packet sent received a k).verdicts
+IsSent sent received a k = as_sent_at sent received k ≡ true → IsAsSent k.packet (received_packet sent received a k).packet (received_packet sent received a k).verdicts
 
 abbrev HasSamples : ℕ → List Column → List Column → ℕ → Placed → Type 0
-HasSamples pair sent received a k = unlike_in sent received k ≤ 1 → samples_reported pair (received_packet sent received a k) ≡ samples_sent pair k
+HasSamples pair sent received a k = as_sent_at sent received k ≡ true → samples_reported pair (received_packet sent received a k) ≡ samples_sent pair k
 
 each_has : (pair : ℕ) (sent received : List Column) (a : ℕ) (ks : List Placed) → Each (IsSent sent received a) ks → Each (HasSamples pair sent received a) ks
 each_has pair sent received a [] h = tt

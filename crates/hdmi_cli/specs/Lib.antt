@@ -24,4 +24,5 @@ pub mod Sounds
 pub mod Exact
 pub mod RelaySettles
 pub mod RelayExamples
+pub mod Local
 pub mod Theorem

@@ -21,11 +21,11 @@ drop_seam xs ys n e = ap (λ k. drop k (xs ++ ys)) (sym e) ∙ drop-append_seam 
 pub take_seam : (xs ys : List Column) (n : ℕ) → length xs ≡ n → take n (xs ++ ys) ≡ xs
 take_seam xs ys n e = ap (λ k. take k (xs ++ ys)) (sym e) ∙ take-append_seam xs ys
 
-none_begins : begins (stretches []) ≡ true
+pub none_begins : begins (stretches []) ≡ true
 unfolding stretches
 none_begins = refl
 
-none_left : (x : Cut) → x ∷ stretches [] ≡ x ∷ []
+pub none_left : (x : Cut) → x ∷ stretches [] ≡ x ∷ []
 unfolding stretches
 none_left x = refl
 

@@ -9,17 +9,17 @@ use Rattle.link_laws.specs.Laws.{HoldsEnd, AlignsUntil, HasExample, HasPayloadEx
 use Rattle.link_laws.proofs.Stream.{stream, sent, received, damaged, long_received, long_damaged, reception, received_damaged, alone, damaged_spared, after_first, payload_example, damaged_example}
 use Rattle.link_laws.proofs.Aligning.{first_until}
 
-abbrev skews : List ℕ
+abbrev pub skews : List ℕ
 skews = 0 ∷ (70 ∷ (35 ∷ []))
 
 -- as many bits as each lane has from there on
-abbrev counts : List ℕ
+abbrev pub counts : List ℕ
 counts = 863 ∷ (793 ∷ (828 ∷ []))
 
 part : (words : List ℕ) (from many : ℕ) → length words ≡ 87 → from + many ≤ 870 → IsPart words from many (part_of words from many)
 part words from many long le = record { within = omega arith; bits_are = refl }
 
-tapped : (cs : List Column) → length cs ≡ 87 → IsTap cs 7 skews counts (part_of (blues cs) 7 863) (part_of (greens cs) 77 793) (part_of (reds cs) 42 828)
+pub tapped : (cs : List Column) → length cs ≡ 87 → IsTap cs 7 skews counts (part_of (blues cs) 7 863) (part_of (greens cs) 77 793) (part_of (reds cs) 42 828)
 tapped cs long = grind (arith, length-map)
 
 small : HasSmallSkew skews
@@ -37,7 +37,7 @@ holds = record {
   reaches = each_lane (λ lane. 10 * 24 + 10 ≤ 7 + slice_index skews lane + slice_index counts lane) (omega arith) (omega arith) (omega arith);
 }
 
-aligns : (cs : List Column) → SparesUntil stream sent cs 24 → AlignsUntil stream sent cs 7 skews counts 24
+pub aligns : (cs : List Column) → SparesUntil stream sent cs 24 → AlignsUntil stream sent cs 7 skews counts 24
 aligns cs spared = grind (arith, after_first)
 
 pub payload_aligned : HasPayloadExample

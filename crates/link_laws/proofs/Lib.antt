@@ -38,3 +38,9 @@ pub mod Growth
 pub mod Pieces
 pub mod exact
 pub mod CleanReceived
+pub mod Local
+pub mod LocalLanes
+pub mod FewWrong
+pub mod LocalExample
+pub mod Noticed
+pub mod LocalStream

@@ -1,5 +1,5 @@
 -- What is reported of the columns received of one period, and of periods one after another.
-use Rattle.std.proofs.Common.{◌≡◌, ℕ, suc, ◌+◌, ◌-◌, ◌≤◌, List, [], ◌∷◌, ◌++◌, length, take, refl, sym, ◌∙◌, subst, arith, length-append}
+use Rattle.std.proofs.Common.{◌≡◌, ℕ, suc, ◌+◌, ◌≤◌, List, [], ◌∷◌, ◌++◌, length, take, refl, sym, ◌∙◌, subst, arith, length-append}
 use Rattle.std.proofs.lemmas.List.{append-nil, length-replicate}
 use Rattle.tmds_word.specs.Column.{Column}
 use Rattle.island_pack.specs.Periods.{ControlRun, Period, control, video, island, values_of, period_columns}
@@ -29,7 +29,7 @@ one_of p _ _ (more _ _ own reception _ _ a nothing) =
     subst (λ ss. ArrivesPeriod p ss (reception ++ [])) (sym (append-nil own)) (subst (λ rs. ArrivesPeriod p own rs) (sym (append-nil reception)) a)
 
 -- the columns of one period
-received_one : (p : Period) (sent received : List Column) → HasValues (p ∷ []) → PeriodReceivedFreely p sent received → ArrivesPeriod p sent received
+pub received_one : (p : Period) (sent received : List Column) → HasValues (p ∷ []) → PeriodReceivedFreely p sent received → ArrivesPeriod p sent received
 received_one p sent received values h =
     let s = h.sparse in
     one_of p sent received

@@ -130,6 +130,10 @@ whole_placed : (b : ℕ) (control : List Column) (x : DataIsland) (g h c d : Col
 unfolding island_placed in_gap open_island_row
 whole_placed b control x g h c d pp qq long opens shut some few are = grind (arith, framed, closes_on, breaks_none, split_shut, append-nil, placed_island, split_placed, lacks_preamble)
 
+-- an island that closes has nothing to report at the column after it
+pub island_shuts : (b : ℕ) (x : DataIsland) (g h c d : Column) (pp qq : List Column) → opened g h ≡ opens_an_island → closes c d ≡ true → ArePackets true x.packets pp qq → at_close b (framed g h qq c d) ≡ []
+island_shuts b x g h c d pp qq opens shut are = grind (arith, framed, closes_on, breaks_none, split_shut)
+
 -- Periods between control periods.
 
 pub period_places : (before : List Column) (x : Period) (own reception : List Column) → 12 ≤ length before → IsBetween x → ArrivesPeriod x own reception

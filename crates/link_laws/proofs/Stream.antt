@@ -28,51 +28,51 @@ use Rattle.link_laws.specs.Laws.{ReceivedOf, AlignsUntil, IsPayloadExample, IsEx
 
 -- The periods.
 
-abbrev times : ℕ → ℕ → ControlRun
+abbrev pub times : ℕ → ℕ → ControlRun
 times value count = record { value = value; count = count }
 
 -- 16 columns, and the preamble of a video data period
-abbrev first : List ControlRun
+abbrev pub first : List ControlRun
 first = times 0 16 ∷ (times 4 8 ∷ [])
 
 -- 4 columns, and the preamble of a data island
-abbrev second : List ControlRun
+abbrev pub second : List ControlRun
 second = times 0 4 ∷ (times 20 8 ∷ [])
 
-abbrev third : List ControlRun
+abbrev pub third : List ControlRun
 third = times 0 12 ∷ []
 
-abbrev black : List ℕ
+abbrev pub black : List ℕ
 black = replicate 3 0
 
-abbrev empty : Packet
+abbrev pub empty : Packet
 empty = record { header = replicate 3 0; bodies = replicate 28 0; sync = replicate 32 0 }
 
-abbrev one_packet : DataIsland
+abbrev pub one_packet : DataIsland
 one_packet = record { opening = record { first = 0; second = 1 }; packets = empty ∷ []; closing = record { first = 2; second = 3 } }
 
-abbrev last_period : List Period
+abbrev pub last_period : List Period
 last_period = control third ∷ []
 
-abbrev from_island : List Period
+abbrev pub from_island : List Period
 from_island = island one_packet ∷ last_period
 
-abbrev from_second : List Period
+abbrev pub from_second : List Period
 from_second = control second ∷ from_island
 
-abbrev from_video : List Period
+abbrev pub from_video : List Period
 from_video = video black ∷ from_second
 
 unfoldable pub stream : List Period
 stream = control first ∷ from_video
 
-conforming : IsConforming stream
+pub conforming : IsConforming stream
 unfolding stream conforms is_control_period values_of has_preamble is_video_period is_packet is_data_island
 conforming = refl
 
 -- The columns.
 
-abbrev triple : ℕ → ℕ → ℕ → Column
+abbrev pub triple : ℕ → ℕ → ℕ → Column
 triple b g r = record { blue = b; green = g; red = r }
 
 abbrev pixel_sent : List Column
@@ -82,35 +82,35 @@ pixel_sent = triple 0x100 0x100 0x100 ∷ []
 abbrev pixel_received : List Column
 pixel_received = triple 0x354 0x100 0x100 ∷ []
 
-abbrev packet_sent : List Column
+abbrev pub packet_sent : List Column
 packet_sent = triple 0x29c 0x29c 0x29c ∷ replicate 31 (triple 0x2cc 0x29c 0x29c)
 
 -- a word of ones was received in place of a packet's word
 abbrev packet_received : List Column
 packet_received = triple 0x29c 0x29c 0x29c ∷ (replicate 4 (triple 0x2cc 0x29c 0x29c) ++ (triple 0x2cc 0x3ff 0x29c ∷ replicate 26 (triple 0x2cc 0x29c 0x29c)))
 
-abbrev control_columns : List ControlRun → List Column
+abbrev pub control_columns : List ControlRun → List Column
 control_columns runs = map control_column (values_of runs)
 
-abbrev video_columns : List Column → List Column
+abbrev pub video_columns : List Column → List Column
 video_columns pixels = column_of video_guard ∷ (column_of video_guard ∷ pixels)
 
-abbrev island_columns : List Column → List Column
+abbrev pub island_columns : List Column → List Column
 island_columns packet = guard_columns one_packet.opening ++ (packet ++ guard_columns one_packet.closing)
 
-abbrev last_columns : List Column
+abbrev pub last_columns : List Column
 last_columns = control_columns third ++ []
 
-abbrev island_on : List Column → List Column
+abbrev pub island_on : List Column → List Column
 island_on packet = island_columns packet ++ last_columns
 
-abbrev second_on : List Column → List Column
+abbrev pub second_on : List Column → List Column
 second_on packet = control_columns second ++ island_on packet
 
-abbrev video_on : List Column → List Column → List Column
+abbrev pub video_on : List Column → List Column → List Column
 video_on pixels packet = video_columns pixels ++ second_on packet
 
-abbrev columns : List Column → List Column → List Column
+abbrev pub columns : List Column → List Column → List Column
 columns pixels packet = control_columns first ++ video_on pixels packet
 
 unfoldable pub sent : List Column
@@ -268,7 +268,7 @@ spells_packet : SpellsIsland one_packet (island_columns packet_sent)
 unfolding words
 spells_packet = (packet_sent, refl, (packet_sent, [], refl, carries, refl))
 
-spelled : Spells stream sent
+pub spelled : Spells stream sent
 unfolding stream sent
 spelled =
     spells_more (control first) from_video (control_columns first) (video_on pixel_sent packet_sent) refl
@@ -279,7 +279,7 @@ spelled =
 
 -- How the columns were received.
 
-long_sent : length sent ≡ 87
+pub long_sent : length sent ≡ 87
 unfolding sent values_of video_guard
 long_sent = refl
 
@@ -305,15 +305,15 @@ unlike_past : (cs : List Column) → length cs ≡ 87 → (i : ℕ) → 87 ≤ i
 unfolding unlike_words one_if
 unlike_past cs long i le = grind (arith, long_sent, no_more)
 
-abbrev is_narrow : Column → Bool
+abbrev pub is_narrow : Column → Bool
 is_narrow c = nat_lt c.blue 1024 && (nat_lt c.green 1024 && nat_lt c.red 1024)
 
-narrow_column : (c : Column) → is_narrow c ≡ true → IsNarrow c
+pub narrow_column : (c : Column) → is_narrow c ≡ true → IsNarrow c
 narrow_column c h =
     let r = and-right (nat_lt c.blue 1024) _ h in
     record { blue = ltb-true _ _ (and-left _ _ h); green = ltb-true _ _ (and-left _ _ r); red = ltb-true _ _ (and-right (nat_lt c.green 1024) _ r) }
 
-abbrev are_narrow : List Column → Bool
+abbrev pub are_narrow : List Column → Bool
 are_narrow cs = passes_below 87 (λ i. is_narrow (column_at cs i))
 
 -- of two columns in a row at most one word is unlike

@@ -24,11 +24,11 @@ use Rattle.link_laws.proofs.Framing.{link_law_freely}
 begins : (d offset k i : ℕ) → 120 ≤ d → 11 ≤ i → d + offset + k ≡ 10 * (i + 1) → d - 120 + (offset + k) ≡ 10 * (i - 11)
 begins d offset k i late far e = omega arith
 
-ends : (d offset k i : ℕ) → 11 ≤ i → d + offset + k ≡ 10 * (i + 1) → d + offset + k ≡ 10 * (i - 11 + 12)
+pub ends : (d offset k i : ℕ) → 11 ≤ i → d + offset + k ≡ 10 * (i + 1) → d + offset + k ≡ 10 * (i - 11 + 12)
 ends d offset k i far e = omega arith
 
 -- where the lanes of a first full alignment begin
-begin_at : (received : List Column) (offset : ℕ) (skews counts : List ℕ) (x y z : List Bool) (d e f i : ℕ) → IsTap received offset skews counts x y z → IsFirst x y z d e f → 11 ≤ i
+pub begin_at : (received : List Column) (offset : ℕ) (skews counts : List ℕ) (x y z : List Bool) (d e f i : ℕ) → IsTap received offset skews counts x y z → IsFirst x y z d e f → 11 ≤ i
     → BeginColumn offset skews (i + 1) d e f
     → BeginAt received (offset + slice_index skews 0) (offset + slice_index skews 1) (offset + slice_index skews 2)
     (slice_index counts 0) (slice_index counts 1) (slice_index counts 2) (i - 11) x y z d e f
@@ -52,7 +52,7 @@ begin_at received offset skews counts x y z d e f i tapped first far at =
       third_within = omega arith;
     }
 
-characters : (g : Column → ℕ) (received : List Column) → ((i : ℕ) → i < length received → g (column_at received i) < 1024) → AreCharacters (map g received)
+pub characters : (g : Column → ℕ) (received : List Column) → ((i : ℕ) → i < length received → g (column_at received i) < 1024) → AreCharacters (map g received)
 characters g received narrow i lt = let n = length-map received g in subst (λ w. w < 1024) (sym (get_or-map g received i no_column 0 (omega arith))) (narrow i (omega arith))
 
 -- a first full alignment at the end of a control period

@@ -1,7 +1,7 @@
 -- How many bits of a packet's blocks are wrong where few of its words were received unlike.
 use Rattle.std.proofs.Common.{◌≡◌, ℕ, suc, ◌+◌, ◌<◌, ◌≤◌, Bool, true, false, not, ◌==◌, List, [], ◌∷◌, map, length, refl, ap, arith, inl, inr, ◌⊎◌}
 use Rattle.std.proofs.lemmas.Bool.{eqb-true}
-use Rattle.tmds_word.specs.Column.{Column}
+use Rattle.tmds_word.specs.Column.{Column, blues, greens, reds}
 use Rattle.terc4.specs.Columns.{one_if}
 use Rattle.bch_block.specs.Bits.{bit, flipped}
 use Rattle.island_pack.specs.Nibbles.{nibble_of, nibbles_of, by_turns, header_bits, body_bits}
@@ -9,6 +9,7 @@ use Rattle.island_pack.specs.Spelling.{column_words}
 use Rattle.island_pack.specs.Sparse.{unlike_words}
 use Rattle.link_laws.specs.Account.{damage}
 use Rattle.link_laws.specs.Laws.{wrong_bits, OneWrongBit}
+use Rattle.link_laws.specs.Noticed.{FewOnLanes}
 
 like_bit_more : (x : Bool) (xs ys : List Bool) → wrong_bits (x ∷ xs) (x ∷ ys) ≡ wrong_bits xs ys
 unfolding wrong_bits one_if
@@ -25,27 +26,40 @@ bit_of_word : (f : ℕ → Bool) (s r : ℕ) (xs ys : List Bool) (same : Bool) �
 unfolding one_if wrong_bits
 bit_of_word f s r xs ys same h = grind (arith, eqb-true, like_bit_more)
 
-pub header_wrong : (ss rs : List Column) → wrong_bits (header_bits (map column_words ss)) (header_bits (map column_words rs)) ≤ damage ss rs
-unfolding damage unlike_words header_bits nibbles_of wrong_bits
-header_wrong [] rs = omega arith
-header_wrong (s ∷ ss) [] = omega (arith, none_wrong (header_bits (map column_words (s ∷ ss))))
-header_wrong (s ∷ ss) (r ∷ rs) =
-    let rest = header_wrong ss rs in
+-- lane by lane
+pub header_wrong_on : (ss rs : List Column) → wrong_bits (header_bits (map column_words ss)) (header_bits (map column_words rs)) ≤ unlike_words (blues ss) (blues rs)
+unfolding unlike_words header_bits nibbles_of wrong_bits
+header_wrong_on [] rs = omega arith
+header_wrong_on (s ∷ ss) [] = omega (arith, none_wrong (header_bits (map column_words (s ∷ ss))))
+header_wrong_on (s ∷ ss) (r ∷ rs) =
+    let rest = header_wrong_on ss rs in
     let first = bit_of_word (λ w. bit (nibble_of w) 2) s.blue r.blue (header_bits (map column_words ss)) (header_bits (map column_words rs)) (s.blue == r.blue) refl in
     omega arith
 
-pub body_wrong : (b : ℕ) (ss rs : List Column) → wrong_bits (body_bits (map column_words ss) b) (body_bits (map column_words rs) b) ≤ damage ss rs
-unfolding damage unlike_words body_bits nibbles_of by_turns wrong_bits
-body_wrong b [] rs = omega arith
-body_wrong b (s ∷ ss) [] = omega (arith, none_wrong (body_bits (map column_words (s ∷ ss)) b))
-body_wrong b (s ∷ ss) (r ∷ rs) =
-    let rest = body_wrong b ss rs in
+pub body_wrong_on : (b : ℕ) (ss rs : List Column) → wrong_bits (body_bits (map column_words ss) b) (body_bits (map column_words rs) b) ≤ unlike_words (greens ss) (greens rs) + unlike_words (reds ss) (reds rs)
+unfolding unlike_words body_bits nibbles_of by_turns wrong_bits
+body_wrong_on b [] rs = omega arith
+body_wrong_on b (s ∷ ss) [] = omega (arith, none_wrong (body_bits (map column_words (s ∷ ss)) b))
+body_wrong_on b (s ∷ ss) (r ∷ rs) =
+    let rest = body_wrong_on b ss rs in
     let xs = body_bits (map column_words ss) b in
     let ys = body_bits (map column_words rs) b in
     let second = bit_of_word (λ w. bit (nibble_of w) b) s.red r.red xs ys (s.red == r.red) refl in
-    let first =
-    bit_of_word (λ w. bit (nibble_of w) b) s.green r.green (bit (nibble_of s.red) b ∷ xs) (bit (nibble_of r.red) b ∷ ys) (s.green == r.green) refl in
+    let first = bit_of_word (λ w. bit (nibble_of w) b) s.green r.green (bit (nibble_of s.red) b ∷ xs) (bit (nibble_of r.red) b ∷ ys) (s.green == r.green) refl in
     omega arith
+
+pub few_on_lanes : FewOnLanes
+unfolding damage unlike_words
+few_on_lanes [] rs = refl
+few_on_lanes (s ∷ ss) [] = refl
+few_on_lanes (s ∷ ss) (r ∷ rs) = let ih = few_on_lanes ss rs in omega arith
+
+-- of all words
+pub header_wrong : (ss rs : List Column) → wrong_bits (header_bits (map column_words ss)) (header_bits (map column_words rs)) ≤ damage ss rs
+header_wrong ss rs = let few = header_wrong_on ss rs in let all = few_on_lanes ss rs in omega arith
+
+pub body_wrong : (b : ℕ) (ss rs : List Column) → wrong_bits (body_bits (map column_words ss) b) (body_bits (map column_words rs) b) ≤ damage ss rs
+body_wrong b ss rs = let few = body_wrong_on b ss rs in let all = few_on_lanes ss rs in omega arith
 
 pub one_wrong_bit : OneWrongBit
 one_wrong_bit p first ss rs carries long few = grind (arith, header_wrong, body_wrong)

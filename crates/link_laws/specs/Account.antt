@@ -1,8 +1,8 @@
 -- The account: what one who knows the periods that were sent, and the columns that spelled them, writes of the received
 -- columns. It cuts nothing and searches nothing: it walks the periods, and sees how many columns of each were received.
 -- A control period's row is said of its received columns alone, and a row after it sees them for the preamble.
-use Rattle.std.specs.Prelude.{ℕ, zero, suc, ◌+◌, ◌-◌, cond, ◌==◌, List, [], ◌∷◌, ◌++◌, map, length, take, drop, nat_lt, nat_le}
-use Rattle.tmds_word.specs.Column.{Column}
+use Rattle.std.specs.Prelude.{ℕ, zero, suc, ◌+◌, ◌-◌, Bool, ◌&&◌, ◌||◌, cond, ◌==◌, List, [], ◌∷◌, ◌++◌, map, length, take, drop, nat_lt, nat_le}
+use Rattle.tmds_word.specs.Column.{Column, blues, greens, reds}
 use Rattle.terc4.specs.Columns.{is_video_guard, is_island_guard}
 use Rattle.tmds_code.specs.Coding.{decoded_byte}
 use Rattle.island_pack.specs.Periods.{DataIsland, Period, control, video, island, Pixel, pixels_of, period_columns, VIDEO_PREAMBLE, ISLAND_PREAMBLE}
@@ -11,6 +11,7 @@ use Rattle.island_pack.specs.Sparse.{unlike_words}
 use Rattle.island_pack.specs.declared.packet.Packet.{Packet}
 use Rattle.period_grammar.specs.Column.{sync_digit}
 use Rattle.period_grammar.specs.Cut.{Run, columns, runs}
+use Rattle.period_grammar.specs.Exact.{faultless}
 use Rattle.island_pack.specs.Repaired.{packet_of, verdicts_of}
 use Rattle.period_grammar.specs.Island.{packet_faults, wrong_guards}
 use Rattle.period_grammar.specs.Heard.{words, has_preamble, codes_of, if_not}
@@ -79,10 +80,20 @@ unfoldable pub sync_row : List ℕ → List Column → List Column → List ℕ
 sync_row (v ∷ vs) (s ∷ ss) (r ∷ rs) = cond (s.blue == r.blue) v (sync_digit r.blue) ∷ sync_row vs ss rs
 sync_row _ _ _ = []
 
--- header and bodies as sent where at most one of the packet's words was received unlike, else as they are taken
+-- few enough words of a packet were received unlike for its codes to show it: at most three on lane 0, whose bits 2 are
+-- one block, and at most three on lanes 1 and 2 together, whose bits of one place are one block. Two blocks differ in four bits
+-- at least
+unfoldable pub are_few : List Column → List Column → Bool
+are_few ss rs = nat_le (unlike_words (blues ss) (blues rs)) 3 && nat_le (unlike_words (greens ss) (greens rs) + unlike_words (reds ss) (reds rs)) 3
+
+-- at most one of the packet's words was received unlike, or few were and no fault is found
+unfoldable pub is_as_sent : List Column → List Column → Bool
+is_as_sent ss rs = nat_le (damage ss rs) 1 || (are_few ss rs && faultless (packet_faults 0 (verdicts_of rs)))
+
+-- header and bodies are then as sent, else as they are taken
 unfoldable pub packet_row : Packet → List Column → List Column → Packet
 packet_row p ss rs =
-    cond (nat_le (damage ss rs) 1)
+    cond (is_as_sent ss rs)
     (record { header = p.header; bodies = p.bodies; sync = sync_row p.sync ss rs })
     (record { header = (packet_of rs).header; bodies = (packet_of rs).bodies; sync = sync_row p.sync ss rs })
 

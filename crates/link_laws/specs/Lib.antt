@@ -11,3 +11,5 @@ pub mod Whole
 pub mod Bytes
 pub mod Growth
 pub mod Freely
+pub mod Local
+pub mod Noticed

@@ -9,6 +9,8 @@ ghost use Rattle.link_laws.specs.Calm.{LanesAreCalm};
 ghost use Rattle.link_laws.specs.Exact.{CleanIsFront, FrontIsClean, CheckIsExact};
 ghost use Rattle.link_sink.specs.Sinks.{SomeReported, OneReported};
 ghost use Rattle.link_laws.specs.Freely.{FramingStandsFreely, PeriodsStandFreely, LinkLawFreely, ControlLawFreely, VideoLawFreely, IslandLawFreely, JoiningLawFreely, AccountLiteralFreely, EdgesEndFreely, FirstEndsFreely, FirstUntilFreely, TapAccountedFreely, PayloadAccountedFreely, CleanReceived};
+ghost use Rattle.link_laws.specs.Local.{VideoAnywhere, IslandAnywhere, IslandClosesAnywhere, RowAnywhere, StreamAnywhere, AlignedWhateverFollows, HasLocalExample};
+ghost use Rattle.link_laws.specs.Noticed.{Noticed, NoticedReported, FewOnLanes, OneIsAsSent, FewIsAsSent};
 ghost use Rattle.link_laws.specs.Growth.{ReportedGrows, WholeGrows, LinkIsGrammar};
 
 /// The received control columns are those of the control periods, wherever damage lies.
@@ -191,4 +193,55 @@ pub fn aligned_freely()
 /// what was sent.
 pub fn clean_received()
     ensures { CleanReceived }
+{}
+
+/// Whatever was received before and after it, a video data period received with few words damaged, after twelve control
+/// columns and before one, is reported as its row.
+pub fn video_anywhere()
+    ensures { VideoAnywhere }
+{}
+
+/// So is a data island.
+pub fn island_anywhere()
+    ensures { IslandAnywhere }
+{}
+
+/// A data island is reported as its row by its last column, whatever follows.
+pub fn island_closes_anywhere()
+    ensures { IslandClosesAnywhere }
+{}
+
+/// In all that is reported the row of such a period stands after what was reported before its second column.
+pub fn row_anywhere()
+    ensures { RowAnywhere }
+{}
+
+/// So it does of a period of a stream of which anything else may have been received.
+pub fn stream_anywhere()
+    ensures { StreamAnywhere }
+{}
+
+/// Where damage is sparse and spares control and guard words until a column that is the first after a control period, the
+/// first full alignment is the end of one control period at or before it, whatever is received after.
+pub fn aligned_whatever_follows()
+    ensures { AlignedWhateverFollows }
+{}
+
+/// The premises of the last two are met together, with a column after the alignment of which no word was received as it was
+/// sent, and skews of 0, 70 and 35.
+pub fn has_local_example()
+    ensures { HasLocalExample }
+{}
+
+/// A packet with at most three damaged words on lane 0 and three on the others is reported with a fault, or as it was sent.
+pub fn noticed()
+    ensures { Noticed }
+{}
+
+/// Its row in the account is then that packet alone; the account has it as it was sent, as it has one with one damaged word.
+pub fn noticed_reported()
+    ensures reported { NoticedReported }
+    ensures few { FewOnLanes }
+    ensures one { OneIsAsSent }
+    ensures as_sent { FewIsAsSent }
 {}

@@ -11,7 +11,7 @@ use Rattle.link_laws.specs.Laws.{ReceivedOf}
 use Rattle.link_laws.proofs.Between.{take_seam, drop_seam}
 use Rattle.link_laws.proofs.IslandColumns.{ArePackets, no_packets, one_more, packet_sent, packet_received}
 use Rattle.link_laws.proofs.IslandReported.{framed, frame}
-use Rattle.link_laws.proofs.Joining.{controls, pixels, packets, Arrives, nothing, more, sized}
+use Rattle.link_laws.proofs.Joining.{ArrivesPeriod, controls, pixels, packets, Arrives, nothing, more, sized}
 use Rattle.link_laws.proofs.Framing.{arrived}
 use Rattle.listing_laws.specs.PacketLaws.{Placed, each_at, placed}
 use Rattle.listing_laws.specs.ListingLaws.{Each}
@@ -55,6 +55,12 @@ inside sent x i pp ss e = sym (drop-drop 2 x sent) ∙ ap (drop 2) e ∙ append_
 inside_received : (received : List Column) (x : ℕ) (g k : Column) (qq : List Column) (c f : Column) (rs : List Column) → drop x received ≡ framed g k qq c f ++ rs → drop (x + 2) received ≡ qq ++ ((c ∷ (f ∷ [])) ++ rs)
 inside_received received x g k qq c f rs e = sym (drop-drop 2 x received) ∙ ap (drop 2) e ∙ append_assoc qq (c ∷ (f ∷ [])) rs
 
+-- the packets of an island at column x
+pub island_shown : (P : Placed → Type 0) (sent received : List Column) → IsShown P sent received → (x : ℕ) (i : DataIsland) (own reception ss rs : List Column) → ArrivesPeriod (island i) own reception
+    → drop x sent ≡ own ++ ss → drop x received ≡ reception ++ rs → Each P (each_at (x + 2) i.packets)
+island_shown P sent received shown x _ _ _ ss rs (packets i g k c f pp qq guards are) e d =
+    each_shown P sent received shown true i.packets pp qq are (x + 2) (guard_columns i.closing ++ ss) ((c ∷ (f ∷ [])) ++ rs) (inside sent x i pp ss e) (inside_received received x g k qq c f rs d)
+
 placed_shown : (P : Placed → Type 0) (sent received : List Column) → IsShown P sent received → (xs : List Period) (ss rs : List Column) → Arrives xs ss rs → (x : ℕ) → drop x sent ≡ ss → drop x received ≡ rs → Each P (placed x xs)
 unfolding placed
 placed_shown P sent received shown _ _ _ nothing x e d = tt
@@ -67,7 +73,7 @@ placed_shown P sent received shown _ _ _ (more _ xs own reception ss rs (pixels 
 placed_shown P sent received shown _ _ _ (more _ xs own reception ss rs (packets i g k c f pp qq guards are) h) x e d =
     let s = sized (island i) own reception (packets i g k c f pp qq guards are) in
     each_both P (each_at (x + 2) i.packets) (placed (x + period_columns (island i)) xs)
-    (each_shown P sent received shown true i.packets pp qq are (x + 2) (guard_columns i.closing ++ ss) ((c ∷ (f ∷ [])) ++ rs) (inside sent x i pp ss e) (inside_received received x g k qq c f rs d))
+    (island_shown P sent received shown x i own reception ss rs (packets i g k c f pp qq guards are) e d)
     (placed_shown P sent received shown xs ss rs h (x + period_columns (island i)) (after sent own ss x (period_columns (island i)) e s.sent) (after received reception rs x (period_columns (island i)) d s.received))
 
 pub each_placed : (P : Placed → Type 0) (sent received : List Column) → IsShown P sent received → (periods : List Period) → ReceivedOf periods sent received → Each P (placed 0 periods)

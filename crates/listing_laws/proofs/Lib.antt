@@ -40,4 +40,5 @@ pub mod JoinedRuns
 pub mod SoundLines
 pub mod OwnRows
 pub mod LinkLaw
+pub mod LocalPackets
 pub mod Exact

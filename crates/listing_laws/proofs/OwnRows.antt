@@ -25,6 +25,7 @@ use Rattle.link_laws.proofs.IslandColumns.{packet_sent}
 use Rattle.link_laws.proofs.IslandReported.{frame}
 use Rattle.link_laws.proofs.Rows.{control_columns, Small}
 use Rattle.listing_writer.specs.Texts.{line_words}
+use Rattle.link_laws.proofs.PacketRow.{one_is_as_sent}
 use Rattle.listing_laws.proofs.AsSent.{as_sent_row}
 use Rattle.listing_laws.proofs.Fine.{value_back}
 use Rattle.listing_laws.proofs.SoundLines.{sound_lines, sound_append, silent_both, silent_words, silent_preamble, silent_guards, silent_codes, silent_packet}
@@ -121,7 +122,7 @@ own_sync (v ∷ vs) (c ∷ cs) long =
 
 one_packet : (s : ℕ) (p : Packet) (own : List Column) → CarriesFreely p (map words_in own) → sound_lines (packet_reported s p own own) ≡ line_of (reported_packet p)
 unfolding packet_reported line_words
-one_packet s p own carries = grind (arith, line_of, silent_packet, append-nil, own_damage, packet_sent, as_sent_row, own_sync)
+one_packet s p own carries = grind (arith, line_of, silent_packet, append-nil, own_damage, packet_sent, one_is_as_sent, as_sent_row, own_sync)
 
 packets_lines : (first : Bool) (s i : ℕ) (ps : List Packet) (closing : SyncPair) (cs : List Column) → closing.first < 4 → closing.second < 4 → SpellsPackets first ps cs → 32 * length ps + 2 ≤ i
     → sound_lines (packets_reported cut s ps i (cs ++ guard_columns closing) (cs ++ guard_columns closing)) ≡ packet_lines ps ++ line_of (close_island closing.first closing.second)

@@ -1,5 +1,5 @@
--- The content lines of a packet of which at most one word was received unlike, and of the packets of periods.
-use Rattle.std.proofs.Common.{◌≡◌, ℕ, ◌-◌, ◌<◌, ◌≤◌, Bool, false, if◌then◌else◌, List, [], ◌∷◌, map, length, take, drop, Option, None, refl, sym, ap₂, subst, ◌∙◌, arith}
+-- The content lines of a packet that is as sent in the account, and of the packets of periods.
+use Rattle.std.proofs.Common.{◌≡◌, ℕ, ◌-◌, ◌<◌, Bool, true, false, if◌then◌else◌, List, [], ◌∷◌, map, length, take, drop, Option, None, refl, sym, ap₂, subst, ◌∙◌, arith}
 use Rattle.std.specs.Prelude.{is_some, slice_index, nat_le, Ok, Err, ◌==◌}
 use Rattle.std.specs.List.{find}
 use Rattle.tmds_word.specs.Column.{Column}
@@ -19,9 +19,9 @@ use Rattle.audio_packets.specs.Faults.{first_lost, unless_lost}
 use Rattle.audio_packets.specs.Faults as audio
 use Rattle.audio_packets.specs.declared.fault.AudioFault.TheVariants.{Uneven, Layout}
 use Rattle.listing_writer.specs.ContentText.{packet_lines, carried_lines, clock_lines, sample_lines, control_lines, info_lines, other_words}
-use Rattle.link_laws.specs.Account.{damage, packet_row}
+use Rattle.link_laws.specs.Account.{is_as_sent, packet_row}
 use Rattle.listing_laws.specs.PacketLaws.{Placed, received_packet}
-use Rattle.listing_laws.specs.ListingLaws.{LinesOfPayload, unlike_in, reported_lines, PacketLinesAsSent, PacketLinesComeBack}
+use Rattle.listing_laws.specs.ListingLaws.{LinesOfPayload, as_sent_at, reported_lines, PacketLinesAsSent, PacketLinesComeBack}
 use Rattle.listing_laws.proofs.AsSent.{as_sent_freely}
 use Rattle.listing_laws.proofs.EachPlaced.{each_placed}
 
@@ -75,7 +75,7 @@ spotless_whole = refl
 pub lines_of_payload : LinesOfPayload
 lines_of_payload p q v column header bodies = grind (arith, lines_are, lines_bare)
 
-lines_freely : (p : Packet) (sent received : List Column) → CarriesFreely p (map column_words sent) → length received ≡ 32 → damage sent received ≤ 1 → (column : ℕ)
+lines_freely : (p : Packet) (sent received : List Column) → CarriesFreely p (map column_words sent) → length received ≡ 32 → is_as_sent sent received ≡ true → (column : ℕ)
     → packet_lines (packet_row p sent received) (verdicts_of received) column ≡ packet_lines p spotless column
 lines_freely p sent received carries long few column =
     let h = as_sent_freely p sent received carries long few in
@@ -91,13 +91,13 @@ lines_freely p sent received carries long few column =
 pub packet_lines_as_sent : PacketLinesAsSent
 packet_lines_as_sent p first sent received carries long few column = lines_freely p sent received carries.free long few column
 
-abbrev IsListed : List Column → List Column → ℕ → Placed → Type 0
-IsListed sent received a k = unlike_in sent received k ≤ 1 → reported_lines (received_packet sent received a k) ≡ packet_lines k.packet spotless (k.at - a)
+abbrev pub IsListed : List Column → List Column → ℕ → Placed → Type 0
+IsListed sent received a k = as_sent_at sent received k ≡ true → reported_lines (received_packet sent received a k) ≡ packet_lines k.packet spotless (k.at - a)
 
-listed_here : (sent received : List Column) (a y : ℕ) (p : Packet) (own reception : List Column) → CarriesFreely p (map column_words own) → length reception ≡ 32 → take 32 (drop y sent) ≡ own → take 32 (drop y received) ≡ reception
+pub listed_here : (sent received : List Column) (a y : ℕ) (p : Packet) (own reception : List Column) → CarriesFreely p (map column_words own) → length reception ≡ 32 → take 32 (drop y sent) ≡ own → take 32 (drop y received) ≡ reception
     → IsListed sent received a (record { packet = p; at = y })
 listed_here sent received a y p own reception carries long e d few =
-    let n : damage own reception ≤ 1 = subst (λ (cs : List Column). damage own cs ≤ 1) d (subst (λ (cs : List Column). damage cs (take 32 (drop y received)) ≤ 1) e few) in
+    let n : is_as_sent own reception ≡ true = subst (λ (cs : List Column). is_as_sent own cs ≡ true) d (subst (λ (cs : List Column). is_as_sent cs (take 32 (drop y received)) ≡ true) e few) in
     ap₂ (λ (cs ds : List Column). packet_lines (packet_row p cs ds) (verdicts_of ds) (y - a)) e d ∙ lines_freely p own reception carries long n (y - a)
 
 pub packet_lines_come_back : PacketLinesComeBack

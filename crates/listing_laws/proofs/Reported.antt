@@ -22,7 +22,7 @@ use Rattle.link_laws.proofs.EndPlaces.{kinds_from, ends_first, ends_only, contro
 use Rattle.listing_laws.proofs.Accounted.{island_size}
 use Rattle.listing_laws.specs.PacketLaws.{Placed, each_at, placed, ReportedPacket, reported_packet, reported_packets, received_packet, packets_received, PacketsComeBack}
 
-reported_both : (xs ys : List Event) → reported_packets (xs ++ ys) ≡ reported_packets xs ++ reported_packets ys
+pub reported_both : (xs ys : List Event) → reported_packets (xs ++ ys) ≡ reported_packets xs ++ reported_packets ys
 unfolding reported_packets
 reported_both [] ys = refl
 reported_both (x ∷ xs) ys = ap (λ (ks : List ReportedPacket). reported_packet x ++ ks) (reported_both xs ys) ∙ sym (append_assoc (reported_packet x) (reported_packets xs) (reported_packets ys))
@@ -85,11 +85,11 @@ no_open_video : (b : ℕ) (before rs : List Column) → reported_packets (open_v
 unfolding open_video_row reported_packets
 no_open_video b before rs = grind (arith, no_both, no_lack, no_guards)
 
-no_open_island : (b : ℕ) (before rs : List Column) → reported_packets (open_island_row b before rs) ≡ []
+pub no_open_island : (b : ℕ) (before rs : List Column) → reported_packets (open_island_row b before rs) ≡ []
 unfolding open_island_row reported_packets
 no_open_island b before rs = grind (arith, no_both, no_lack, no_guards)
 
-no_close : (s : ℕ) (rs : List Column) → reported_packets (close_island_row s rs) ≡ []
+pub no_close : (s : ℕ) (rs : List Column) → reported_packets (close_island_row s rs) ≡ []
 unfolding close_island_row reported_packets
 no_close s rs = grind (arith, no_guards)
 
@@ -110,7 +110,7 @@ unfolding reported_packets
 no_blocks s b [] = refl
 no_blocks s b (v ∷ vs) = no_both (block_fault s b v) (block_faults s (b + 1) vs) (no_block s b v) (no_blocks s (b + 1) vs)
 
-one_packet : (s : ℕ) (p : Packet) (ss rs : List Column) → reported_packets (packet_reported s p ss rs) ≡ record { packet = packet_row p ss rs; verdicts = verdicts_of rs; column = s } ∷ []
+pub one_packet : (s : ℕ) (p : Packet) (ss rs : List Column) → reported_packets (packet_reported s p ss rs) ≡ record { packet = packet_row p ss rs; verdicts = verdicts_of rs; column = s } ∷ []
 unfolding reported_packets packet_reported
 one_packet s p ss rs = grind (arith, no_both, no_symbols, no_blocks)
 
@@ -149,15 +149,15 @@ no_closing t s rs = grind (arith, no_close)
 take_less : (n k : ℕ) (cs : List Column) → take n (take (n + k) cs) ≡ take n cs
 take_less n k cs = take-take n (n + k) cs (omega arith)
 
-abbrev window : ℕ → ℕ → List Column → List Column
+abbrev pub window : ℕ → ℕ → List Column → List Column
 window n y cs = take (32 * n + 2) (drop y cs)
 
-first_window : (n y : ℕ) (cs : List Column) → take 32 (window (suc n) y cs) ≡ take 32 (drop y cs)
+pub first_window : (n y : ℕ) (cs : List Column) → take 32 (window (suc n) y cs) ≡ take 32 (drop y cs)
 first_window n y cs =
     let e : 32 * suc n + 2 ≡ 32 + (32 * n + 2) = omega arith in
     ap (λ (i : ℕ). take 32 (take i (drop y cs))) e ∙ take_less 32 (32 * n + 2) (drop y cs)
 
-rest_window : (n y : ℕ) (cs : List Column) → drop 32 (window (suc n) y cs) ≡ window n (y + 32) cs
+pub rest_window : (n y : ℕ) (cs : List Column) → drop 32 (window (suc n) y cs) ≡ window n (y + 32) cs
 rest_window n y cs =
     let e : 32 * suc n + 2 ≡ 32 + (32 * n + 2) = omega arith in
     ap (λ (i : ℕ). drop 32 (take i (drop y cs))) e ∙ drop-take 32 (32 * n + 2) (drop y cs) ∙ ap (λ (ds : List Column). take (32 * n + 2) ds) (drop-drop 32 y cs)
@@ -185,7 +185,7 @@ packets_are (p ∷ ps) ss rs a e y le = grind (arith, cases_lt, cut_packet, none
 
 -- An island.
 
-after_guard : (n x : ℕ) (cs : List Column) → drop 2 (take (4 + 32 * n) (drop x cs)) ≡ window n (x + 2) cs
+pub after_guard : (n x : ℕ) (cs : List Column) → drop 2 (take (4 + 32 * n) (drop x cs)) ≡ window n (x + 2) cs
 after_guard n x cs =
     let e : 4 + 32 * n ≡ 2 + (32 * n + 2) = omega arith in
     ap (λ (i : ℕ). drop 2 (take i (drop x cs))) e ∙ drop-take 2 (32 * n + 2) (drop x cs) ∙ ap (λ (ds : List Column). take (32 * n + 2) ds) (drop-drop 2 x cs)

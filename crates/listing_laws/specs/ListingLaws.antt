@@ -1,5 +1,5 @@
 -- Which lines of a content listing give rows and frames and which give packets, and what is listed of a packet of which at
--- most one word was received unlike.
+-- most one word was received unlike, or few were and no fault is found.
 use Rattle.std.specs.Prelude.{◌≡◌, ℕ, ◌+◌, ◌-◌, ◌≤◌, Bool, true, false, ◌&&◌, ◌||◌, ◌==◌, List, [], ◌∷◌, ◌++◌, map, length, take, drop, None, codes}
 use Rattle.std.specs.List.{filter, flat_map}
 use Rattle.hex.specs.Hex.{encode_lower}
@@ -13,7 +13,7 @@ use Rattle.island_pack.specs.declared.packet.PacketVerdicts.{PacketVerdicts}
 use Rattle.island_pack.specs.Repaired.{verdicts_of}
 use Rattle.period_grammar.specs.Events.{Event}
 use Rattle.period_grammar.specs.Heard.{heard}
-use Rattle.link_laws.specs.Account.{damage, packet_row}
+use Rattle.link_laws.specs.Account.{is_as_sent, packet_row}
 use Rattle.link_laws.specs.Laws.{ReceivedOf, EndsControl}
 use Rattle.source_end.specs.declared.mode.Mode.{Mode}
 use Rattle.source_end.specs.Content.{Frame}
@@ -47,20 +47,21 @@ abbrev pub LinesOfPayload : Type 0
 LinesOfPayload =
     (p q : Packet) (verdicts : PacketVerdicts) (column : ℕ) → p.header ≡ q.header → p.bodies ≡ q.bodies → packet_lines p verdicts column ≡ packet_lines q verdicts column
 
--- the content lines of a packet of which at most one word was received unlike are those of the packet as it was sent
+-- the content lines of such a packet are those of the packet as it was sent
 abbrev pub PacketLinesAsSent : Type 0
 PacketLinesAsSent =
     (p : Packet) (first : Bool) (sent received : List Column) → Carries p first (map column_words sent) → length received ≡ 32
-    → damage sent received ≤ 1 → (column : ℕ) → packet_lines (packet_row p sent received) (verdicts_of received) column ≡ packet_lines p spotless column
+    → is_as_sent sent received ≡ true → (column : ℕ) → packet_lines (packet_row p sent received) (verdicts_of received) column ≡ packet_lines p spotless column
 
 -- each of these packets
 abbrev pub Each : (Placed → Type 0) → List Placed → Type 0
 Each P [] = Unit {0}
 Each P (k ∷ ks) = P k × Each P ks
 
--- how many of its words were received unlike
-abbrev pub unlike_in : List Column → List Column → Placed → ℕ
-unlike_in sent received k = damage (take 32 (drop k.at sent)) (take 32 (drop k.at received))
+-- whether a packet of periods is as sent in the account: at most one of its words was received unlike, or few were and no
+-- fault is found
+abbrev pub as_sent_at : List Column → List Column → Placed → Bool
+as_sent_at sent received k = is_as_sent (take 32 (drop k.at sent)) (take 32 (drop k.at received))
 
 -- the content lines of a reported packet
 abbrev pub reported_lines : ReportedPacket → List (List ℕ)
@@ -82,11 +83,10 @@ PacketLinesAreListed = (events : List Event) → filter tells_packet (content_li
 abbrev pub PacketLinesComeBack : Type 0
 PacketLinesComeBack =
     (periods : List Period) (sent received : List Column) → ReceivedOf periods sent received → (a : ℕ)
-    → Each (λ k. unlike_in sent received k ≤ 1 → reported_lines (received_packet sent received a k) ≡ packet_lines k.packet spotless (k.at - a)) (placed 0 periods)
+    → Each (λ k. as_sent_at sent received k ≡ true → reported_lines (received_packet sent received a k) ≡ packet_lines k.packet spotless (k.at - a)) (placed 0 periods)
 
--- each packet of periods of which at most one word was received unlike is reported with its header and bodies, and none
--- of its blocks is lost
+-- each such packet of periods is reported with its header and bodies, and none of its blocks is lost
 abbrev pub PacketsAsSent : Type 0
 PacketsAsSent =
     (periods : List Period) (sent received : List Column) → ReceivedOf periods sent received → (a : ℕ)
-    → Each (λ k. unlike_in sent received k ≤ 1 → IsAsSent k.packet (received_packet sent received a k).packet (received_packet sent received a k).verdicts) (placed 0 periods)
+    → Each (λ k. as_sent_at sent received k ≡ true → IsAsSent k.packet (received_packet sent received a k).packet (received_packet sent received a k).verdicts) (placed 0 periods)

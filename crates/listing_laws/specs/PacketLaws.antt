@@ -1,5 +1,5 @@
 -- Packets of periods received with sparse damage: which are reported, and with which bytes.
-use Rattle.std.specs.Prelude.{◌≡◌, ℕ, ◌+◌, ◌-◌, ◌<◌, ◌≤◌, Bool, ◌&&◌, cond, List, [], ◌∷◌, ◌++◌, map, length, take, drop, nat_le, None}
+use Rattle.std.specs.Prelude.{◌≡◌, ℕ, ◌+◌, ◌-◌, ◌<◌, ◌≤◌, Bool, true, ◌&&◌, cond, List, [], ◌∷◌, ◌++◌, map, length, take, drop, nat_le, None}
 use Rattle.tmds_word.specs.Column.{Column}
 use Rattle.bch_block.specs.declared.Verdict.TheVariants.{Lost}
 use Rattle.island_pack.specs.Periods.{Period, control, video, island, period_columns}
@@ -10,7 +10,7 @@ use Rattle.island_pack.specs.declared.packet.Packet.{Packet}
 use Rattle.island_pack.specs.declared.packet.PacketVerdicts.{PacketVerdicts}
 use Rattle.period_grammar.specs.Events.{Event, packet}
 use Rattle.island_pack.specs.Repaired.{verdicts_of}
-use Rattle.link_laws.specs.Account.{damage, packet_row, account}
+use Rattle.link_laws.specs.Account.{is_as_sent, packet_row, account}
 use Rattle.link_laws.specs.Laws.{ReceivedOf, EndsControl}
 use Rattle.source_end.specs.declared.mode.Mode.{Mode}
 use Rattle.source_end.specs.Content.{Frame}
@@ -74,11 +74,11 @@ pub record IsAsSent (p : Packet) (reported : Packet) (verdicts : PacketVerdicts)
   pub bodies : reported.bodies ≡ p.bodies
   pub kept : (b : ℕ) → b < 5 → verdict_on verdicts b ≡ Lost → ⊥
 
--- so is each of which at most one word was received unlike
-abbrev pub OneWordAsSent : Type 0
-OneWordAsSent =
+-- so is each of which at most one word was received unlike, or few were and no fault is found
+abbrev pub OnePacketAsSent : Type 0
+OnePacketAsSent =
     (p : Packet) (first : Bool) (sent received : List Column) → Carries p first (map column_words sent) → length received ≡ 32
-    → damage sent received ≤ 1 → IsAsSent p (packet_row p sent received) (verdicts_of received)
+    → is_as_sent sent received ≡ true → IsAsSent p (packet_row p sent received) (verdicts_of received)
 
 -- header and bodies, which a raster does not change
 pub record Payload : Type 0 where

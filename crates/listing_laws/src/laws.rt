@@ -3,7 +3,7 @@
 ghost use Rattle.listing_laws.specs.FrameLaws.{FramesComeBack, FramesHeard};
 ghost use Rattle.listing_laws.specs.LinkLaws.{AccountReadsBack};
 ghost use Rattle.listing_laws.specs.ListingLaws.{FrameLinesComeBack, LinesOfPayload, PacketLinesAreListed, PacketLinesAsSent, PacketLinesComeBack, PacketsAsSent};
-ghost use Rattle.listing_laws.specs.PacketLaws.{PacketsComeBack, OneWordAsSent, RasterPackets};
+ghost use Rattle.listing_laws.specs.PacketLaws.{PacketsComeBack, OnePacketAsSent, RasterPackets};
 ghost use Rattle.listing_laws.specs.Rasters.{RastersCome, HasRaster};
 
 /// Of the account of a raster's columns, received with sparse damage wherever it lies, the rows are listed of exactly
@@ -24,13 +24,13 @@ pub fn packets_come_back()
     ensures { PacketsComeBack }
 {}
 
-/// A packet of which at most one word was received unlike is reported with its header and bodies, and none of its
-/// blocks is lost.
-pub fn one_word_as_sent()
-    ensures { OneWordAsSent }
+/// A packet of which at most one word was received unlike, or few were and no fault is found, is reported with its header
+/// and bodies, and none of its blocks is lost.
+pub fn one_packet_as_sent()
+    ensures { OnePacketAsSent }
 {}
 
-/// So is each packet of conforming periods of which at most one word was received unlike.
+/// So is each such packet of conforming periods.
 pub fn packets_as_sent()
     ensures { PacketsAsSent }
 {}
@@ -56,12 +56,12 @@ pub fn lines_of_payload()
     ensures { LinesOfPayload }
 {}
 
-/// The content lines of a packet of which at most one word was received unlike are those of the packet as it was sent.
+/// The content lines of such a packet are those of the packet as it was sent.
 pub fn packet_lines_as_sent()
     ensures { PacketLinesAsSent }
 {}
 
-/// So are those of each reported packet of conforming periods of which at most one word was received unlike.
+/// So are those of each such packet of conforming periods, as it is reported.
 pub fn packet_lines_come_back()
     ensures { PacketLinesComeBack }
 {}

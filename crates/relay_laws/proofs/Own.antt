@@ -26,6 +26,7 @@ use Rattle.period_grammar.specs.Column.{control_bits, value_of, sync_digit}
 use Rattle.period_grammar.specs.Cut.{Run, columns as same_columns, value, in_front, before_runs, runs as runs_in}
 use Rattle.period_grammar.specs.Events.{Event}
 use Rattle.link_laws.specs.Account.{byte, pixel_bytes, damage, sync_row, packet_row}
+use Rattle.link_laws.proofs.PacketRow.{one_is_as_sent}
 use Rattle.relay_laws.proofs.Below.{Facts}
 use Rattle.relay.specs.Relayed.{Judged, WholeIsland, RelayedPart, some_line, some_island, sure, with_nulls, nulled, Data, a_line, an_island, Turn, Alternation, ended, joined, none, gathered, on_turn, filled, lengthened, with_ctl, announcing, preamble_of, announced_turn, period_of, periods_in, settled, conformed, kept, relayed}
 use Rattle.relay_laws.specs.Received.{runs_kept, packets_received, digits_of, island_received, period_received, received_from, received_at, reception}
@@ -154,7 +155,7 @@ packet_long p own c = sym (length-map own column_words) ∙ c.count
 
 own_packet : (p : Packet) (own : List Column) → CarriesFreely p (map column_words own) → packet_row p own own ≡ p
 unfolding packet_row
-own_packet p own c = grind (arith, own_damage, packet_long, le-leb, own_sync)
+own_packet p own c = grind (arith, own_damage, packet_long, one_is_as_sent, own_sync)
 
 own_verdicts : Facts → (p : Packet) (own : List Column) → CarriesFreely p (map column_words own) → verdicts_of own ≡ spotless
 own_verdicts f p own c = (f.clean p (packet_in (map column_words own)) (verdicts_in (map column_words own)) (map column_words own) c (f.taken (map column_words own) c.count)).1

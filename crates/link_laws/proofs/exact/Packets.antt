@@ -133,15 +133,15 @@ are_terc ws h (suc (suc (suc lane))) lt = absurd (omega arith)
 
 -- No fault is reported.
 
-record AreClean (ws : List (List ℕ)) : Type 0 where
-  terc : foreign_words ws ≡ 0
-  body_0 : verdict_of (body_bits ws 0) ≡ Clean
-  body_1 : verdict_of (body_bits ws 1) ≡ Clean
-  body_2 : verdict_of (body_bits ws 2) ≡ Clean
-  body_3 : verdict_of (body_bits ws 3) ≡ Clean
-  header : verdict_of (header_bits ws) ≡ Clean
+pub record AreClean (ws : List (List ℕ)) : Type 0 where
+  pub terc : foreign_words ws ≡ 0
+  pub body_0 : verdict_of (body_bits ws 0) ≡ Clean
+  pub body_1 : verdict_of (body_bits ws 1) ≡ Clean
+  pub body_2 : verdict_of (body_bits ws 2) ≡ Clean
+  pub body_3 : verdict_of (body_bits ws 3) ≡ Clean
+  pub header : verdict_of (header_bits ws) ≡ Clean
 
-faults_fine : (s : ℕ) (ws : List (List ℕ)) → Fine (packet_faults s (verdicts_in ws)) → AreClean ws
+pub faults_fine : (s : ℕ) (ws : List (List ℕ)) → Fine (packet_faults s (verdicts_in ws)) → AreClean ws
 unfolding verdicts_in
 faults_fine s ws h = grind (arith, fine_right, eqb-true, not_false, if_so_fine, fine_left)
 

@@ -1,10 +1,13 @@
 use Rattle.std.proofs.Common.{rules}
 use Rattle.hdmi_cli.specs.Endings.{note_of, seen}
-use Rattle.command_line.specs.declared.command.Command.TheVariants.{RecoverContent, RecoverTrack}
-use Rattle.hdmi_cli.specs.Listings.{link_listing, content_listing}
+use Rattle.command_line.specs.declared.command.Command.TheVariants.{RecoverLink, RecoverContent, RecoverTrack, Check}
+use Rattle.hdmi_cli.specs.Listings.{link_listing, content_listing, check_listing}
+use Rattle.hdmi_cli.specs.Listers.{after_link, last_link, link_is_text, after_content, content_is_text, after_check, last_check, check_is_text}
 use Rattle.hdmi_cli.proofs.Ends.{says}
 use Rattle.hdmi_cli.proofs.Exact.{check_is_exact}
 use Rattle.hdmi_cli.proofs.Headline.{headlined, headlined_anywhere, dvi_headlined, recovered}
+use Rattle.hdmi_cli.proofs.Local.{headlined_locally}
+use Rattle.hdmi_cli.proofs.LocalPackets.{packeted_locally}
 use Rattle.hdmi_cli.proofs.RelayAgain.{relay_again}
 use Rattle.hdmi_cli.proofs.RelayClean.{relay_passes}
 use Rattle.hdmi_cli.proofs.RelayHeadline.{relay_headlined}
@@ -49,10 +52,14 @@ returns g c =
       theorem = record {
         headline = headlined words ending before after status ends known;
         headline_anywhere = headlined_anywhere words ending before after status ends known;
+        headline_local = headlined_locally link_listing after_link last_link link_is_text RecoverLink (λ bytes o does. does) words ending before after status ends known;
         check_exact = check_is_exact words before after status (note_of ending) s;
         content_headline = recovered content_listing RecoverContent (λ t tapped o does. does) words ending before after status ends known;
         pictures = pictured words ending before after status ends known;
         packets = packeted words ending before after status ends known;
+        content_local = headlined_locally content_listing after_content last_link content_is_text RecoverContent (λ bytes o does. does) words ending before after status ends known;
+        check_local = headlined_locally check_listing after_check last_check check_is_text Check (λ bytes o does. does) words ending before after status ends known;
+        packets_local = packeted_locally words ending before after status ends known;
         biphase_headline = sounded words ending before after status ends known;
         dvi_headline = dvi_headlined words ending before after status ends known;
         track_headline = recovered link_listing RecoverTrack tracks_as_link words ending before after status ends known;
