@@ -28,118 +28,102 @@ pub record Promises (words : List (List ℕ)) (status : ℕ) (before after : Dev
   -- `recover link` writes exactly what was sent: for all columns that conforming periods spell, every sparse damage of their
   -- payload, every tap of them with skews of at most 70 bits, from their first full alignment on.
   pub headline : IsCommand words RecoverLink → (t : TappedStream) → IsTapped t → IsSparseInPayload t.periods t.sent t.received
-        → (d e f : ℕ) → IsFirstOf t d e f → before.left ≡ Some t.bytes
-        → Unless (λ status held holds. (a : ℕ) × IsRecovered link_listing t d e f a status held holds) status before after
-
+      → (d e f : ℕ) → IsFirstOf t d e f → before.left ≡ Some t.bytes
+      → Unless (λ status held holds. (a : ℕ) × IsRecovered link_listing t d e f a status held holds) status before after
   -- The same for sparse damage of control, guard and preamble words too, where it spares them until a column that is the
   -- first after a control period and that each lane of the tap has, with the twelve before it: there is a first full
   -- alignment then, at or before that column.
   pub headline_anywhere : IsCommand words RecoverLink → (t : TappedStream) → IsTapped t
-        → (until : ℕ) → AlignsBy t until → before.left ≡ Some t.bytes
-        → Unless (IsRecoveredBy link_listing t until) status before after
-
+      → (until : ℕ) → AlignsBy t until → before.left ≡ Some t.bytes
+      → Unless (IsRecoveredBy link_listing t until) status before after
   -- And `recover content` writes the content listing of the same, in both forms.
   pub content_headline : IsCommand words RecoverContent → (t : TappedStream) → IsTapped t → IsSparseInPayload t.periods t.sent t.received
-        → (d e f : ℕ) → IsFirstOf t d e f → before.left ≡ Some t.bytes
-        → Unless (λ status held holds. (a : ℕ) × IsRecovered content_listing t d e f a status held holds) status before after
+      → (d e f : ℕ) → IsFirstOf t d e f → before.left ≡ Some t.bytes
+      → Unless (λ status held holds. (a : ℕ) × IsRecovered content_listing t d e f a status held holds) status before after
   pub content_headline_anywhere : IsCommand words RecoverContent → (t : TappedStream) → IsTapped t
-        → (until : ℕ) → AlignsBy t until → before.left ≡ Some t.bytes
-        → Unless (IsRecoveredBy content_listing t until) status before after
-
+      → (until : ℕ) → AlignsBy t until → before.left ≡ Some t.bytes
+      → Unless (IsRecoveredBy content_listing t until) status before after
   -- Of a raster exactly the rows and frames that were received are listed: for all modes and contents, every sparse
   -- damage, every tap, from the first full alignment on.
   pub pictures : IsCommand words RecoverContent
-        → (mode : Mode) (frames : List Frame) → raster_fault mode frames ≡ None → (t : TappedStream) → t.periods ≡ raster_of mode frames → IsTapped t
-        → (until : ℕ) → AlignsBy t until → before.left ≡ Some t.bytes
-        → Unless (λ status held holds. (d e f : ℕ) × IsFirstOf t d e f × ((a : ℕ) × (a + 12 ≤ until) × ArePictures mode frames t d e f a held holds)) status before after
-
+      → (mode : Mode) (frames : List Frame) → raster_fault mode frames ≡ None → (t : TappedStream) → t.periods ≡ raster_of mode frames → IsTapped t
+      → (until : ℕ) → AlignsBy t until → before.left ≡ Some t.bytes
+      → Unless (λ status held holds. (d e f : ℕ) × IsFirstOf t d e f × ((a : ℕ) × (a + 12 ≤ until) × ArePictures mode frames t d e f a held holds)) status before after
   -- And so for sparse damage of payload alone.
   pub pictures_of_payload : IsCommand words RecoverContent
-        → (mode : Mode) (frames : List Frame) → raster_fault mode frames ≡ None → (t : TappedStream) → t.periods ≡ raster_of mode frames → IsTapped t
-        → IsSparseInPayload t.periods t.sent t.received → (d e f : ℕ) → IsFirstOf t d e f → before.left ≡ Some t.bytes
-        → Unless (λ status held holds. (a : ℕ) × ArePictures mode frames t d e f a held holds) status before after
-
+      → (mode : Mode) (frames : List Frame) → raster_fault mode frames ≡ None → (t : TappedStream) → t.periods ≡ raster_of mode frames → IsTapped t
+      → IsSparseInPayload t.periods t.sent t.received → (d e f : ℕ) → IsFirstOf t d e f → before.left ≡ Some t.bytes
+      → Unless (λ status held holds. (a : ℕ) × ArePictures mode frames t d e f a held holds) status before after
   -- And of every stream exactly the packets that were received whole, each with at most one damaged word as it was
   -- sent, in both forms.
   pub packets : IsCommand words RecoverContent → (t : TappedStream) → IsTapped t
-        → (until : ℕ) → AlignsBy t until → before.left ≡ Some t.bytes
-        → Unless (λ status held holds. (d e f : ℕ) × IsFirstOf t d e f × ((a : ℕ) × (a + 12 ≤ until) × ArePackets t d e f a held holds)) status before after
+      → (until : ℕ) → AlignsBy t until → before.left ≡ Some t.bytes
+      → Unless (λ status held holds. (d e f : ℕ) × IsFirstOf t d e f × ((a : ℕ) × (a + 12 ≤ until) × ArePackets t d e f a held holds)) status before after
   pub packets_of_payload : IsCommand words RecoverContent → (t : TappedStream) → IsTapped t → IsSparseInPayload t.periods t.sent t.received
-        → (d e f : ℕ) → IsFirstOf t d e f → before.left ≡ Some t.bytes
-        → Unless (λ status held holds. (a : ℕ) × ArePackets t d e f a held holds) status before after
-
+      → (d e f : ℕ) → IsFirstOf t d e f → before.left ≡ Some t.bytes
+      → Unless (λ status held holds. (a : ℕ) × ArePackets t d e f a held holds) status before after
   -- `recover track` writes the same text in both forms: lanes that lost no bits have one epoch.
   pub track_headline : IsCommand words RecoverTrack → (t : TappedStream) → IsTapped t → IsSparseInPayload t.periods t.sent t.received
-        → (d e f : ℕ) → IsFirstOf t d e f → before.left ≡ Some t.bytes
-        → Unless (λ status held holds. (a : ℕ) × IsRecovered link_listing t d e f a status held holds) status before after
+      → (d e f : ℕ) → IsFirstOf t d e f → before.left ≡ Some t.bytes
+      → Unless (λ status held holds. (a : ℕ) × IsRecovered link_listing t d e f a status held holds) status before after
   pub track_headline_anywhere : IsCommand words RecoverTrack → (t : TappedStream) → IsTapped t
-        → (until : ℕ) → AlignsBy t until → before.left ≡ Some t.bytes
-        → Unless (IsRecoveredBy link_listing t until) status before after
-
+      → (until : ℕ) → AlignsBy t until → before.left ≡ Some t.bytes
+      → Unless (IsRecoveredBy link_listing t until) status before after
   -- `recover biphase` writes the stream of the samples of the packets that were received whole, each with at most one
   -- damaged word as it was sent, in both forms.
   pub biphase_headline : (pair : ℕ) → IsCommand words (RecoverBiphase pair) → (t : TappedStream) → IsTapped t → IsSparseInPayload t.periods t.sent t.received
-        → (d e f : ℕ) → IsFirstOf t d e f → before.left ≡ Some t.bytes
-        → Unless (λ status held holds. (a : ℕ) × AreSamples pair t d e f a status held holds) status before after
+      → (d e f : ℕ) → IsFirstOf t d e f → before.left ≡ Some t.bytes
+      → Unless (λ status held holds. (a : ℕ) × AreSamples pair t d e f a status held holds) status before after
   pub biphase_headline_anywhere : (pair : ℕ) → IsCommand words (RecoverBiphase pair) → (t : TappedStream) → IsTapped t
-        → (until : ℕ) → AlignsBy t until → before.left ≡ Some t.bytes
-        → Unless (λ status held holds. (d e f : ℕ) × IsFirstOf t d e f × ((a : ℕ) × (a + 12 ≤ until) × AreSamples pair t d e f a status held holds)) status before after
-
+      → (until : ℕ) → AlignsBy t until → before.left ≡ Some t.bytes
+      → Unless (λ status held holds. (d e f : ℕ) × IsFirstOf t d e f × ((a : ℕ) × (a + 12 ≤ until) × AreSamples pair t d e f a status held holds)) status before after
   -- Where a lane loses one to nine bits within the pixels of a line, once it was locked, there are two epochs: the second
   -- begins at the control period after the line, what is reported of it is the account from its first full alignment
   -- on, and what is reported in the first, of columns that end before the slip, is the account. The lines of both are
   -- written, and the slip's.
   pub track_slip : IsCommand words RecoverTrack → (t : TappedStream) → (s : LineSlip) → (y : Fed) → IsSlippedTap t s y → IsNoticed t s
-        → before.left ≡ Some t.bytes → Unless (IsTrackedAcross t s y) status before after
-
+      → before.left ≡ Some t.bytes → Unless (IsTrackedAcross t s y) status before after
   -- Where such a slip is not noticed, there is one epoch, and the text and the status are those of `recover link`. It is not
   -- where the lane had no lock before it, and then all is reported as it was sent, from the first full alignment on;
   -- nor where the lane ends before it has twelve characters of the control period after the line.
   pub track_slip_passes : IsCommand words RecoverTrack → (t : TappedStream) → (s : LineSlip) → (y : Fed) → IsSlippedTap t s y → IsUnnoticed t s
-        → before.left ≡ Some t.bytes → Unless (IsTrackedAsOne t s y) status before after
-
+      → before.left ≡ Some t.bytes → Unless (IsTrackedAsOne t s y) status before after
   -- `relay` sends on what was received of the periods that were sent, from the first full alignment on, in both
   -- forms; or it ends with 3 and writes nothing, where that has more than 20,000,000 columns.
   pub relay_headline : IsCommand words Relay → (t : TappedStream) → IsTapped t → IsSparseInPayload t.periods t.sent t.received
-        → (d e f : ℕ) → IsFirstOf t d e f → before.left ≡ Some t.bytes
-        → Unless (λ status held holds. (a : ℕ) × IsSentWithin t d e f a status held holds) status before after
+      → (d e f : ℕ) → IsFirstOf t d e f → before.left ≡ Some t.bytes
+      → Unless (λ status held holds. (a : ℕ) × IsSentWithin t d e f a status held holds) status before after
   pub relay_headline_anywhere : IsCommand words Relay → (t : TappedStream) → IsTapped t
-        → (until : ℕ) → AlignsBy t until → before.left ≡ Some t.bytes
-        → Unless (IsSentWithinBy t until) status before after
-
+      → (until : ℕ) → AlignsBy t until → before.left ≡ Some t.bytes
+      → Unless (IsSentWithinBy t until) status before after
   -- Where `check` says `clean` of a capture, and its aligned columns end in a control period of at least twelve, `relay`
   -- writes columns of the same conforming periods as the aligned ones, in which bit 3 of lane 0 in packet columns is free.
   pub relay_clean : IsCommand words Relay
-        → (blue green red : List Bool) (d e f : ℕ) (bytes : List ℕ) → IsAlignedCapture blue green red d e f bytes
-        → IsCleanToEnd (aligned_columns blue green red d e f) → before.left ≡ Some bytes
-        → Unless (IsPassedOn (aligned_columns blue green red d e f)) status before after
-
+      → (blue green red : List Bool) (d e f : ℕ) (bytes : List ℕ) → IsAlignedCapture blue green red d e f bytes
+      → IsCleanToEnd (aligned_columns blue green red d e f) → before.left ≡ Some bytes
+      → Unless (IsPassedOn (aligned_columns blue green red d e f)) status before after
   -- And they are the aligned columns themselves, but for bit 3 of lane 0 in packet columns.
   pub relay_clean_columns : IsCommand words Relay
-        → (blue green red : List Bool) (d e f : ℕ) (bytes : List ℕ) → IsAlignedCapture blue green red d e f bytes
-        → IsCleanToEnd (aligned_columns blue green red d e f) → before.left ≡ Some bytes
-        → Unless (IsWrittenButBit3 (aligned_columns blue green red d e f)) status before after
-
+      → (blue green red : List Bool) (d e f : ℕ) (bytes : List ℕ) → IsAlignedCapture blue green red d e f bytes
+      → IsCleanToEnd (aligned_columns blue green red d e f) → before.left ≡ Some bytes
+      → Unless (IsWrittenButBit3 (aligned_columns blue green red d e f)) status before after
   -- Of what `relay` wrote it writes the same, with its first control period cut to its last twelve columns, and the status
   -- is 0; or 7 where that is one control period alone.
   pub relay_again : IsCommand words Relay → (events : List Event) (text : List ℕ) → IsRelayed events text
-        → before.left ≡ Some text
-        → Unless (IsRelayedAgain (relayed events)) status before after
-
+      → before.left ≡ Some text
+      → Unless (IsRelayedAgain (relayed events)) status before after
   -- What `relay` wrote of its own output, with status 0, it writes again byte for byte, and the status is 0.
   pub relay_settles : IsCommand words Relay → (events : List Event) (text : List ℕ) → IsRelayed events text
-        → (second : RunOutcome) → Relays text second → second.status ≡ 0 → before.left ≡ Some second.output
-        → Unless (IsWritten second.output) status before after
-
+      → (second : RunOutcome) → Relays text second → second.status ≡ 0 → before.left ≡ Some second.output
+      → Unless (IsWritten second.output) status before after
   -- `recover dvi` writes exactly what was sent of every stream without guard columns whose lines have three pixels or more,
   -- for every tap of it with skews of at most 70 bits and sparse damage of its pixels, from the first full alignment on.
   pub dvi_headline : IsCommand words RecoverDvi → (t : TappedStream) → IsDviTapped t
-        → (d e f : ℕ) → IsFirstOf t d e f → before.left ≡ Some t.bytes
-        → Unless (λ status held holds. (a : ℕ) × IsDviRecovered t d e f a status held holds) status before after
-
+      → (d e f : ℕ) → IsFirstOf t d e f → before.left ≡ Some t.bytes
+      → Unless (λ status held holds. (a : ℕ) × IsDviRecovered t d e f a status held holds) status before after
   -- `check` of a capture with a first full alignment ends with `clean`, and the status is 0, where some conforming sender
   -- could have sent the aligned columns before the cut, and with `faulty`, and it is 1, where none could.
   pub check_exact : IsCommand words Check
-        → (blue green red : List Bool) (d e f : ℕ) (bytes : List ℕ) → IsAlignedCapture blue green red d e f bytes
-        → before.left ≡ Some bytes
-        → Unless (λ status held holds. IsJudged (aligned_columns blue green red d e f) status held holds) status before after
+      → (blue green red : List Bool) (d e f : ℕ) (bytes : List ℕ) → IsAlignedCapture blue green red d e f bytes
+      → before.left ≡ Some bytes
+      → Unless (λ status held holds. IsJudged (aligned_columns blue green red d e f) status held holds) status before after
