@@ -1,8 +1,6 @@
 //! The commands that make a capture: a listing is read whole, and then the capture of its columns is written.
 ghost use Rattle.std.specs.Prelude.{◌≡◌, ◌⊎◌, ℕ, ◌≤◌, List};
 ghost use Rattle.std.specs.Io.KnownBytes.{Consumes};
-ghost use Rattle.island_pack.specs.Spelling.{Spells};
-ghost use Rattle.source_end.specs.DviPeriods.{DviSpells};
 ghost use Rattle.hdmi_cli.specs.Commands.{tap_asked};
 ghost use Rattle.hdmi_cli.specs.Endings.{ColumnsEnd, Ends, StreamEnds, raster_ending, seen};
 ghost use Rattle.command_line.specs.declared.command.Command.TheVariants.{MakeLink, MakeContent, MakeDvi};
@@ -13,7 +11,7 @@ use capture_file::{Lanes, Tap, write_capture};
 use command_line::TapWords;
 use listing_reader::{ListError, read_content, read_dvi, read_link};
 use outside_io::{NoMemory, Sink, Source};
-use source_end::{DviStream, RasterFault, Stream};
+use source_end::{FramedStream, Framing, RasterFault};
 use std::alloc::Global;
 
 /// Reads a link listing whole, and then writes its capture.
@@ -55,7 +53,7 @@ pub(crate) fn make_dvi<S: Source, K: Sink>(
     ensures output_later { K.faults output.old ≤ K.faults output.new }
 {
     match read_dvi(alloc, input) {
-        Ok(stream) => write_dvi(alloc, &stream, &tap_of(words), output),
+        Ok(stream) => write_stream(alloc, &stream, &tap_of(words), output),
         Err(ListError::Bad(fault)) => Ending::Listing(fault),
         Err(ListError::Read) => Ending::ReadFailed,
         Err(ListError::NoMemory) => Ending::NoMemory,
@@ -104,30 +102,14 @@ fn unrastered(fault: RasterFault) -> Ending
 }
 
 /// Writes the capture of a tap of the columns of a stream.
-pub(crate) fn write_stream<K: Sink>(
+pub(crate) fn write_stream<F: Framing, K: Sink>(
     alloc: Global,
-    stream: &Stream,
+    stream: &FramedStream<F>,
     tap: &Tap,
     output: &mut K,
 ) -> Ending
     requires version { (tap.now.version ≡ 1) ⊎ (tap.now.version ≡ 2) }
-    ensures ends { StreamEnds Spells tap.now stream.now result (K.held output.old) (K.held output.new) (K.faults output.old) (K.faults output.new) }
-    ensures later { K.faults output.old ≤ K.faults output.new }
-{
-    let mut lanes = match Lanes::with_capacity(alloc, stream.columns()) {
-        Ok(lanes) => lanes,
-        Err(_) => return Ending::NoMemory,
-    };
-    match stream.spell(&mut lanes) {
-        Ok(()) => write_lanes(&lanes, tap, output),
-        Err(_) => Ending::NoMemory,
-    }
-}
-
-/// Writes the capture of a tap of the columns of a stream without guard columns.
-fn write_dvi<K: Sink>(alloc: Global, stream: &DviStream, tap: &Tap, output: &mut K) -> Ending
-    requires version { (tap.now.version ≡ 1) ⊎ (tap.now.version ≡ 2) }
-    ensures ends { StreamEnds DviSpells tap.now stream.now result (K.held output.old) (K.held output.new) (K.faults output.old) (K.faults output.new) }
+    ensures ends { StreamEnds F.spells tap.now stream.now result (K.held output.old) (K.held output.new) (K.faults output.old) (K.faults output.new) }
     ensures later { K.faults output.old ≤ K.faults output.new }
 {
     let mut lanes = match Lanes::with_capacity(alloc, stream.columns()) {

@@ -5,6 +5,7 @@ use Rattle.std.proofs.lemmas.Bool.{cases_lt}
 use Rattle.hex.specs.declared.error.FromHexError.{FromHexError}
 use Rattle.island_pack.specs.Periods.{Period}
 use Rattle.island_pack.specs.declared.packet.Packet.{Packet}
+use Rattle.source_end.specs.DviPeriods.{dvi_columns_of}
 use Rattle.source_end.specs.Refusals.{close_fault}
 use Rattle.listing_reader.specs.declared.fault.ListCause.{ListCause}
 use Rattle.listing_reader.specs.declared.fault.ListCause.TheVariants.{Fault, Form}
@@ -15,7 +16,7 @@ use Rattle.listing_reader.specs.Forms.{LineForm, control_line, video_by, island_
 use Rattle.listing_reader.specs.FormSeen.{IsForm}
 use Rattle.listing_reader.specs.declared.form.Form.{Form as Seen}
 use Rattle.listing_reader.specs.declared.form.Form.TheVariants.{Island, Packet as Packet_seen, Close, Other}
-use Rattle.listing_reader.specs.Causes.{caused}
+use Rattle.listing_reader.specs.Causes.{caused, run_cause_after}
 use Rattle.listing_reader.specs.Drafts.{with_run}
 use Rattle.listing_reader.specs.DviReading.{dvi_run_cause, dvi_line_cause, with_dvi_line, dvi_step_by, dvi_step}
 use Rattle.listing_reader.specs.Reported.{AnswersCause}
@@ -40,8 +41,8 @@ takes_refused T periods line form (Err found) refusal e answers is = grind (arit
 
 -- ---- the cause of a line, by its form
 
-pub cause_run : (periods : List Period) (value count : ℕ) → dvi_line_cause periods (control_line value count) ≡ dvi_run_cause periods value count
-unfolding dvi_line_cause
+pub cause_run : (periods : List Period) (value count : ℕ) → dvi_line_cause periods (control_line value count) ≡ run_cause_after (dvi_columns_of periods) value count
+unfolding dvi_line_cause dvi_run_cause
 cause_run periods value count = refl
 
 pub cause_end : (periods : List Period) → dvi_line_cause periods end_line ≡ caused (close_fault periods)
@@ -57,7 +58,7 @@ unfolding dvi_line_cause
 cause_none_reported periods = refl
 
 pub refused_run : (T : Type 0) (periods : List Period) (line : List ℕ) (value count : ℕ) (result : Result (Taken (List Period) (List Period)) Refusal) (refusal : Refusal) → form_of line ≡ control_line value count
-    → AnswersCause {T = T} (dvi_run_cause periods value count) (Err refusal) → IsErrAnd result (λ r. r ≡ refusal) → Takes (dvi_step periods line) result
+    → AnswersCause {T = T} (run_cause_after (dvi_columns_of periods) value count) (Err refusal) → IsErrAnd result (λ r. r ≡ refusal) → Takes (dvi_step periods line) result
 refused_run T periods line value count result refusal e answers is =
     takes_refused T periods line (control_line value count) result refusal e (subst (λ (c : Option ListCause). AnswersCause {T = T} c (Err refusal)) (sym (cause_run periods value count)) answers) is
 
@@ -68,10 +69,10 @@ refused_end T periods line result refusal e answers is =
 
 -- ---- a line that is taken
 
-pub tells_run : (T : Type 0) (periods now : List Period) (line : List ℕ) (value count : ℕ) (done : T) → form_of line ≡ control_line value count → AnswersCause (dvi_run_cause periods value count) (Ok done)
+pub tells_run : (T : Type 0) (periods now : List Period) (line : List ℕ) (value count : ℕ) (done : T) → form_of line ≡ control_line value count → AnswersCause (run_cause_after (dvi_columns_of periods) value count) (Ok done)
     → now ≡ with_run periods (record { value = value; count = count }) → dvi_step periods line ≡ tells now
 tells_run T periods now line value count done e answers same =
-    step_is periods line (control_line value count) None e (cause_run periods value count ∙ cause_none {T = T} (dvi_run_cause periods value count) done answers) ∙ ap tells (sym same)
+    step_is periods line (control_line value count) None e (cause_run periods value count ∙ cause_none {T = T} (run_cause_after (dvi_columns_of periods) value count) done answers) ∙ ap tells (sym same)
 
 pub tells_video : (T : Type 0) (periods now : List Period) (line : List ℕ) (read : Result (List ℕ) FromHexError) (done : T) → form_of line ≡ video_by true read
     → AnswersCause (dvi_line_cause periods (video_by true read)) (Ok done) → now ≡ with_dvi_line (video_by true read) periods → dvi_step periods line ≡ tells now

@@ -1,60 +1,97 @@
--- Drafts as the reader keeps them: items, the control period after them, and the data island after that.
-use Rattle.std.proofs.Common.{◌≡◌, ℕ, ◌+◌, ◌≤◌, true, false, not, ◌&&◌, List, [], ◌∷◌, ◌++◌, length, refl, ap, sym, subst, ◌∙◌, arith, length-append, Option, Some, None}
+-- What the reader keeps of a data island: periods, and the island after them.
+use Rattle.std.proofs.Common.{◌≡◌, ℕ, ◌+◌, ◌*◌, ◌≤◌, Bool, true, false, not, ◌&&◌, List, [], ◌∷◌, ◌++◌, length, refl, ap, sym, subst, ◌∙◌, arith, length-append, Option, Some, None, Err}
 use Rattle.std.specs.Prelude.{nat_le, nat_lt, is_some}
 use Rattle.std.specs.List.{list_all}
-use Rattle.std.proofs.lemmas.Bool.{le-leb}
-use Rattle.island_pack.specs.Periods.{ControlRun, DataIsland, Period, island, values_of, period_columns, columns_of}
+use Rattle.island_pack.specs.Periods.{DataIsland, Period, video, island, period_columns, columns_of}
 use Rattle.island_pack.specs.Conforming.{is_sync_pair, is_packet, is_data_island}
 use Rattle.island_pack.specs.declared.packet.Packet.{Packet}
-use Rattle.source_end.specs.Refusals.{last_period, is_control_last, is_long_enough, is_in_range, push_fault}
-use Rattle.source_end.proofs.Faults.{push_none}
-use Rattle.source_end.proofs.Turns.{columns_of-more, left as first_of, right as second_of}
-use Rattle.listing_reader.specs.Causes.{island_cause, packet_cause, close_cause, is_closed, has_room, has_packets, is_nineteenth, announces_island}
-use Rattle.listing_reader.specs.Drafts.{Draft, draft_columns, with_line}
-use Rattle.listing_reader.specs.Forms.{control_line}
-use Rattle.listing_reader.specs.Reported.{with_open, unclosed, drafted, MayStand, IsBegun}
+use Rattle.source_end.specs.Refusals.{last_period, is_control_last, is_long_enough, is_in_range, is_in_order, has_control, is_announced, push_fault, close_fault}
+use Rattle.source_end.proofs.Faults.{first, push_fault_is}
+use Rattle.source_end.proofs.Turns.{left as first_of, right as second_of}
+use Rattle.listing_reader.specs.declared.fault.ListCause.{ListCause}
+use Rattle.listing_reader.specs.declared.fault.ListCause.TheVariants.{Range, Order, Long}
+use Rattle.listing_reader.specs.declared.teller.Refusal.{Refusal}
+use Rattle.listing_reader.specs.declared.teller.Refusal.TheVariants.{Cause}
+use Rattle.listing_reader.specs.Causes.{run_cause, run_cause_after, island_cause, packet_cause, close_cause, end_cause, line_cause, caused, unless, is_closed, has_room, has_packets, is_nineteenth, announces_island}
+use Rattle.listing_reader.specs.Drafts.{OpenIsland, Draft, open_columns, draft_columns}
+use Rattle.listing_reader.specs.Forms.{control_line, video_line, close_line}
+use Rattle.listing_reader.specs.Reported.{AnswersCause, drafted, MayStand, IsBegun}
 use Rattle.listing_reader.proofs.Feeds.{both}
-use Rattle.listing_reader.proofs.OpenPeriods.{last_of_more, run_more, columns_run, none_open, announces, stands_long}
-use Rattle.listing_reader.proofs.Refused.{test_held, rest_held}
-
-pub le_from : (a b : ℕ) → nat_le a b ≡ true → a ≤ b
-le_from a b h = grind arith
+use Rattle.listing_reader.proofs.OpenPeriods.{le_from}
+use Rattle.listing_reader.proofs.Refused.{goes_past, test_held, rest_held}
 
 pub room_is : (draft : Draft) (count : ℕ) → has_room draft count ≡ true → draft_columns draft + count ≤ 20000000
 room_is draft count h = le_from (draft_columns draft + count) 20000000 h
 
 -- ---- no island
 
-pub is_closed_at : (items : List Period) (runs : List ControlRun) (x : Option DataIsland) (draft : Draft) → drafted items runs x ≡ draft → is_closed draft.opened ≡ true → x ≡ None
-is_closed_at items runs x draft same h = grind arith
+pub some_open : (periods : List Period) (x : Option DataIsland) (draft : Draft) → drafted periods x ≡ draft → is_some x ≡ true → is_closed draft.opened ≡ false
+some_open periods x draft h k = grind arith
 
-pub stays_closed : (runs : List ControlRun) (x : Option DataIsland) → x ≡ None → MayStand runs x
-stays_closed runs x h = grind arith
+pub none_closed : (periods : List Period) (x : Option DataIsland) (draft : Draft) → drafted periods x ≡ draft → is_some x ≡ false → is_closed draft.opened ≡ true
+none_closed periods x draft h k = grind arith
 
-pub some_open : (items : List Period) (runs : List ControlRun) (x : Option DataIsland) (draft : Draft) → drafted items runs x ≡ draft → is_some x ≡ true → is_closed draft.opened ≡ false
-some_open items runs x draft h k = grind arith
+pub none_packets : (periods : List Period) (x : Option DataIsland) (draft : Draft) → drafted periods x ≡ draft → x ≡ None → has_packets 1 18 draft.opened ≡ false
+none_packets periods x draft h k = grind arith
 
-pub none_closed : (items : List Period) (runs : List ControlRun) (x : Option DataIsland) (draft : Draft) → drafted items runs x ≡ draft → is_some x ≡ false → is_closed draft.opened ≡ true
-none_closed items runs x draft h k = grind arith
+closed_columns : (x : Option OpenIsland) → is_closed x ≡ true → open_columns x ≡ 0
+closed_columns None h = refl
+closed_columns (Some x) h = absurd cc
 
--- with no island the columns are those of the periods
-pub none_columns : (items : List Period) (runs : List ControlRun) (x : Option DataIsland) (columns : ℕ) → columns ≡ draft_columns (drafted items runs x) → is_some x ≡ false → columns ≡ columns_of (with_open items runs)
-none_columns items runs x columns h k = grind arith
+-- ---- what cannot follow the line before it
 
-pub none_reported : (ps : List Period) (runs : List ControlRun) (columns : ℕ) → columns ≡ columns_of (with_open ps runs) → columns ≡ draft_columns (drafted ps runs None)
-none_reported ps runs columns count = omega arith
+turned : (T : Type 0) (test closed : Bool) (rest : Option ListCause) (refusal : Refusal) → closed ≡ false → (test ≡ true → refusal ≡ Cause Order) → (test ≡ false → refusal ≡ Cause Range)
+    → AnswersCause {T = T} (unless test Range (unless closed Order rest)) (Err refusal)
+turned T test true rest refusal h order range = absurd cc
+turned T true false rest refusal h order range = subst (λ (r : Refusal). AnswersCause {T = T} (Some Order) (Err r)) (sym (order refl)) refl
+turned T false false rest refusal h order range = subst (λ (r : Refusal). AnswersCause {T = T} (Some Range) (Err r)) (sym (range refl)) refl
 
-pub none_drafted : (items : List Period) (runs : List ControlRun) → items ≡ [] → runs ≡ [] → 0 ≡ draft_columns (drafted items runs None)
-none_drafted items runs none empty = let e = none_open items runs none empty in omega arith
+pub run_turned : (T : Type 0) (draft : Draft) (value count : ℕ) (refusal : Refusal) → is_closed draft.opened ≡ false → ((nat_lt value 64 && (nat_le 1 count && nat_le count 20000000)) ≡ true → refusal ≡ Cause Order)
+    → ((nat_lt value 64 && (nat_le 1 count && nat_le count 20000000)) ≡ false → refusal ≡ Cause Range) → AnswersCause {T = T} (line_cause draft (control_line value count)) (Err refusal)
+unfolding line_cause run_cause
+run_turned T draft value count refusal h order range = turned T (nat_lt value 64 && (nat_le 1 count && nat_le count 20000000)) (is_closed draft.opened) _ refusal h order range
 
--- ---- a run more
+pub video_turned : (T : Type 0) (draft : Draft) (bytes : List ℕ) (refusal : Refusal) → is_closed draft.opened ≡ false → (is_in_range (video bytes) ≡ true → refusal ≡ Cause Order) → (is_in_range (video bytes) ≡ false → refusal ≡ Cause Range)
+    → AnswersCause {T = T} (line_cause draft (video_line bytes)) (Err refusal)
+unfolding line_cause
+video_turned T draft bytes refusal h order range = turned T (is_in_range (video bytes)) (is_closed draft.opened) _ refusal h order range
 
-pub run_drafted : (items : List Period) (runs : List ControlRun) (r : ControlRun) (x : Option DataIsland) → is_control_last (last_period items) ≡ false
-    → drafted items (runs ++ r ∷ []) x ≡ with_line (control_line r.value r.count) (drafted items runs x)
-run_drafted items runs r x turn = ap (λ (ps : List Period). record { periods = ps; opened = unclosed x }) (sym (run_more items runs r turn))
+pub close_turned : (T : Type 0) (draft : Draft) (a b : ℕ) (refusal : Refusal) → has_packets 1 18 draft.opened ≡ false → ((nat_lt a 4 && nat_lt b 4) ≡ true → refusal ≡ Cause Order) → ((nat_lt a 4 && nat_lt b 4) ≡ false → refusal ≡ Cause Range)
+    → AnswersCause {T = T} (line_cause draft (close_line a b)) (Err refusal)
+unfolding line_cause close_cause
+close_turned T draft a b refusal h order range = turned T (nat_lt a 4 && nat_lt b 4) (has_packets 1 18 draft.opened) _ refusal h order range
 
-pub run_columns : (items : List Period) (runs : List ControlRun) (r : ControlRun) (x : Option DataIsland) → draft_columns (drafted items (runs ++ r ∷ []) x) ≡ draft_columns (drafted items runs x) + r.count
-run_columns items runs r x = let e = columns_run items runs r in omega arith
+-- ---- what the periods judge alone
+
+pub run_judged : (draft : Draft) (value count : ℕ) → is_closed draft.opened ≡ true → line_cause draft (control_line value count) ≡ run_cause_after (columns_of draft.periods) value count
+unfolding line_cause run_cause
+run_judged draft value count h =
+    let none = closed_columns draft.opened h in
+    let same : draft_columns draft ≡ columns_of draft.periods = omega arith in
+    ap (unless (nat_lt value 64 && (nat_le 1 count && nat_le count 20000000)) Range)
+    (goes_past (is_closed draft.opened) Order (unless (has_room draft count) Long None) h ∙ ap (λ n. unless (nat_le (n + count) 20000000) Long None) same)
+
+judged_twice : (a b c d e : Bool) → unless a Range (caused (first a b c d e)) ≡ caused (first a b c d e)
+judged_twice true b c d e = refl
+judged_twice false b c d e = refl
+
+pub video_judged : (draft : Draft) (bytes : List ℕ) → is_closed draft.opened ≡ true → line_cause draft (video_line bytes) ≡ caused (push_fault draft.periods (video bytes))
+unfolding line_cause
+video_judged draft bytes h =
+    let p = video bytes in
+    let before = last_period draft.periods in
+    let all = push_fault_is draft.periods p in
+    ap (unless (is_in_range p) Range) (goes_past (is_closed draft.opened) Order (caused (push_fault draft.periods p)) h ∙ ap caused all)
+    ∙ judged_twice (is_in_range p) (is_in_order before p) (has_control before p) (is_announced before p) (nat_le (columns_of draft.periods + period_columns p) 20000000)
+    ∙ sym (ap caused all)
+
+pub end_judged : (draft : Draft) → is_closed draft.opened ≡ true → end_cause draft ≡ caused (close_fault draft.periods)
+unfolding end_cause
+end_judged draft h = goes_past (is_closed draft.opened) Order (caused (close_fault draft.periods)) h
+
+pub end_open : (draft : Draft) → is_closed draft.opened ≡ false → end_cause draft ≡ Some Order
+unfolding end_cause
+end_open draft h = grind arith
 
 -- ---- an island begins
 
@@ -66,17 +103,26 @@ record MayBegin (draft : Draft) (a b : ℕ) : Type 0 where
   pub announced : announces_island (last_period draft.periods) ≡ true
   pub room : has_room draft 2 ≡ true
 
--- what the reader keeps of an island that began
-pub record Began (items : List Period) (runs : List ControlRun) (columns : ℕ) (x : DataIsland) : Type 0 where
-  pub counted : columns + 2 ≡ draft_columns (drafted items runs (Some x))
-  pub few : columns + 2 ≤ 20000000
-  pub begun : IsBegun runs x
-
-pub begins : (items : List Period) (runs : List ControlRun) (before : Option DataIsland) (draft : Draft) (columns a b : ℕ) (x : DataIsland) → is_control_last (last_period items) ≡ false
-    → drafted items runs before ≡ draft → columns ≡ draft_columns (drafted items runs before) → island_cause draft a b ≡ None → x.opening ≡ record { first = a; second = b } → x.packets ≡ []
-    → Began items runs columns x
+may_begin : (draft : Draft) (a b : ℕ) → island_cause draft a b ≡ None → MayBegin draft a b
 unfolding island_cause
-begins items runs before draft columns a b x turn same count h opening empty = grind (arith, is_closed_at, first_of, room_is, stands_long, announces, rest_held, test_held)
+may_begin draft a b h = grind (arith, rest_held, test_held)
+
+pub begins : (periods : List Period) (before : Option DataIsland) (draft : Draft) (a b : ℕ) (x : DataIsland) → drafted periods before ≡ draft → island_cause draft a b ≡ None
+    → x.opening ≡ record { first = a; second = b } → x.packets ≡ [] → IsBegun periods x
+begins periods before draft a b x same h opening empty =
+    let may = may_begin draft a b h in
+    let here : draft.periods ≡ periods = ap (λ (d : Draft). d.periods) (sym same) in
+    let none = closed_columns draft.opened (first_of (is_closed draft.opened) (is_control_last (last_period draft.periods)) may.turn) in
+    let room = room_is draft 2 may.room in
+    let all = ap columns_of here in
+    record {
+      long = ap (λ (ps : List Period). is_long_enough (last_period ps)) (sym here) ∙ may.long;
+      announced = ap (λ (ps : List Period). announces_island (last_period ps)) (sym here) ∙ may.announced;
+      opening = ap is_sync_pair opening ∙ may.sync;
+      packets = ap (list_all is_packet) empty;
+      few = omega (arith, ap (λ (ps : List Packet). length ps) empty);
+      room = omega (arith, ap (λ (ps : List Packet). length ps) empty);
+    }
 
 -- ---- a packet more
 
@@ -89,12 +135,6 @@ may_come : (draft : Draft) (p : Packet) → packet_cause draft p ≡ None → Ma
 unfolding packet_cause
 may_come draft p h = grind (arith, rest_held, test_held)
 
-never_none : (least most : ℕ) (items : List Period) (runs : List ControlRun) (x : Option DataIsland) (draft : Draft) → drafted items runs x ≡ draft → has_packets least most draft.opened ≡ true → x ≡ None → ⊥
-never_none least most items runs x draft h k l = grind arith
-
-pub packet_open : (items : List Period) (runs : List ControlRun) (x : Option DataIsland) (draft : Draft) (p : Packet) → drafted items runs x ≡ draft → packet_cause draft p ≡ None → x ≡ None → ⊥
-packet_open items runs x draft p same h e = never_none 0 18 items runs x draft same (may_come draft p h).open_island e
-
 packets_pass : (ps : List Packet) (p : Packet) → list_all is_packet ps ≡ true → is_packet p ≡ true → list_all is_packet (ps ++ p ∷ []) ≡ true
 packets_pass [] p h k = both (is_packet p) true k refl
 packets_pass (q ∷ ps) p h k = both (is_packet q) (list_all is_packet (ps ++ p ∷ [])) (first_of (is_packet q) (list_all is_packet ps) h) (packets_pass ps p (second_of (is_packet q) (list_all is_packet ps) h) k)
@@ -102,66 +142,65 @@ packets_pass (q ∷ ps) p h k = both (is_packet q) (list_all is_packet (ps ++ p 
 below_last : (n : ℕ) → not (nat_le 18 n && nat_le n 18) ≡ true → n ≤ 18 → n + 1 ≤ 18
 below_last n h few = grind arith
 
--- what the reader keeps of an island with a packet more
-pub record Grown (items : List Period) (runs : List ControlRun) (columns : ℕ) (x : DataIsland) : Type 0 where
-  pub counted : columns + 32 ≡ draft_columns (drafted items runs (Some x))
-  pub few : columns + 32 ≤ 20000000
-  pub begun : IsBegun runs x
-
-grows : (items : List Period) (runs : List ControlRun) (x : DataIsland) (draft : Draft) (columns : ℕ) (p : Packet) (y : DataIsland) → IsBegun runs x
-    → drafted items runs (Some x) ≡ draft → columns ≡ draft_columns (drafted items runs (Some x)) → packet_cause draft p ≡ None → is_packet p ≡ true
-    → y ≡ record { opening = x.opening; packets = x.packets ++ p ∷ []; closing = x.closing } → Grown items runs columns y
-grows items runs x draft columns p y begun same count h packet more =
+grows : (periods : List Period) (x : DataIsland) (draft : Draft) (p : Packet) (y : DataIsland) → IsBegun periods x → drafted periods (Some x) ≡ draft → packet_cause draft p ≡ None → is_packet p ≡ true
+    → y ≡ record { opening = x.opening; packets = x.packets ++ p ∷ []; closing = x.closing } → IsBegun periods y
+grows periods x draft p y begun same h packet more =
     let is = may_come draft p h in
-    let few = room_is draft 32 is.room in
-    let reported : draft_columns (drafted items runs (Some x)) ≡ draft_columns draft = ap draft_columns same in
-    let size : length y.packets ≡ length x.packets + 1 = ap (λ (i : DataIsland). length i.packets) more ∙ length-snoc x.packets p in
-    grind (arith, second_of, below_last, packets_pass)
-  where
-    length-snoc : (ps : List Packet) (p : Packet) → length (ps ++ p ∷ []) ≡ length ps + 1
-    length-snoc ps p = length-append ps (p ∷ [])
+    let room = room_is draft 32 is.room in
+    let reported : draft_columns (drafted periods (Some x)) ≡ draft_columns draft = ap draft_columns same in
+    let size : length y.packets ≡ length x.packets + 1 = ap (λ (i : DataIsland). length i.packets) more ∙ length-append x.packets (p ∷ []) in
+    let opened : not (is_nineteenth (drafted periods (Some x)).opened) ≡ true = ap (λ (d : Draft). not (is_nineteenth d.opened)) same ∙ second_of (list_all (λ v. nat_lt v 4) p.sync) (not (is_nineteenth draft.opened)) is.range in
+    record {
+      long = begun.long;
+      announced = begun.announced;
+      opening = ap (λ (i : DataIsland). is_sync_pair i.opening) more ∙ begun.opening;
+      packets = ap (λ (i : DataIsland). list_all is_packet i.packets) more ∙ packets_pass x.packets p begun.packets packet;
+      few = omega (arith, below_last (length x.packets) opened begun.few);
+      room = omega arith;
+    }
 
-pub grows_at : (items : List Period) (runs : List ControlRun) (before : Option DataIsland) (x : DataIsland) (draft : Draft) (columns : ℕ) (p : Packet) (y : DataIsland) → before ≡ Some x → MayStand runs before
-    → drafted items runs before ≡ draft → columns ≡ draft_columns (drafted items runs before) → packet_cause draft p ≡ None → is_packet p ≡ true
-    → y ≡ record { opening = x.opening; packets = x.packets ++ p ∷ []; closing = x.closing } → Grown items runs columns y
-grows_at items runs before x draft columns p y at stands same count =
-    grows items runs x draft columns p y (subst (MayStand runs) at stands) (subst (λ (o : Option DataIsland). drafted items runs o ≡ draft) at same)
-    (subst (λ (o : Option DataIsland). columns ≡ draft_columns (drafted items runs o)) at count)
+pub grows_at : (periods : List Period) (before : Option DataIsland) (x : DataIsland) (draft : Draft) (p : Packet) (y : DataIsland) → before ≡ Some x → MayStand periods before
+    → drafted periods before ≡ draft → packet_cause draft p ≡ None → is_packet p ≡ true
+    → y ≡ record { opening = x.opening; packets = x.packets ++ p ∷ []; closing = x.closing } → IsBegun periods y
+grows_at periods before x draft p y at stands same =
+    grows periods x draft p y (subst (MayStand periods) at stands) (subst (λ (o : Option DataIsland). drafted periods o ≡ draft) at same)
 
 -- ---- an island is closed
 
-record MayClose (draft : Draft) (a b : ℕ) : Type 0 where
-  pub sync : (nat_lt a 4 && nat_lt b 4) ≡ true
-  pub some : has_packets 1 18 draft.opened ≡ true
-  pub room : has_room draft 2 ≡ true
-
-may_close : (draft : Draft) (a b : ℕ) → close_cause draft a b ≡ None → MayClose draft a b
-unfolding close_cause
-may_close draft a b h = grind (arith, rest_held, test_held)
-
-pub close_open : (items : List Period) (runs : List ControlRun) (x : Option DataIsland) (draft : Draft) (a b : ℕ) → drafted items runs x ≡ draft → close_cause draft a b ≡ None → x ≡ None → ⊥
-close_open items runs x draft a b same h e = never_none 1 18 items runs x draft same (may_close draft a b h).some e
-
-island_in_range : (x : DataIsland) → is_sync_pair x.opening ≡ true → is_sync_pair x.closing ≡ true → list_all is_packet x.packets ≡ true → (nat_le 1 (length x.packets) && nat_le (length x.packets) 18) ≡ true → is_in_range (island x) ≡ true
+island_in_range : (x : DataIsland) (packets : List Packet) → is_sync_pair x.opening ≡ true → x.packets ≡ packets → list_all is_packet packets ≡ true → (nat_le 1 (length packets) && nat_le (length packets) 18) ≡ true → is_in_range (island x) ≡ is_sync_pair x.closing
 unfolding is_in_range is_data_island
-island_in_range x opening closing packets count = both _ _ (both _ _ opening closing) (both _ _ packets count)
+island_in_range x packets opening same sound count = grind arith
 
--- what the reader keeps of an island that was closed
-pub record Closed (items all : List Period) (runs : List ControlRun) (columns : ℕ) (x : DataIsland) : Type 0 where
-  pub fits : push_fault all (island x) ≡ None
-  pub counted : columns + 2 ≡ columns_of (all ++ island x ∷ [])
-  pub few : columns + 2 ≤ 20000000
+ends_control : (before : Option Period) (x : DataIsland) → is_long_enough before ≡ true → is_in_order before (island x) ≡ true
+ends_control before x h = grind arith
 
-pub closes_at : (items all : List Period) (runs : List ControlRun) (before : Option DataIsland) (x : DataIsland) (draft : Draft) (columns a b : ℕ) (y : DataIsland) → before ≡ Some x → is_control_last (last_period items) ≡ false → MayStand runs before
-    → drafted items runs before ≡ draft → columns ≡ draft_columns (drafted items runs before) → close_cause draft a b ≡ None → all ≡ with_open items runs
-    → y ≡ record { opening = x.opening; packets = x.packets; closing = record { first = a; second = b } } → Closed items all runs columns y
-unfolding values_of period_columns
-closes_at items all runs before x draft columns a b y at turn stands same count = grind (arith, may_close, room_is, columns_of-more, push_none, island_in_range, le-leb, last_of_more)
+is_announced_is : (before : Option Period) (x : DataIsland) → is_announced before (island x) ≡ announces_island before
+is_announced_is before x = grind arith
 
--- ---- what is given then
+judged_close : (s p r : Bool) → p ≡ true → unless s Range (unless p Order (unless r Long None)) ≡ caused (first s true true true r)
+judged_close s p r h = grind arith
 
-pub island_last : (all now : List Period) (x : DataIsland) → now ≡ all ++ island x ∷ [] → is_control_last (last_period now) ≡ false
-island_last all now x more = ap (λ (ps : List Period). is_control_last (last_period ps)) more ∙ ap is_control_last (last_of_more all (island x))
+same_first : (a b c d e a' : Bool) (e' : Bool) → a ≡ a' → b ≡ true → c ≡ true → d ≡ true → e ≡ e' → first a b c d e ≡ first a' true true true e'
+same_first a b c d e a' e' h i j k l = grind arith
 
-pub closed_columns : (all now : List Period) (runs : List ControlRun) (x : DataIsland) (n : ℕ) → n ≡ columns_of (all ++ island x ∷ []) → now ≡ all ++ island x ∷ [] → runs ≡ [] → n ≡ draft_columns (drafted now runs None)
-closed_columns all now runs x n h k l = grind arith
+closes : (periods : List Period) (x : DataIsland) (draft : Draft) (a b : ℕ) (y : DataIsland) → IsBegun periods x → drafted periods (Some x) ≡ draft → has_packets 1 18 draft.opened ≡ true
+    → y ≡ record { opening = x.opening; packets = x.packets; closing = record { first = a; second = b } } → line_cause draft (close_line a b) ≡ caused (push_fault periods (island y))
+unfolding line_cause close_cause period_columns
+closes periods x draft a b y begun same some more =
+    let before = last_period periods in
+    let reported : draft_columns (drafted periods (Some x)) ≡ draft_columns draft = ap draft_columns same in
+    let size : length y.packets ≡ length x.packets = ap (λ (i : DataIsland). length i.packets) more in
+    let count : (nat_le 1 (length x.packets) && nat_le (length x.packets) 18) ≡ true = ap (λ (d : Draft). has_packets 1 18 d.opened) same ∙ some in
+    let range : is_in_range (island y) ≡ (nat_lt a 4 && nat_lt b 4) =
+    island_in_range y x.packets (ap (λ (i : DataIsland). is_sync_pair i.opening) more ∙ begun.opening) (ap (λ (i : DataIsland). i.packets) more) begun.packets count ∙ ap (λ (i : DataIsland). is_sync_pair i.closing) more in
+    let sum : columns_of periods + (4 + 32 * length y.packets) ≡ draft_columns draft + 2 = omega arith in
+    judged_close (nat_lt a 4 && nat_lt b 4) (has_packets 1 18 draft.opened) (has_room draft 2) some
+    ∙ ap caused
+    (sym (same_first (is_in_range (island y)) (is_in_order before (island y)) (has_control before (island y)) (is_announced before (island y)) (nat_le (columns_of periods + (4 + 32 * length y.packets)) 20000000) (nat_lt a 4 && nat_lt b 4) (has_room draft 2)
+    range (ends_control before y begun.long) begun.long (is_announced_is before y ∙ begun.announced) (ap (λ n. nat_le n 20000000) sum))
+    ∙ sym (push_fault_is periods (island y)))
+
+pub closes_at : (periods : List Period) (before : Option DataIsland) (x : DataIsland) (draft : Draft) (a b : ℕ) (y : DataIsland) → before ≡ Some x → MayStand periods before → drafted periods before ≡ draft → has_packets 1 18 draft.opened ≡ true
+    → y ≡ record { opening = x.opening; packets = x.packets; closing = record { first = a; second = b } } → line_cause draft (close_line a b) ≡ caused (push_fault periods (island y))
+closes_at periods before x draft a b y at stands same =
+    closes periods x draft a b y (subst (MayStand periods) at stands) (subst (λ (o : Option DataIsland). drafted periods o ≡ draft) at same)

@@ -13,7 +13,7 @@ pub mod LinkSteps
 pub mod LongForm
 pub mod Numbers
 pub mod OpenPeriods
-pub mod DviOpen
+pub mod FramedOpen
 pub mod DviSteps
 pub mod DviCauses
 pub mod PacketForms

@@ -1,13 +1,11 @@
 -- Periods of which the last one, a control period, is still open.
-use Rattle.std.proofs.Common.{◌≡◌, ℕ, ◌+◌, ◌/◌, ◌≤◌, ◌==◌, Bool, true, false, not, ◌&&◌, List, [], ◌∷◌, ◌++◌, length, refl, ap, ◌∙◌, arith, Option, Some, None}
+use Rattle.std.proofs.Common.{◌≡◌, ℕ, ◌+◌, ◌≤◌, ◌==◌, Bool, true, false, not, ◌&&◌, List, [], ◌∷◌, ◌++◌, length, refl, ap, arith, Option, Some}
 use Rattle.std.specs.Prelude.{nat_le, nat_lt}
 use Rattle.std.specs.List.{list_all}
 use Rattle.island_pack.specs.Periods.{ControlRun, Period, control, video, island, values_of, has_preamble, ISLAND_PREAMBLE, period_columns, columns_of}
 use Rattle.source_end.specs.Kept.{capped}
-use Rattle.source_end.specs.Refusals.{last_period, is_control_last, is_in_range, is_in_order, is_long_enough, push_fault}
-use Rattle.source_end.proofs.Faults.{push_none}
+use Rattle.source_end.specs.Refusals.{last_period, is_control_last, is_in_range, is_in_order, is_long_enough}
 use Rattle.source_end.proofs.Turns.{columns_of-more, left as first_of, right as second_of}
-use Rattle.source_end.proofs.Leads.{length-values_of-more}
 use Rattle.listing_reader.specs.Causes.{announces_island}
 use Rattle.listing_reader.specs.Drafts.{with_run}
 use Rattle.listing_reader.specs.Reported.{with_open}
@@ -45,13 +43,6 @@ pub columns_open : (ps : List Period) (rs : List ControlRun) → columns_of (wit
 unfolding values_of period_columns
 columns_open ps rs = grind (arith, columns_of-more)
 
-pub columns_run : (ps : List Period) (rs : List ControlRun) (r : ControlRun) → columns_of (with_open ps (rs ++ r ∷ [])) ≡ columns_of (with_open ps rs) + r.count
-columns_run ps rs r = grind (arith, columns_open, length-values_of-more)
-
-pub none_open : (ps : List Period) (rs : List ControlRun) → ps ≡ [] → rs ≡ [] → 0 ≡ columns_of (with_open ps rs)
-unfolding columns_of
-none_open ps rs h k = grind arith
-
 -- Ranges.
 
 passes_more : (p : ControlRun → Bool) (rs : List ControlRun) (r : ControlRun) → list_all p rs ≡ true → p r ≡ true → list_all p (rs ++ r ∷ []) ≡ true
@@ -78,26 +69,9 @@ pub long_enough : (ps : List Period) (rs : List ControlRun) (m : ℕ) → is_con
 unfolding values_of
 long_enough ps rs m h k = grind (arith, not_long, last_of_more)
 
--- a control period that is long enough is the last one
-pub stands_long : (ps : List Period) (rs : List ControlRun) → is_control_last (last_period ps) ≡ false → is_long_enough (last_period (with_open ps rs)) ≡ true → nat_le 12 (length (values_of rs)) ≡ true
-stands_long ps rs h k = grind (arith, not_long, last_of_more)
-
 pub announces : (ps : List Period) (rs : List ControlRun) → is_control_last (last_period ps) ≡ false → has_preamble ISLAND_PREAMBLE (values_of rs) ≡ announces_island (last_period (with_open ps rs))
 unfolding values_of has_preamble
 announces ps rs h = grind (arith, last_of_more)
-
--- A video data period more.
-
-pub video_columns : (items all now : List Period) (runs rest : List ControlRun) (bytes : List ℕ) (columns count : ℕ) → columns ≡ columns_of (with_open items runs) → all ≡ with_open items runs → now ≡ all ++ video bytes ∷ [] → count ≡ length bytes / 3 → rest ≡ [] → columns + (count + 2) ≡ columns_of (with_open now rest)
-unfolding period_columns
-video_columns items all now runs rest bytes columns count h k l m p = grind (arith, columns_of-more)
-
-pub video_few : (items all : List Period) (runs : List ControlRun) (bytes : List ℕ) (columns count : ℕ) → columns ≡ columns_of (with_open items runs) → all ≡ with_open items runs → count ≡ length bytes / 3 → columns_of all + period_columns (video bytes) ≤ 20000000 → columns + (count + 2) ≤ 20000000
-unfolding period_columns
-video_few items all runs bytes columns count e same size few = grind arith
-
-pub video_last : (all now : List Period) (bytes : List ℕ) → now ≡ all ++ video bytes ∷ [] → is_control_last (last_period now) ≡ false
-video_last all now bytes more = ap (λ (ps : List Period). is_control_last (last_period ps)) more ∙ ap is_control_last (last_of_more all (video bytes))
 
 -- The control period that is closed.
 
@@ -107,8 +81,5 @@ in_turn before runs h = grind arith
 pub le_test : (a b : ℕ) → a ≤ b → nat_le a b ≡ true
 le_test a b h = grind arith
 
-pub closes : (ps : List Period) (rs : List ControlRun) → is_control_last (last_period ps) ≡ false → is_in_range (control rs) ≡ true → columns_of (with_open ps rs) ≤ 20000000 → push_fault ps (control rs) ≡ None
-unfolding period_columns
-closes ps rs turn range few =
-    let sum = columns_open ps rs in
-    push_none ps (control rs) range (in_turn (last_period ps) rs turn) refl refl (le_test (columns_of ps + length (values_of rs)) 20000000 (omega arith))
+pub le_from : (a b : ℕ) → nat_le a b ≡ true → a ≤ b
+le_from a b h = grind arith

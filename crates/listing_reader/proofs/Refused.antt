@@ -1,16 +1,16 @@
 -- The causes for which a line is refused, and what the answer then is.
-use Rattle.std.proofs.Common.{◌≡◌, ℕ, ◌+◌, ◌≤◌, Bool, true, false, ◌&&◌, List, refl, ap, sym, subst, ◌∙◌, arith, Option, Some, None, Result, Ok, Err, ◌⊎◌}
+use Rattle.std.proofs.Common.{◌≡◌, ℕ, Bool, true, false, ◌&&◌, List, refl, ap, sym, subst, ◌∙◌, arith, Option, Some, None, Result, Ok, Err, ◌⊎◌}
 use Rattle.std.specs.Prelude.{nat_le, nat_lt, IsErr}
 use Rattle.std.specs.Result.{IsErrAnd}
 use Rattle.hex.specs.Hex.{decode_of}
 use Rattle.hex.specs.declared.error.FromHexError.{FromHexError}
-use Rattle.island_pack.specs.Periods.{Period, video, period_columns, columns_of}
+use Rattle.island_pack.specs.Periods.{video}
 use Rattle.island_pack.specs.declared.packet.Packet.{Packet}
 use Rattle.source_end.specs.declared.items.ItemFault.{ItemFault}
 use Rattle.source_end.specs.Refusals.{last_period, is_control_last, is_long_enough, is_in_range, push_fault, close_fault, AnswersFault}
-use Rattle.source_end.proofs.Faults.{last_first, push_fault_is}
+use Rattle.source_end.proofs.Faults.{last_first}
 use Rattle.listing_reader.specs.declared.fault.ListCause.{ListCause}
-use Rattle.listing_reader.specs.declared.fault.ListCause.TheVariants.{Form, Range, Order, Control, Long}
+use Rattle.listing_reader.specs.declared.fault.ListCause.TheVariants.{Form, Range, Order, Long}
 use Rattle.listing_reader.specs.declared.teller.Refusal.{Refusal}
 use Rattle.listing_reader.specs.declared.teller.Refusal.TheVariants.{Cause, NoMemory}
 use Rattle.listing_reader.specs.Causes.{run_cause, island_cause, packet_cause, close_cause, end_cause, line_cause, caused, unless, is_closed, has_room}
@@ -34,18 +34,6 @@ rest_held test cause rest h = grind arith
 
 -- Runs.
 
-pub run_range : (draft : Draft) (value count : ℕ) → (nat_lt value 64 && (nat_le 1 count && nat_le count 20000000)) ≡ false → run_cause draft value count ≡ Some Range
-unfolding run_cause
-run_range draft value count range = stops_here _ Range _ range
-
-pub run_order : (draft : Draft) (value count : ℕ) → (nat_lt value 64 && (nat_le 1 count && nat_le count 20000000)) ≡ true → is_closed draft.opened ≡ false → run_cause draft value count ≡ Some Order
-unfolding run_cause
-run_order draft value count range unclosed = goes_past _ Range _ range ∙ stops_here _ Order _ unclosed
-
-pub run_long : (draft : Draft) (value count : ℕ) → (nat_lt value 64 && (nat_le 1 count && nat_le count 20000000)) ≡ true → is_closed draft.opened ≡ true → has_room draft count ≡ false → run_cause draft value count ≡ Some Long
-unfolding run_cause
-run_long draft value count range closed room = goes_past _ Range _ range ∙ goes_past _ Order _ closed ∙ stops_here _ Long _ room
-
 pub run_fits : (draft : Draft) (value count : ℕ) → (nat_lt value 64 && (nat_le 1 count && nat_le count 20000000)) ≡ true → is_closed draft.opened ≡ true → has_room draft count ≡ true → run_cause draft value count ≡ None
 unfolding run_cause
 run_fits draft value count range closed room = goes_past _ Range _ range ∙ goes_past _ Order _ closed ∙ goes_past _ Long _ room
@@ -61,12 +49,6 @@ end_is draft = refl
 
 chosen_long : (closed last : Bool) (cause : Option ListCause) (long : Bool) → (closed && last) ≡ true → end_chosen true true long ≡ cause → end_chosen closed last long ≡ cause
 chosen_long closed last cause long h k = grind arith
-
-pub end_order : (draft : Draft) → (is_closed draft.opened && is_control_last (last_period draft.periods)) ≡ false → end_cause draft ≡ Some Order
-end_order draft turn = grind (arith, end_is)
-
-pub end_short : (draft : Draft) → (is_closed draft.opened && is_control_last (last_period draft.periods)) ≡ true → is_long_enough (last_period draft.periods) ≡ false → end_cause draft ≡ Some Control
-end_short draft turn short = end_is draft ∙ chosen_long _ _ (Some Control) _ turn (ap (end_chosen true true) short)
 
 pub end_well : (draft : Draft) → (is_closed draft.opened && is_control_last (last_period draft.periods)) ≡ true → is_long_enough (last_period draft.periods) ≡ true → end_cause draft ≡ None
 end_well draft turn long = end_is draft ∙ chosen_long _ _ None _ turn (ap (end_chosen true true) long)
@@ -93,6 +75,24 @@ answers_same T seen refusal e = subst (λ (r : Refusal). AnswersCause {T = T} se
 
 pub answers_line : {T : Type 0} (draft : Draft) (reported line : LineForm) (result : Result T Refusal) → reported ≡ line → AnswersCause (line_cause draft line) result → AnswersCause (line_cause draft reported) result
 answers_line {T} draft reported line result e h = subst (λ (l : LineForm). AnswersCause (line_cause draft l) result) (sym e) h
+
+-- the answer of a call whose cause is the same
+pub answers_err : (S T : Type 0) (seen found : Option ListCause) (result : Result T Refusal) (refusal : Refusal) → seen ≡ found → AnswersCause {T = S} found (Err refusal) → IsErrAnd result (λ r. r ≡ refusal) → AnswersCause {T = T} seen result
+answers_err S T seen found result refusal same h k =
+    subst (λ (s : Option ListCause). AnswersCause {T = T} s result) (sym same) (as_found S T found result refusal h k)
+  where
+    as_found : (S T : Type 0) (found : Option ListCause) (result : Result T Refusal) (refusal : Refusal) → AnswersCause {T = S} found (Err refusal) → IsErrAnd result (λ r. r ≡ refusal) → AnswersCause {T = T} found result
+    as_found S T found (Ok v) refusal h k = absurd k
+    as_found S T found (Err other) refusal h k = subst (λ (r : Refusal). AnswersCause {T = T} found (Err r)) (sym k) (unchanged S T found refusal h)
+      where
+        unchanged : (S T : Type 0) (found : Option ListCause) (refusal : Refusal) → AnswersCause {T = S} found (Err refusal) → AnswersCause {T = T} found (Err refusal)
+        unchanged S T (Some cause) (Cause other) h = h
+        unchanged S T (Some cause) NoMemory h = tt
+        unchanged S T None (Cause other) h = h
+        unchanged S T None NoMemory h = tt
+
+pub answers_done : (S T : Type 0) (seen found : Option ListCause) (done : S) (v : T) → seen ≡ found → AnswersCause found (Ok done) → AnswersCause {T = T} seen (Ok v)
+answers_done S T seen found done v same h = answers_ok {T = T} v seen (same ∙ cause_none {T = S} found done h)
 
 -- the cause of a line, by its form
 pub cause_control : (draft : Draft) (value count : ℕ) → line_cause draft (control_line value count) ≡ run_cause draft value count
@@ -123,29 +123,10 @@ none_of T v seen h = grind arith
 pub answers_fault : (S T : Type 0) (fault : ItemFault) (seen : Option ItemFault) (refusal : Refusal) → AnswersFault {T = S} seen (Err fault) → RefusesAs fault refusal → AnswersCause {T = T} (caused seen) (Err refusal)
 answers_fault S T fault seen refusal h k = grind (arith, answers_same)
 
-pub pushed_fits : (ps : List Period) (p : Period) → push_fault ps p ≡ None → columns_of ps + period_columns p ≤ 20000000
-pushed_fits ps p e = grind (arith, push_fault_is)
-
 -- a video data period in its range, outside an island
 pub video_pushed : (draft : Draft) (bytes : List ℕ) → is_in_range (video bytes) ≡ true → is_closed draft.opened ≡ true → line_cause draft (video_line bytes) ≡ caused (push_fault draft.periods (video bytes))
 unfolding line_cause
 video_pushed draft bytes range closed = goes_past _ Range _ range ∙ goes_past _ Order _ closed
-
-pub video_range : (draft : Draft) (bytes : List ℕ) → is_in_range (video bytes) ≡ false → line_cause draft (video_line bytes) ≡ Some Range
-unfolding line_cause
-video_range draft bytes range = stops_here _ Range _ range
-
-pub video_order : (draft : Draft) (bytes : List ℕ) → is_in_range (video bytes) ≡ true → is_closed draft.opened ≡ false → line_cause draft (video_line bytes) ≡ Some Order
-unfolding line_cause
-video_order draft bytes range unclosed = goes_past _ Range _ range ∙ stops_here _ Order _ unclosed
-
-pub answers_video : (S T : Type 0) (draft : Draft) (all : List Period) (bytes : List ℕ) (fault : ItemFault) (refusal : Refusal) → all ≡ draft.periods → is_in_range (video bytes) ≡ true → is_closed draft.opened ≡ true
-    → AnswersFault {T = S} (push_fault all (video bytes)) (Err fault) → RefusesAs fault refusal → AnswersCause {T = T} (line_cause draft (video_line bytes)) (Err refusal)
-answers_video S T draft all bytes fault refusal same range closed h reported = grind (arith, video_pushed, answers_fault)
-
-pub answers_taken : (S : Type 0) {T : Type 0} (done : S) (v : T) (draft : Draft) (all : List Period) (bytes : List ℕ) → all ≡ draft.periods → is_in_range (video bytes) ≡ true → is_closed draft.opened ≡ true
-    → AnswersFault {T = S} (push_fault all (video bytes)) (Ok done) → AnswersCause (line_cause draft (video_line bytes)) (Ok v)
-answers_taken S {T} done v draft all bytes same range closed h = grind (arith, video_pushed, answers_ok, none_of)
 
 -- The digits of a video line.
 

@@ -43,6 +43,13 @@ abbrev pub has_packets : ℕ → ℕ → Option OpenIsland → Bool
 has_packets least most None = false
 has_packets least most (Some x) = nat_le least (length x.packets) && nat_le (length x.packets) most
 
+-- a run after so many columns
+abbrev pub run_cause_after : ℕ → ℕ → ℕ → Option ListCause
+run_cause_after columns value count =
+    unless (is_run_in_range value count) Range
+    (unless (fits columns count) Long
+    None)
+
 unfoldable pub run_cause : Draft → ℕ → ℕ → Option ListCause
 run_cause draft value count =
     unless (is_run_in_range value count) Range

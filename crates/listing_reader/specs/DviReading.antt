@@ -2,22 +2,18 @@
 -- gives, or its first wrong line and why.
 use Rattle.std.specs.Prelude.{ℕ, List, [], ◌∷◌, ◌++◌, Option, Some, None}
 use Rattle.island_pack.specs.Periods.{Period, video}
-use Rattle.island_pack.specs.Ranges.{is_run_in_range, has_room}
 use Rattle.source_end.specs.DviPeriods.{dvi_columns_of}
 use Rattle.source_end.specs.Refusals.{dvi_push_fault, close_fault}
 use Rattle.listing_reader.specs.declared.fault.ListCause.{ListCause}
-use Rattle.listing_reader.specs.declared.fault.ListCause.TheVariants.{Fault, Form, Range, Long}
+use Rattle.listing_reader.specs.declared.fault.ListCause.TheVariants.{Fault, Form}
 use Rattle.listing_reader.specs.Lines.{pieces_of}
 use Rattle.listing_reader.specs.LineSteps.{Read, LineStep, tells, closes, wrong, read_lines}
 use Rattle.listing_reader.specs.Forms.{LineForm, control_line, video_line, island_line, packet_line, close_line, end_line, fault_line, no_line, form_of}
 use Rattle.listing_reader.specs.Drafts.{with_run}
-use Rattle.listing_reader.specs.Causes.{caused, unless}
+use Rattle.listing_reader.specs.Causes.{caused, run_cause_after}
 
 unfoldable pub dvi_run_cause : List Period → ℕ → ℕ → Option ListCause
-dvi_run_cause periods value count =
-    unless (is_run_in_range value count) Range
-    (unless (has_room (dvi_columns_of periods) count) Long
-    None)
+dvi_run_cause periods value count = run_cause_after (dvi_columns_of periods) value count
 
 -- why a line is refused after what the lines before it said; those of data islands are of no form here
 unfoldable pub dvi_line_cause : List Period → LineForm → Option ListCause

@@ -1,15 +1,16 @@
 -- What the reader of a listing keeps of the lines that it has taken.
-use Rattle.std.specs.Prelude.{◌≡◌, ◌≤◌, Bool, true, false, List, [], ◌∷◌, ◌++◌, length, nat_le, Option, Some, None, Result, Ok, Err}
+use Rattle.std.specs.Prelude.{◌≡◌, ◌+◌, ◌*◌, ◌≤◌, true, List, [], ◌∷◌, ◌++◌, length, Option, Some, None, Result, Ok, Err}
 use Rattle.std.specs.List.{list_all}
-use Rattle.island_pack.specs.Periods.{ControlRun, DataIsland, Period, control, values_of, has_preamble, ISLAND_PREAMBLE}
+use Rattle.island_pack.specs.Periods.{ControlRun, DataIsland, Period, control, columns_of}
 use Rattle.island_pack.specs.Conforming.{is_sync_pair, is_packet}
+use Rattle.source_end.specs.Refusals.{last_period, is_long_enough}
 use Rattle.source_end.specs.declared.items.ItemFault.{ItemFault}
 use Rattle.source_end.specs.declared.items.ItemFault.TheVariants.{Range as range_fault, Order as order_fault, Control as control_fault, Preamble as preamble_fault, Long as long_fault, NoMemory as no_memory}
 use Rattle.listing_reader.specs.declared.fault.ListCause.{ListCause}
 use Rattle.listing_reader.specs.declared.fault.ListCause.TheVariants.{Range, Order, Control, Preamble, Long}
 use Rattle.listing_reader.specs.declared.teller.Refusal.{Refusal}
 use Rattle.listing_reader.specs.declared.teller.Refusal.TheVariants.{Cause, NoMemory}
-use Rattle.listing_reader.specs.Forms.{LineForm, control_line, video_line, island_line, packet_line, close_line, end_line, fault_line, no_line}
+use Rattle.listing_reader.specs.Causes.{announces_island}
 use Rattle.listing_reader.specs.Drafts.{OpenIsland, Draft}
 
 -- periods and the control period that is still open
@@ -22,32 +23,23 @@ abbrev pub unclosed : Option DataIsland → Option OpenIsland
 unclosed None = None
 unclosed (Some x) = Some (record { opening = x.opening; packets = x.packets })
 
--- periods, the control period after them and the island after that
-abbrev pub drafted : List Period → List ControlRun → Option DataIsland → Draft
-drafted periods runs island = record { periods = with_open periods runs; opened = unclosed island }
+-- periods and the island after them
+abbrev pub drafted : List Period → Option DataIsland → Draft
+drafted periods island = record { periods = periods; opened = unclosed island }
 
 -- an island that stands after the control period that announces it
-pub record IsBegun (runs : List ControlRun) (x : DataIsland) : Type 0 where
-  pub long : nat_le 12 (length (values_of runs)) ≡ true
-  pub announced : has_preamble ISLAND_PREAMBLE (values_of runs) ≡ true
+pub record IsBegun (periods : List Period) (x : DataIsland) : Type 0 where
+  pub long : is_long_enough (last_period periods) ≡ true
+  pub announced : announces_island (last_period periods) ≡ true
   pub opening : is_sync_pair x.opening ≡ true
   pub packets : list_all is_packet x.packets ≡ true
   pub few : length x.packets ≤ 18
+  pub room : columns_of periods + (2 + 32 * length x.packets) ≤ 20000000
 
 -- no island, or such a one
-abbrev pub MayStand : List ControlRun → Option DataIsland → Type 0
-MayStand runs None = Unit {0}
-MayStand runs (Some x) = IsBegun runs x
-
-abbrev pub is_end : LineForm → Bool
-is_end end_line = true
-is_end (control_line value count) = false
-is_end (video_line bytes) = false
-is_end (island_line a b) = false
-is_end (packet_line p) = false
-is_end (close_line a b) = false
-is_end fault_line = false
-is_end no_line = false
+abbrev pub MayStand : List Period → Option DataIsland → Type 0
+MayStand periods None = Unit {0}
+MayStand periods (Some x) = IsBegun periods x
 
 -- a cause is given exactly where there is one, but for want of memory
 abbrev pub AnswersCause : {T : Type 0} → Option ListCause → Result T Refusal → Type 0

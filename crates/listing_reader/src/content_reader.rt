@@ -14,7 +14,7 @@ ghost use Rattle.listing_reader.specs.Reported.{AnswersCause};
 use crate::ListCause;
 use crate::content_fields::blank_packet;
 use crate::content_form::{ContentForm, read_content_form};
-use crate::reader::decode_row;
+use crate::pixels::decode_row;
 use crate::teller::{Refusal, Taken, Teller};
 use audio_packets::{Sample, write_samples};
 use island_pack::Packet;

@@ -11,6 +11,8 @@ mod fault;
 mod form;
 mod lines;
 mod packet;
+mod periods;
+mod pixels;
 mod read;
 mod reader;
 mod teller;

@@ -9,7 +9,7 @@ ghost use Rattle.listing_reader.specs.Reading.{reads_as};
 
 use crate::ListError;
 use crate::content_reader::ContentReader;
-use crate::dvi_reader::DviReader;
+use crate::periods::Periods;
 use crate::reader::Reader;
 use crate::text::read_lines;
 use outside_io::Source;
@@ -37,7 +37,7 @@ pub fn read_dvi<S: Source>(alloc: Global, source: &mut S) -> Result<DviStream, L
     ensures caused { IfErr result (λ e. IsCaused (S.faults source.old) (S.faults source.new) e) }
     ensures later { S.faults source.old ≤ S.faults source.new }
 {
-    read_lines(alloc, source, DviReader::new(alloc))
+    read_lines(alloc, source, Periods::new(alloc))
 }
 
 /// Reads the text of a content listing to its end, line by line: the mode and the content, or the first fault for which

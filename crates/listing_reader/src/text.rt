@@ -138,7 +138,7 @@ fn too_long<T: Teller>(teller: T, line: &[u8], number: u32) -> ListError
     ensures unread { result ≢ ListError.Read }
 {
     match teller.take(line) {
-        Ok(_) => unreachable!(),
+        Ok(_) => bad(number, ListCause::Form),
         Err(refusal) => refused(number, refusal),
     }
 }

@@ -1,5 +1,5 @@
 -- Lists of periods without guard bands that grow by one, and that end.
-use Rattle.std.proofs.Common.{◌≡◌, ◌+◌, ◌≤◌, Bool, true, false, ◌&&◌, List, [], ◌∷◌, ◌++◌, refl, ap, ◌∙◌, arith}
+use Rattle.std.proofs.Common.{◌≡◌, ◌+◌, Bool, true, false, ◌&&◌, List, [], ◌∷◌, ◌++◌, refl, ap, ◌∙◌, arith}
 use Rattle.std.specs.List.{list_all}
 use Rattle.island_pack.specs.Periods.{Period, control, video, island}
 use Rattle.island_pack.specs.Conforming.{is_run, is_control_period, is_video_period}
@@ -59,11 +59,20 @@ dvi_so_far-ends (control runs ∷ (video bytes ∷ (q ∷ ps))) h k =
     let b = is_video_period bytes in
     third a b (dvi_conforms_so_far (q ∷ ps)) (dvi_conforms (q ∷ ps)) h (dvi_so_far-ends (q ∷ ps) (the_third a b (dvi_conforms_so_far (q ∷ ps)) h) k)
 
+-- no period, and one more before others
+pub dvi_nothing_yet : dvi_conforms_so_far [] ≡ true
+unfolding dvi_conforms_so_far
+dvi_nothing_yet = refl
+
+pub dvi_no_columns : dvi_columns_of [] ≡ 0
+unfolding dvi_columns_of
+dvi_no_columns = refl
+
+pub dvi_more_columns : (p : Period) (ps : List Period) → dvi_columns_of (p ∷ ps) ≡ dvi_columns p + dvi_columns_of ps
+unfolding dvi_columns_of
+dvi_more_columns p ps = refl
+
 pub dvi_columns_of-more : (periods : List Period) (p : Period) → dvi_columns_of (periods ++ p ∷ []) ≡ dvi_columns_of periods + dvi_columns p
 unfolding dvi_columns_of
 dvi_columns_of-more [] p = omega arith
 dvi_columns_of-more (q ∷ ps) p = ap (λ n. dvi_columns q + n) (dvi_columns_of-more ps p) ∙ omega arith
-
-pub dvi_none_yet : (periods : List Period) → periods ≡ [] → (dvi_conforms_so_far periods ≡ true) × (0 ≡ dvi_columns_of periods) × (0 ≤ 20000000)
-unfolding dvi_conforms_so_far dvi_columns_of
-dvi_none_yet periods h = grind arith

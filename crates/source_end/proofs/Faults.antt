@@ -1,13 +1,11 @@
 -- The first fault decides.
-use Rattle.std.proofs.Common.{arith, ◌≡◌, ℕ, Bool, true, false, List, refl, Option, Some, None, ◌+◌, ap, ap₂, sym, subst, ◌∙◌, Result, Ok, Err}
+use Rattle.std.proofs.Common.{arith, ◌≡◌, Bool, true, false, List, refl, Option, Some, None, ◌+◌, sym, subst, ◌∙◌, Result, Ok, Err}
 use Rattle.std.specs.Prelude.{nat_le}
 use Rattle.island_pack.specs.Periods.{Period, period_columns, columns_of}
 use Rattle.source_end.specs.declared.items.ItemFault.{ItemFault}
 use Rattle.source_end.specs.declared.items.ItemFault.TheVariants.{Range, Order, Control, Preamble, Long, NoMemory}
 use Rattle.source_end.specs.DviPeriods.{dvi_columns, dvi_columns_of}
-use Rattle.source_end.specs.Kept.{capped}
-use Rattle.source_end.specs.Refusals.{last_period, is_in_range, is_in_order, has_control, is_announced, is_control_last, is_long_enough, unless, first_fault, push_fault, dvi_push_fault, close_fault, AnswersFault}
-use Rattle.source_end.proofs.Turns.{capped_room}
+use Rattle.source_end.specs.Refusals.{last_period, is_in_range, is_in_order, has_control, is_announced, is_control_last, is_long_enough, unless, push_fault, dvi_push_fault, close_fault, AnswersFault}
 
 abbrev pub first : Bool → Bool → Bool → Bool → Bool → Option ItemFault
 first a b c d e = unless a Range (unless b Order (unless c Control (unless d Preamble (unless e Long None))))
@@ -54,20 +52,9 @@ none_holds a b c d e h = grind arith
 pub push_none : (periods : List Period) (p : Period) → is_in_range p ≡ true → is_in_order (last_period periods) p ≡ true → has_control (last_period periods) p ≡ true → is_announced (last_period periods) p ≡ true → nat_le (columns_of periods + period_columns p) 20000000 ≡ true → push_fault periods p ≡ None
 push_none periods p h i j k l = push_fault_is periods p ∙ at_none (is_in_range p) (is_in_order (last_period periods) p) (has_control (last_period periods) p) (is_announced (last_period periods) p) (nat_le (columns_of periods + period_columns p) 20000000) h i j k l
 
--- the fault that the five tests find, of items in a link and of items without guard bands
-pub found_is : (periods seen : List Period) (p : Period) (announced room : Bool) (sum n : ℕ) → seen ≡ periods → announced ≡ is_announced (last_period seen) p → room ≡ nat_le (sum + n) 20000000
-    → sum ≡ columns_of periods → n ≡ capped (period_columns p) → first_fault seen p announced room ≡ push_fault periods p
-unfolding push_fault
-found_is periods seen p announced room sum n same a r all e =
-    ap₂ (first_fault seen p) a (r ∙ capped_room sum n (period_columns p) e ∙ ap (λ k. nat_le (k + period_columns p) 20000000) all)
-    ∙ ap (λ qs. first_fault qs p (is_announced (last_period qs) p) (nat_le (columns_of periods + period_columns p) 20000000)) same
-
-pub dvi_found_is : (periods seen : List Period) (p : Period) (room : Bool) (sum n : ℕ) → seen ≡ periods → room ≡ nat_le (sum + n) 20000000 → sum ≡ dvi_columns_of periods → n ≡ capped (dvi_columns p)
-    → first_fault seen p true room ≡ dvi_push_fault periods p
+pub dvi_push_fault_is : (periods : List Period) (p : Period) → dvi_push_fault periods p ≡ first (is_in_range p) (is_in_order (last_period periods) p) (has_control (last_period periods) p) true (nat_le (dvi_columns_of periods + dvi_columns p) 20000000)
 unfolding dvi_push_fault
-dvi_found_is periods seen p room sum n same r all e =
-    ap (first_fault seen p true) (r ∙ capped_room sum n (dvi_columns p) e ∙ ap (λ k. nat_le (k + dvi_columns p) 20000000) all)
-    ∙ ap (λ qs. first_fault qs p true (nat_le (dvi_columns_of periods + dvi_columns p) 20000000)) same
+dvi_push_fault_is periods p = refl
 
 -- what the answer then is
 pub answers : (fault : ItemFault) (seen : Option ItemFault) → seen ≡ Some fault → AnswersFault {T = Unit {0}} seen (Err fault)

@@ -8,7 +8,7 @@ use Rattle.terc4.specs.Tables.{video_guard}
 use Rattle.island_pack.specs.Periods.{ControlRun, DataIsland, Period, control, video, island, values_of, Pixel, pixels_of, SyncPair}
 use Rattle.island_pack.specs.Conforming.{is_packet, is_data_island}
 use Rattle.island_pack.specs.Packets.{Carries}
-use Rattle.island_pack.specs.Spelling.{SpellsPixels, SpellsVideo, SpellsIsland, SpellsPackets, SpellsPeriod, Spells, control_column, guard_columns, column_words, guard_column}
+use Rattle.island_pack.specs.Spelling.{SpellsPixels, SpellsVideo, SpellsIsland, SpellsPackets, SpellsPeriod, control_column, guard_columns, column_words, guard_column}
 use Rattle.island_pack.specs.declared.packet.Packet.{Packet}
 use Rattle.island_pack.proofs.PixelColumns.{pixels_go_on}
 use Rattle.island_pack.proofs.Spelled.{packets_spelled, video_spelled}
@@ -17,7 +17,6 @@ use Rattle.source_end.specs.Kept.{is_sendable}
 use Rattle.source_end.proofs.Fronts.{front_after}
 use Rattle.source_end.proofs.Spellings.{map_replicate, joined}
 use Rattle.source_end.proofs.Packets.{SpellsPackets-append, packets_in_range}
-use Rattle.source_end.proofs.Streams.{Spells-append}
 
 -- A list with one item seen, and what stands after it.
 pub parts_at : {A : Type 0} (xs : List A) (i : ℕ) (d : A) → i < length xs → take i xs ++ (get_or xs i d ∷ drop (suc i) xs) ≡ xs
@@ -131,33 +130,13 @@ pub closing_front : (x : DataIsland) (packets : List Packet) (old mid late new o
     → TookFront late new (λ cs. cs ≡ end) → TookFront old new (SpellsIsland x)
 closing_front x packets old mid late new own columns end is same ends was more spelled front = grind (arith, front_after, append_assoc, append-nil)
 
--- A list of periods, each of which has columns that spell it.
+-- Each period has columns that spell it.
 island_spelled : (x : DataIsland) → is_data_island x ≡ true → (columns : List Column) × SpellsIsland x columns
 island_spelled x h =
     let packets = packets_spelled true x.packets (packets_in_range x h) in
     ((guard_columns x.opening ++ packets.0) ++ guard_columns x.closing, (packets.0, refl, packets.1))
 
-period_spelled : (p : Period) → is_sendable p ≡ true → (columns : List Column) × SpellsPeriod p columns
+pub period_spelled : (p : Period) → is_sendable p ≡ true → (columns : List Column) × SpellsPeriod p columns
 period_spelled (control runs) h = (map control_column (values_of runs), refl)
 period_spelled (video bytes) h = video_spelled bytes
 period_spelled (island x) h = island_spelled x h
-
-pub sendable_spelled : (periods : List Period) → list_all is_sendable periods ≡ true → (columns : List Column) × Spells periods columns
-sendable_spelled [] h = ([], refl)
-sendable_spelled (p ∷ ps) h =
-    let parts = and_parts (is_sendable p) (list_all is_sendable ps) h in
-    let own = period_spelled p parts.0 in
-    let rest = sendable_spelled ps parts.1 in
-    (own.0 ++ rest.0, (own.0, rest.0, refl, own.1, rest.1))
-
-pub periods_front : (periods : List Period) (i : ℕ) (p : Period) (old mid new columns : List Column) → list_all is_sendable periods ≡ true → i < length periods → get_or periods i p ≡ p
-    → Spells (take i periods) columns → mid ≡ old ++ columns → TookFront mid new (SpellsPeriod p) → TookFront old new (Spells periods)
-periods_front periods i p old mid new columns h lt at spelled was front =
-    let rest = sendable_spelled (drop (suc i) periods) (all_after is_sendable periods (suc i) h) in
-    let parts : take i periods ++ (p ∷ drop (suc i) periods) ≡ periods = ap (λ (q : Period). take i periods ++ (q ∷ drop (suc i) periods)) (sym at) ∙ parts_at periods i p lt in
-    front_after old mid new columns (SpellsPeriod p) (Spells periods) was front
-    (λ cs own. (
-      rest.0,
-      subst (λ (ps : List Period). Spells ps (columns ++ (cs ++ rest.0))) parts
-          (Spells-append (take i periods) (p ∷ drop (suc i) periods) columns (cs ++ rest.0) spelled (cs, rest.0, refl, own, rest.1)),
-    ))

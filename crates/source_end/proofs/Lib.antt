@@ -9,7 +9,10 @@ pub mod Streams
 pub mod Fronts
 pub mod ItemFronts
 pub mod DviTurns
-pub mod DviStreams
+pub mod Pushes
+pub mod Sendable
+pub mod FramingLaws
+pub mod Framed
 pub mod Gathered
 pub mod RasterModes
 pub mod RasterSizes

@@ -21,7 +21,8 @@ use Rattle.source_end.specs.RasterRefusals.{raster_fault}
 use Rattle.source_end.specs.RasterLaws.{RasterConforms, RasterColumns}
 use Rattle.source_end.specs.Gathering.{size, Has, Parted}
 use Rattle.source_end.proofs.Turns.{left, right, columns_of-append}
-use Rattle.source_end.proofs.Streams.{Spells-length, sendable_all}
+use Rattle.source_end.proofs.Sendable.{sendable_all}
+use Rattle.source_end.proofs.Streams.{Spells-length}
 use Rattle.source_end.proofs.Gathered.{size_append}
 use Rattle.source_end.proofs.RasterModes.{IsFrame, AreFrames, good_mode, good_frames, few_columns}
 use Rattle.source_end.proofs.RasterSizes.{parts_first}

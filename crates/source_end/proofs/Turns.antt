@@ -114,9 +114,18 @@ pub columns_of-more : (periods : List Period) (p : Period) → columns_of (perio
 unfolding columns_of
 columns_of-more periods p = columns_of-append periods (p ∷ []) ∙ omega arith
 
-pub none_yet : (periods : List Period) → periods ≡ [] → (conforms_so_far periods ≡ true) × (0 ≡ columns_of periods) × (0 ≤ 20000000)
-unfolding conforms_so_far columns_of
-none_yet periods h = grind arith
+-- no period, and one more before others
+pub nothing_yet : conforms_so_far [] ≡ true
+unfolding conforms_so_far
+nothing_yet = refl
+
+pub no_columns : columns_of [] ≡ 0
+unfolding columns_of
+no_columns = refl
+
+pub more_columns : (p : Period) (ps : List Period) → columns_of (p ∷ ps) ≡ period_columns p + columns_of ps
+unfolding columns_of
+more_columns p ps = refl
 
 pub capped_room : (sum n m : ℕ) → n ≡ capped m → nat_le (sum + n) 20000000 ≡ nat_le (sum + m) 20000000
 capped_room sum n m e = grind arith

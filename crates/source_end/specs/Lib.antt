@@ -3,6 +3,7 @@ pub mod Kept
 pub mod ItemPeriods
 pub mod DviPeriods
 pub mod Refusals
+pub mod Framings
 pub mod Laws
 pub mod Rows
 pub mod Content

@@ -1,12 +1,14 @@
 //! Lists of items that can be the first ones of a conforming list.
-ghost use Rattle.std.specs.Prelude.{◌≡◌, ◌≤◌, ◌+◌, ◌++◌, ◌∷◌, [], List, OnOk, OnErr, IfOk, IsTrue, not};
+ghost use Rattle.std.specs.Prelude.{◌≡◌, ◌≤◌, ◌++◌, ◌∷◌, [], List, OnOk, OnErr, IfOk, IsTrue};
 
-use crate::follow::{end_fault, first_fault, is_announced};
-use crate::{Item, Stream};
+use crate::Item;
+use crate::follow::{end_fault, first_fault};
+use crate::framing::{Framing, WithGuards, WithoutGuards};
+use crate::stream::FramedStream;
 use island_pack::has_room;
 use outside_io::NoMemory;
 use std::alloc::Global;
-use std::marker::Model;
+use std::marker::{Model, PhantomData};
 use thiserror::Error;
 
 /// Why an item is refused, tried in this order.
@@ -45,50 +47,61 @@ impl From<NoMemory> for ItemFault {
     }
 }
 
+/// Items that can be the first ones of a stream with guard bands.
+pub type Items = FramedItems<WithGuards>;
+
+/// Items that can be the first ones of a stream without guard bands: control periods, and between any two of them a
+/// video period, which begins with its first pixel. No preamble is asked for.
+pub type DviItems = FramedItems<WithoutGuards>;
+
 /// Items that can be the first ones of a stream.
 #[derive(Drop)]
-pub struct Items {
+pub struct FramedItems<F: Framing> {
     list: Vec<Item>,
     /// How many columns they take, at most 20,000,000.
     columns: u32,
+    framing: PhantomData<F>,
 }
 
-impl Model for Items {
+impl<F: Framing> Model for FramedItems<F> {
     ghost use Rattle.std.specs.Prelude.{◌≡◌, ◌≤◌, List, map, IsTrue};
-    ghost use Rattle.island_pack.specs.Periods.{Period, columns_of};
-    ghost use Rattle.source_end.specs.Kept.{conforms_so_far};
+    ghost use Rattle.island_pack.specs.Periods.{Period};
     ghost use Rattle.source_end.specs.ItemPeriods.{period_of};
 
     ghost Value = { List Period };
 
     ghost view = { λ i. map period_of i.list.items };
 
-    ghost invariant = { λ i. IsTrue (conforms_so_far (map period_of i.list.items)) × (i.columns ≡ columns_of (map period_of i.list.items)) × (i.columns ≤ 20000000) };
+    ghost invariant = { λ i. IsTrue (F.rules.conforms_so_far (map period_of i.list.items)) × (i.columns ≡ F.rules.columns_of (map period_of i.list.items)) × (i.columns ≤ 20000000) };
 }
 
-impl Items {
+impl<F: Framing> FramedItems<F> {
     ghost use Rattle.source_end.specs.ItemPeriods.{period_of};
-    ghost use Rattle.source_end.specs.Refusals.{push_fault, close_fault, AnswersFault, AnswersOnlyFault};
+    ghost use Rattle.source_end.specs.Refusals.{close_fault, AnswersFault, AnswersOnlyFault};
 
     /// No items yet; keeps the allocator for its growth.
-    pub fn new(alloc: Global) -> Items
+    pub fn new(alloc: Global) -> FramedItems<F>
         ensures { result ≡ [] }
     {
-        Items {
+        F::lawful();
+        FramedItems {
             list: Vec::new(alloc),
             columns: 0,
+            framing: PhantomData,
         }
     }
 
     /// Appends an item, or refuses it with the first fault that it has here. After a refusal the items
     /// are as before, and the item is dropped.
     pub fn push(&mut self, item: Item) -> Result<(), ItemFault>
-        ensures fault { AnswersFault (push_fault self.old (period_of item)) result }
+        requires { IsTrue (F.rules.is_carried (period_of item)) }
+        ensures fault { AnswersFault (F.rules.push_fault self.old (period_of item)) result }
         ensures ok { OnOk result (self.new ≡ self.old ++ period_of item ∷ []) }
         ensures err { OnErr result (self.new ≡ self.old) }
     {
-        let columns = item.columns();
-        let announced = is_announced(self.list.as_slice(), &item);
+        F::lawful();
+        let columns = F::columns(&item);
+        let announced = F::is_announced(self.list.as_slice(), &item);
         let room = has_room(self.columns, columns);
         if let Some(fault) = first_fault(self.list.as_slice(), &item, announced, room) {
             return Err(fault);
@@ -102,14 +115,23 @@ impl Items {
         }
     }
 
+    /// How many columns they take.
+    pub fn columns(&self) -> u32
+        ensures value { result ≡ F.rules.columns_of self.now }
+        ensures few { result ≤ 20000000 }
+    {
+        self.columns
+    }
+
     /// The stream of these items, or the first fault of their end. The items are dropped on a refusal.
-    pub fn close(self) -> Result<Stream, ItemFault>
+    pub fn close(self) -> Result<FramedStream<F>, ItemFault>
         ensures fault { AnswersOnlyFault (close_fault self) result }
         ensures ok { IfOk result (λ stream. stream ≡ self) }
     {
+        F::lawful();
         if let Some(fault) = end_fault(self.list.as_slice()) {
             return Err(fault);
         }
-        Ok(Stream::new(self.list, self.columns))
+        Ok(FramedStream::new(self.list, self.columns))
     }
 }

@@ -2,9 +2,8 @@
 #![tactic(auto)]
 
 mod content;
-mod dvi_items;
-mod dvi_stream;
 mod follow;
+mod framing;
 mod gathering;
 mod generator;
 mod island;
@@ -21,14 +20,13 @@ mod spell;
 mod stream;
 
 pub use content::Content;
-pub use dvi_items::DviItems;
-pub use dvi_stream::DviStream;
+pub use framing::{Framing, WithGuards, WithoutGuards};
 pub use gathering::{Gathering, OpenRuns};
 pub use generator::generate;
 pub use island::Island;
 pub use item::{Item, Pixels, Run, Runs};
-pub use items::{ItemFault, Items};
+pub use items::{DviItems, FramedItems, ItemFault, Items};
 pub use mode::Mode;
 pub use rasters::{count_columns, raster, spell_raster};
 pub use refusal::{RasterFault, mode_fault, next_fault};
-pub use stream::Stream;
+pub use stream::{DviStream, FramedStream, Stream};

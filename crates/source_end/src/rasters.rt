@@ -11,6 +11,7 @@ ghost use Rattle.source_end.specs.Raster.{Part, active, laid, lines_of, raster_o
 ghost use Rattle.source_end.specs.RasterRefusals.{bad_mode, numbers_of, raster_fault, AnswersRasterFault};
 
 use crate::content::FrameContent;
+use crate::framing::WithGuards;
 use crate::gathering::Gathering;
 use crate::mode::total;
 use crate::refusal::{raster_columns, raster_fault};
@@ -93,11 +94,11 @@ fn spell_frames<C: ColumnSink>(
     let mut gathering = Gathering::new(alloc);
     for frame in content.into_frames() {
         let items = ended_by(mode, frame, &mut gathering)?;
-        spell::items(items.as_slice(), out)?;
+        spell::items::<WithGuards, C>(items.as_slice(), out)?;
     }
     gathering.columns(mode.sync_value(true, true), 32)?;
     let items = gathering.into_items()?;
-    spell::items(items.as_slice(), out)
+    spell::items::<WithGuards, C>(items.as_slice(), out)
 }
 
 /// The items up to the last one that a frame ends; the control period that goes on stays.

@@ -4,15 +4,16 @@ ghost use Rattle.std.specs.List.{list_all};
 ghost use Rattle.outside_io.specs.Causes.{HasCause};
 ghost use Rattle.tmds_word.specs.Column.{Column, column_of};
 ghost use Rattle.terc4.specs.Tables.{video_guard};
-ghost use Rattle.island_pack.specs.Periods.{values_of, period_columns, columns_of};
+ghost use Rattle.island_pack.specs.Periods.{values_of, period_columns};
 ghost use Rattle.island_pack.specs.Conforming.{is_run, is_sync_pair, is_packet, is_data_island};
-ghost use Rattle.island_pack.specs.Spelling.{Spells, SpellsPeriod, SpellsVideo, SpellsIsland, SpellsPackets, control_column, guard_column, guard_columns};
+ghost use Rattle.island_pack.specs.Spelling.{SpellsPeriod, SpellsVideo, SpellsIsland, SpellsPackets, control_column, guard_column, guard_columns};
 ghost use Rattle.source_end.specs.ItemPeriods.{period_of};
 ghost use Rattle.source_end.specs.Fronts.{TookFront};
 ghost use Rattle.source_end.specs.Pairs.{pair_of};
 ghost use Rattle.source_end.specs.DviPeriods.{dvi_columns, DviSpellsPeriod};
 ghost use Rattle.source_end.specs.Kept.{is_sendable, is_dvi_sendable};
 
+use crate::framing::Framing;
 use crate::line_coding::pixels;
 use crate::{Island, Item, Run};
 use island_pack::{Packet, lay};
@@ -23,15 +24,16 @@ use tmds_word::{ColumnSink, Word};
 const BLOCK: usize = 64;
 
 /// Gives the columns of items. It is refused only where `out` refused a column.
-pub(crate) fn items<C: ColumnSink>(list: &[Item], out: &mut C) -> Result<(), NoMemory>
-    requires sendable { IsTrue (list_all is_sendable (map period_of list.now)) }
-    requires room { length (C.taken out.old) + columns_of (map period_of list.now) < 429496729 }
-    ensures ok { OnOk result ((columns : List Column) × (C.taken out.new ≡ C.taken out.old ++ columns) × Spells (map period_of list.now) columns) }
-    ensures part { OnErr result (TookFront (C.taken out.old) (C.taken out.new) (Spells (map period_of list.now))) }
+pub(crate) fn items<F: Framing, C: ColumnSink>(list: &[Item], out: &mut C) -> Result<(), NoMemory>
+    requires sendable { IsTrue (list_all F.rules.is_sendable (map period_of list.now)) }
+    requires room { length (C.taken out.old) + F.rules.columns_of (map period_of list.now) < 429496729 }
+    ensures ok { OnOk result ((columns : List Column) × (C.taken out.new ≡ C.taken out.old ++ columns) × F.spells (map period_of list.now) columns) }
+    ensures part { OnErr result (TookFront (C.taken out.old) (C.taken out.new) (F.spells (map period_of list.now))) }
     ensures cause { HasCause (C.refusals out.old) (C.refusals out.new) result }
 {
-    for each in list {
-        item(each, out)?;
+    F::lawful();
+    for item in list {
+        F::spell(item, out)?;
     }
     Ok(())
 }

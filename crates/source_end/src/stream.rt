@@ -1,53 +1,61 @@
 //! Conforming lists of items.
-ghost use Rattle.std.specs.Prelude.{◌≡◌, ◌≤◌, ◌<◌, ◌+◌, ◌++◌, List, length, map, OnOk, OnErr};
+ghost use Rattle.std.specs.Prelude.{◌≡◌, ◌≤◌, ◌<◌, ◌++◌, List, length, map, OnOk, OnErr, IsTrue};
 ghost use Rattle.outside_io.specs.Causes.{HasCause};
 ghost use Rattle.tmds_word.specs.Column.{Column};
-ghost use Rattle.island_pack.specs.Periods.{columns_of};
-ghost use Rattle.island_pack.specs.Conforming.{IsConforming};
-ghost use Rattle.island_pack.specs.Spelling.{Spells};
 
+use crate::framing::{Framing, WithGuards, WithoutGuards};
 use crate::{Item, spell};
 use outside_io::NoMemory;
-use std::marker::Model;
+use std::marker::{Model, PhantomData};
 use tmds_word::ColumnSink;
+
+/// A conforming list of items with guard bands.
+pub type Stream = FramedStream<WithGuards>;
+
+/// A conforming list of items without guard bands (DVI 1.0).
+pub type DviStream = FramedStream<WithoutGuards>;
 
 /// A conforming list of items of at most 20,000,000 columns.
 #[derive(Drop)]
-pub struct Stream {
+pub struct FramedStream<F: Framing> {
     list: Vec<Item>,
     columns: u32,
+    framing: PhantomData<F>,
 }
 
-impl Model for Stream {
-    ghost use Rattle.std.specs.Prelude.{◌≡◌, ◌≤◌, List, map};
-    ghost use Rattle.island_pack.specs.Periods.{Period, columns_of};
-    ghost use Rattle.island_pack.specs.Conforming.{IsConforming};
+impl<F: Framing> Model for FramedStream<F> {
+    ghost use Rattle.std.specs.Prelude.{◌≡◌, ◌≤◌, List, map, IsTrue};
+    ghost use Rattle.island_pack.specs.Periods.{Period};
     ghost use Rattle.source_end.specs.ItemPeriods.{period_of};
 
     ghost Value = { List Period };
 
     ghost view = { λ s. map period_of s.list.items };
 
-    ghost invariant = { λ s. IsConforming (map period_of s.list.items) × (s.columns ≡ columns_of (map period_of s.list.items)) × (s.columns ≤ 20000000) };
+    ghost invariant = { λ s. IsTrue (F.rules.conforms (map period_of s.list.items)) × (s.columns ≡ F.rules.columns_of (map period_of s.list.items)) × (s.columns ≤ 20000000) };
 }
 
-impl Stream {
+impl<F: Framing> FramedStream<F> {
     ghost use Rattle.source_end.specs.ItemPeriods.{period_of};
 
-    pub(crate) fn new(list: Vec<Item>, columns: u32) -> Stream
-        requires conforming { IsConforming (map period_of list.items) }
-        requires columns { columns ≡ columns_of (map period_of list.items) }
+    pub(crate) fn new(list: Vec<Item>, columns: u32) -> FramedStream<F>
+        requires conforming { IsTrue (F.rules.conforms (map period_of list.items)) }
+        requires columns { columns ≡ F.rules.columns_of (map period_of list.items) }
         requires few { columns ≤ 20000000 }
         ensures { result ≡ map period_of list.items }
     {
-        Stream { list, columns }
+        FramedStream {
+            list,
+            columns,
+            framing: PhantomData,
+        }
     }
 
     /// How many columns its items take.
     pub fn columns(&self) -> u32
-        ensures value { result ≡ columns_of self.now }
+        ensures value { result ≡ F.rules.columns_of self.now }
         ensures few { result ≤ 20000000 }
-        ensures conforming { IsConforming self.now }
+        ensures conforming { IsTrue (F.rules.conforms self.now) }
     {
         self.columns
     }
@@ -63,10 +71,11 @@ impl Stream {
     /// taken the first of some columns that spell the items.
     pub fn spell<C: ColumnSink>(&self, out: &mut C) -> Result<(), NoMemory>
         requires { length (C.taken out.old) < 400000000 }
-        ensures ok { OnOk result ((columns : List Column) × (C.taken out.new ≡ C.taken out.old ++ columns) × Spells self.now columns) }
-        ensures part { OnErr result ((columns rest : List Column) × (C.taken out.new ≡ C.taken out.old ++ columns) × Spells self.now (columns ++ rest)) }
+        ensures ok { OnOk result ((columns : List Column) × (C.taken out.new ≡ C.taken out.old ++ columns) × F.spells self.now columns) }
+        ensures part { OnErr result ((columns rest : List Column) × (C.taken out.new ≡ C.taken out.old ++ columns) × F.spells self.now (columns ++ rest)) }
         ensures cause { HasCause (C.refusals out.old) (C.refusals out.new) result }
     {
-        spell::items(self.list.as_slice(), out)
+        F::lawful();
+        spell::items::<F, C>(self.list.as_slice(), out)
     }
 }

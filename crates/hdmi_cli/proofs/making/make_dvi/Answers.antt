@@ -15,10 +15,10 @@ returns-in-Err-Bad-clause-ends g c = grind (arith, dvi_refused, bad_listing)
 pub returns-in-Ok-clause-ends : goal.returns-in-Ok-clause-ends
 returns-in-Ok-clause-ends g c =
     let before : Devices = record { left = g.S.Source.left c.args.input.now; input_faults = g.S.Source.faults c.args.input.now; held = g.K.Sink.held c.args.output.now; output_faults = g.K.Sink.faults c.args.output.now } in
-    let after : Devices = record { left = g.S.Source.left c.read_dvi.new.source; input_faults = g.S.Source.faults c.read_dvi.new.source; held = g.K.Sink.held c.write_dvi.new.output; output_faults = g.K.Sink.faults c.write_dvi.new.output } in
+    let after : Devices = record { left = g.S.Source.left c.read_dvi.new.source; input_faults = g.S.Source.faults c.read_dvi.new.source; held = g.K.Sink.held c.write_stream.new.output; output_faults = g.K.Sink.faults c.write_stream.new.output } in
     let accepted : (text : List ℕ) → before.left ≡ Some text → dvi_reads_as text ≡ accepts c.in-Ok.stream = λ text reported. search rules in
-    stream_ends DviSpells (MakeDvi c.args.words.now) (tap_asked c.args.words.now) c.in-Ok.stream c.write_dvi.result before after
-    (λ text o reported made. makes_dvi c.args.words.now c.in-Ok.stream text o (accepted text reported) made) (λ parts. parts) (λ reads. reads) (search rules) (subst (λ (t : Tap). StreamEnds DviSpells t c.in-Ok.stream c.write_dvi.result (g.K.Sink.held c.args.output.now) (g.K.Sink.held c.write_dvi.new.output) (g.K.Sink.faults c.args.output.now) (g.K.Sink.faults c.write_dvi.new.output)) c.tap_of.ensures c.write_dvi.ensures.ends)
+    stream_ends DviSpells (MakeDvi c.args.words.now) (tap_asked c.args.words.now) c.in-Ok.stream c.write_stream.result before after
+    (λ text o reported made. makes_dvi c.args.words.now c.in-Ok.stream text o (accepted text reported) made) (λ parts. parts) (λ reads. reads) (search rules) (subst (λ (t : Tap). StreamEnds DviSpells t c.in-Ok.stream c.write_stream.result (g.K.Sink.held c.args.output.now) (g.K.Sink.held c.write_stream.new.output) (g.K.Sink.faults c.args.output.now) (g.K.Sink.faults c.write_stream.new.output)) c.tap_of.ensures c.write_stream.ensures.ends)
 
 pub returns-in-Ok-clause-taken : goal.returns-in-Ok-clause-taken
 returns-in-Ok-clause-taken g c = c.read_dvi.ensures.taken

@@ -1,22 +1,23 @@
-use Rattle.std.proofs.Common.{sym, ◌∙◌}
-use Rattle.listing_reader.proofs.Islands.{grows_at, packet_open}
+use Rattle.std.proofs.Common.{subst, sym, ◌∙◌}
+use Rattle.listing_reader.specs.Reported.{MayStand}
+use Rattle.listing_reader.proofs.Islands.{grows_at}
+use Rattle.listing_reader.proofs.Refused.{answers_cause, answers_ok, cause_packet}
 use Rattle.listing_reader.proofs.reader.Reader.add_packet.Goals as goal
+use Rattle.listing_reader.proofs.reader.Reader.add_packet.Goals.{in-Some-island+in_ok-push, in_default-island}
 
-pub unreachable-requires : goal.unreachable-requires
-unreachable-requires c =
-    let r = c.reader.inside in
-    packet_open r.items r.runs r.island c.args.self c.args.packet c.reader.view_is (sym c.packet_cause.ensures.answer ∙ c.in_default.is) c.in-None.is
+pub returns-in-Some-clause-cause : goal.returns-in-Some-clause-cause
+returns-in-Some-clause-cause c = answers_cause _ _ c.in-Some.cause (cause_packet c.args.self c.args.packet ∙ sym c.packet_cause.ensures.answer ∙ c.in-Some.is)
 
 pub invariant_of-reader : goal.invariant_of-reader
 invariant_of-reader c =
     let r = c.reader.inside in
-    let grown = grows_at r.items r.runs r.island c.in-Some-island.island c.args.self r.columns c.args.packet c.push.new.self c.in-Some-island.is c.reader.invariant.begun
-    c.reader.view_is c.reader.invariant.columns (sym c.packet_cause.ensures.answer ∙ c.in_default.is) (c.packet_cause.ensures.packet c.in_default.is)
-    c.in_ok-push-in-Some-island.ensures.ok in
-    record {
-      columns = grown.counted;
-      few = grown.few;
-      turn = c.reader.invariant.turn;
-      in_range = c.reader.invariant.in_range;
-      begun = grown.begun;
-    }
+    let none = sym c.packet_cause.ensures.answer ∙ c.in_default.is in
+    elim c.match-reader.branch [
+      | in-Some-island+in_ok-push w ↦
+          subst (λ now. MayStand now.periods now.island) (sym w.reader-inside-is)
+          (grows_at r.periods r.island w.in-Some-island.island c.args.self c.args.packet w.push.new.self w.in-Some-island.is c.reader.invariant c.reader.view_is none (c.packet_cause.ensures.packet c.in_default.is) w.in_ok-push.ensures.ok)
+      | in_default-island w ↦ subst (λ now. MayStand now.periods now.island) (sym w.reader-inside-is) c.reader.invariant
+    ]
+
+pub returns-clause-cause : goal.returns-clause-cause
+returns-clause-cause c = answers_ok _ _ (cause_packet c.args.self c.args.packet ∙ sym c.packet_cause.ensures.answer ∙ c.in_default.is)

@@ -1,29 +1,23 @@
 use Rattle.std.proofs.Common.{sym, ◌∙◌}
-use Rattle.listing_reader.proofs.Islands.{closes_at, close_open, island_last, closed_columns}
-use Rattle.listing_reader.proofs.OpenPeriods.{none_in_range}
+use Rattle.listing_reader.proofs.Islands.{close_turned, closes_at}
+use Rattle.listing_reader.proofs.Refused.{answers_err, answers_done}
 use Rattle.listing_reader.proofs.reader.Reader.close_island.Goals as goal
 
-pub unreachable-requires : goal.unreachable-requires
-unreachable-requires c =
-    let r = c.self.inside in
-    close_open r.items r.runs r.island c.args.self _ _ c.self.view_is (sym c.close_cause.ensures ∙ c.in_default.is) c.in_default-island.is
+pub returns-then-not-has_packet-clause-cause : goal.returns-then-not-has_packet-clause-cause
+returns-then-not-has_packet-clause-cause c =
+    close_turned _ c.args.self _ _ c.out_of_turn.result (sym c.has_packet.ensures ∙ c.if-not-has_packet.true)
+    (λ h. c.out_of_turn.ensures.order (c.are_sync_values.ensures ∙ h)) (λ h. c.out_of_turn.ensures.range (c.are_sync_values.ensures ∙ h))
 
-pub with_island-requires : goal.with_island-requires
-with_island-requires c =
+pub returns-in_err-periods-clause-cause : goal.returns-in_err-periods-clause-cause
+returns-in_err-periods-clause-cause c =
     let r = c.self.inside in
-    let closed = closes_at r.items c.in_ok-closed.field-0 r.runs r.island c.in-Some-island.island c.args.self r.columns _ _ c.set_closing.new.self c.in-Some-island.is c.self.invariant.turn c.self.invariant.begun
-    c.self.view_is c.self.invariant.columns (sym c.close_cause.ensures ∙ c.in_default.is) c.in_ok-closed.ensures c.set_closing.ensures in
-    closed.fits
+    answers_err _ _ _ _ c.from_residual.result _
+    (closes_at r.periods r.island c.in-Some.island c.args.self _ _ c.set_closing.new.self c.in-Some.is c.self.invariant c.self.view_is (sym c.has_packet.ensures ∙ c.if-not-has_packet.false) c.set_closing.ensures)
+    c.in_err-periods.ensures.cause c.from_residual.ensures.1
 
-pub invariant_of-result : goal.invariant_of-result
-invariant_of-result c =
+pub returns-clause-cause : goal.returns-clause-cause
+returns-clause-cause c =
     let r = c.self.inside in
-    let closed = closes_at r.items c.in_ok-closed.field-0 r.runs r.island c.in-Some-island.island c.args.self r.columns _ _ c.set_closing.new.self c.in-Some-island.is c.self.invariant.turn c.self.invariant.begun
-    c.self.view_is c.self.invariant.columns (sym c.close_cause.ensures ∙ c.in_default.is) c.in_ok-closed.ensures c.set_closing.ensures in
-    record {
-      columns = closed_columns c.in_ok-closed.field-0 c.in_ok-items.items c.new.result c.set_closing.new.self _ closed.counted c.in_ok-items.ensures c.new.ensures;
-      few = closed.few;
-      turn = island_last c.in_ok-closed.field-0 c.in_ok-items.items c.set_closing.new.self c.in_ok-items.ensures;
-      in_range = none_in_range c.new.result c.new.ensures;
-      begun = tt;
-    }
+    answers_done _ _ _ _ c.in_ok-periods.periods _
+    (closes_at r.periods r.island c.in-Some.island c.args.self _ _ c.set_closing.new.self c.in-Some.is c.self.invariant c.self.view_is (sym c.has_packet.ensures ∙ c.if-not-has_packet.false) c.set_closing.ensures)
+    c.in_ok-periods.ensures.cause

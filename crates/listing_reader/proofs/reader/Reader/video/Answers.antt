@@ -1,39 +1,38 @@
-use Rattle.std.proofs.Common.{arith}
-use Rattle.std.proofs.lemmas.Grind.{common_steps}
-use Rattle.hex.proofs.HexLemmas.{decode_of-ok}
-use Rattle.listing_reader.specs.declared.reader.Reader.{Reader}
-use Rattle.listing_reader.proofs.Islands.{some_open, none_closed, none_columns, none_reported}
-use Rattle.listing_reader.proofs.OpenPeriods.{video_columns, video_few, video_last, none_in_range}
-use Rattle.listing_reader.proofs.Refused.{answers_cause, answers_video, answers_taken, answers_read, answers_unread, none_of, pushed_fits, video_range, video_order}
+use Rattle.std.proofs.Common.{ap, sym, ◌∙◌}
+use Rattle.island_pack.specs.Periods.{video}
+use Rattle.source_end.specs.Refusals.{push_fault}
+use Rattle.listing_reader.specs.Causes.{caused}
+use Rattle.listing_reader.specs.Drafts.{Draft}
+use Rattle.listing_reader.proofs.Islands.{some_open, none_closed, video_turned, video_judged}
+use Rattle.listing_reader.proofs.Refused.{answers_err, answers_done, answers_read, answers_unread}
 use Rattle.listing_reader.proofs.reader.Reader.video.Goals as goal
 
 pub returns-in_err-pixels-clause-cause : goal.returns-in_err-pixels-clause-cause
-returns-in_err-pixels-clause-cause c = answers_unread Reader c.args.self c.args.digits.now c.from_residual.result _ c.in_err-pixels.ensures.err c.from_residual.ensures.1
-
-pub returns-then-not-are_pixels_in_range-clause-cause : goal.returns-then-not-are_pixels_in_range-clause-cause
-returns-then-not-are_pixels_in_range-clause-cause c = grind (arith, answers_read, answers_cause, video_range)
+returns-in_err-pixels-clause-cause c = answers_unread _ c.args.self c.args.digits.now c.from_residual.result _ c.in_err-pixels.ensures.err c.from_residual.ensures.1
 
 pub returns-then-is_some-clause-cause : goal.returns-then-is_some-clause-cause
-returns-then-is_some-clause-cause c = grind (arith, some_open, answers_read, answers_cause, video_order)
+returns-then-is_some-clause-cause c =
+    let r = c.self.inside in
+    answers_read c.args.self c.args.digits.now c.in_ok-pixels.pixels _ c.in_ok-pixels.ensures.ok
+    (video_turned _ c.args.self c.in_ok-pixels.pixels c.out_of_turn.result (some_open r.periods r.island c.args.self c.self.view_is (sym c.is_some.ensures ∙ c.if-is_some.true))
+    (λ h. c.out_of_turn.ensures.order (c.are_pixels_in_range.ensures ∙ h)) (λ h. c.out_of_turn.ensures.range (c.are_pixels_in_range.ensures ∙ h)))
 
-pub overflow_cast-added : goal.overflow_cast-added
-overflow_cast-added c =
-    let twice = (decode_of-ok c.args.digits.now c.in_ok-pixels.pixels c.in_ok-pixels.ensures.ok).2 in
-    grind (arith, common_steps)
-
-pub overflow_add-added : goal.overflow_add-added
-overflow_add-added c =
-    let twice = (decode_of-ok c.args.digits.now c.in_ok-pixels.pixels c.in_ok-pixels.ensures.ok).2 in
-    grind (arith, common_steps)
-
-pub overflow_add-result : goal.overflow_add-result
-overflow_add-result c = grind (arith, decode_of-ok, common_steps)
-
-pub invariant_of-result : goal.invariant_of-result
-invariant_of-result c = grind (arith, none_of, none_columns, none_reported, video_columns, video_few, pushed_fits, video_last, none_in_range)
-
-pub returns-in-Ok-clause-cause : goal.returns-in-Ok-clause-cause
-returns-in-Ok-clause-cause c = grind (arith, none_closed, answers_read, answers_taken)
+pub returns-in_err-periods-clause-cause : goal.returns-in_err-periods-clause-cause
+returns-in_err-periods-clause-cause c =
+    let r = c.self.inside in
+    let bytes = c.in_ok-pixels.pixels in
+    answers_read c.args.self c.args.digits.now bytes _ c.in_ok-pixels.ensures.ok
+    (answers_err _ _ _ _ c.from_residual-in_err-periods.result _
+    (video_judged c.args.self bytes (none_closed r.periods r.island c.args.self c.self.view_is (sym c.is_some.ensures ∙ c.if-is_some.false))
+    ∙ sym (ap (λ (d : Draft). caused (push_fault d.periods (video bytes))) c.self.view_is))
+    c.in_err-periods.ensures.cause c.from_residual-in_err-periods.ensures.1)
 
 pub returns-clause-cause : goal.returns-clause-cause
-returns-clause-cause c = grind (arith, none_closed, answers_read, answers_video)
+returns-clause-cause c =
+    let r = c.self.inside in
+    let bytes = c.in_ok-pixels.pixels in
+    answers_read c.args.self c.args.digits.now bytes _ c.in_ok-pixels.ensures.ok
+    (answers_done _ _ _ _ c.in_ok-periods.periods _
+    (video_judged c.args.self bytes (none_closed r.periods r.island c.args.self c.self.view_is (sym c.is_some.ensures ∙ c.if-is_some.false))
+    ∙ sym (ap (λ (d : Draft). caused (push_fault d.periods (video bytes))) c.self.view_is))
+    c.in_ok-periods.ensures.cause)

@@ -1,6 +1,0 @@
-use Rattle.std.proofs.Common.{arith}
-use Rattle.listing_reader.proofs.OpenPeriods.{control_last}
-use Rattle.listing_reader.proofs.reader.Reader.is_control_last.Goals as goal
-
-pub returns : goal.returns
-returns c = grind (arith, control_last)

@@ -1,6 +1,0 @@
-use Rattle.std.proofs.Common.{arith}
-use Rattle.listing_reader.proofs.OpenPeriods.{long_enough}
-use Rattle.listing_reader.proofs.reader.Reader.is_long_enough.Goals as goal
-
-pub returns : goal.returns
-returns c = grind (arith, long_enough)
