@@ -25,3 +25,4 @@ pub mod RasterWriting
 pub mod RasterFrames
 pub mod Generated
 pub mod GeneratedRaster
+pub mod RasterOnce
