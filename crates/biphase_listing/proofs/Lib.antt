@@ -9,3 +9,4 @@ pub mod Payload
 pub mod LineDigits
 pub mod Fours
 pub mod Letters
+pub mod OneRefusal

@@ -72,7 +72,7 @@ one_sample s t xs ys p q same =
 after_frame : (s : Sample) (xs : List ℕ) → drop 16 (frame_bytes s ++ xs) ≡ xs
 after_frame s xs = ap (λ (n : ℕ). drop n (frame_bytes s ++ xs)) (sym (length-frame s)) ∙ drop-append_seam (frame_bytes s) xs
 
-same_samples : (a b : List Sample) → All IsCarried a → All IsCarried b → flat_map frame_bytes a ≡ flat_map frame_bytes b → a ≡ b
+pub same_samples : (a b : List Sample) → All IsCarried a → All IsCarried b → flat_map frame_bytes a ≡ flat_map frame_bytes b → a ≡ b
 same_samples [] [] p q same = refl
 same_samples [] (t ∷ b) p q same =
     let n = ap length same ∙ length-append (frame_bytes t) (flat_map frame_bytes b) in absurd (omega (arith, n, length-frame t))

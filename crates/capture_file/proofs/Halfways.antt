@@ -113,7 +113,7 @@ by_lane : (counts : List ℕ) (j : ℕ) (x y z f g h : List Bool) → length x �
 unfolding three
 by_lane counts j x y z f g h k l m p q r s = grind arith
 
-same_long : (counts : List ℕ) (j : ℕ) (x y z f g h : List Bool) → length x ≡ min (slice_index counts 0) (32768 * j) → length y ≡ min (slice_index counts 1) (32768 * j) → length z ≡ min (slice_index counts 2) (32768 * j)
+pub same_long : (counts : List ℕ) (j : ℕ) (x y z f g h : List Bool) → length x ≡ min (slice_index counts 0) (32768 * j) → length y ≡ min (slice_index counts 1) (32768 * j) → length z ≡ min (slice_index counts 2) (32768 * j)
     → length f ≡ slice_index counts 0 → length g ≡ slice_index counts 1 → length h ≡ slice_index counts 2
     → length (blocks_below j (packed f) (packed g) (packed h)) ≡ length (blocks_below j (packed x) (packed y) (packed z))
 same_long counts j x y z f g h ex ey ez ef eg eh =

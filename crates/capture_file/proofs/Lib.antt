@@ -23,3 +23,5 @@ pub mod SlippedLanes
 pub mod OneCapture
 pub mod OneFault
 pub mod Tapped
+pub mod OneCopy
+pub mod MostBlocks

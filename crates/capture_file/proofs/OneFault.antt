@@ -91,13 +91,13 @@ length-below (suc j) a b c =
     (length-below j a b c) (chunk_next (length a) j) (chunk_next (length b) j) (chunk_next (length c) j)
 
 -- the bytes that a lane has of its blocks below j
-abbrev lane_bytes : ℕ → ℕ → ℕ
+abbrev pub lane_bytes : ℕ → ℕ → ℕ
 lane_bytes count j = min ((count + 7) / 8) (4096 * j)
 
 lane_length : (x : List Bool) (c j : ℕ) → length x ≡ min c (32768 * j) → min (length (packed x)) (4096 * j) ≡ lane_bytes c j
 lane_length x c j is = omega (arith, is, length-packed x)
 
-read_length : (counts : List ℕ) (j place : ℕ) (taken : List ℕ) (x y z : List Bool) → (h : HasRead counts j place taken x y z)
+pub read_length : (counts : List ℕ) (j place : ℕ) (taken : List ℕ) (x y z : List Bool) → (h : HasRead counts j place taken x y z)
     → length taken ≡ length h.head + (lane_bytes (slice_index counts 0) j + lane_bytes (slice_index counts 1) j + lane_bytes (slice_index counts 2) j)
 read_length counts j place taken x y z h =
     ap length h.taken_is
@@ -127,7 +127,7 @@ all_none : (x y z : ℕ) → x + y + z ≡ 0 → (x ≡ 0) × (y ≡ 0) × (z �
 all_none x y z h = (omega (arith, h), omega (arith, h), omega (arith, h))
 
 -- where they stop at one place, either they have as many blocks, or no lane has more
-stop_there : (c d e j k n p : ℕ) → j ≤ k
+pub stop_there : (c d e j k n p : ℕ) → j ≤ k
     → (p < (n + (lane_bytes c j + lane_bytes d j + lane_bytes e j)) + (more_bytes c j + more_bytes d j + more_bytes e j)) ⊎ (more_bytes c j + more_bytes d j + more_bytes e j ≡ 0)
     → n + (lane_bytes c k + lane_bytes d k + lane_bytes e k) ≤ p
     → (j ≡ k) ⊎ ((c ≤ 32768 * j) × (d ≤ 32768 * j) × (e ≤ 32768 * j))
@@ -190,7 +190,7 @@ lane_same xs ys j few long is =
     same_lane xs ys (sym long)
     (sym (take_all (4096 * j) (packed xs) (omega (arith, few, length-packed xs))) ∙ is ∙ take_all (4096 * j) (packed ys) (omega (arith, few, long, length-packed ys)))
 
-stops_within : (counts : List ℕ) (j : ℕ) (taken : List ℕ) (p : ℕ) → StopsIn counts j taken p → (p < length taken + block_size j counts) ⊎ (block_size j counts ≡ 0)
+pub stops_within : (counts : List ℕ) (j : ℕ) (taken : List ℕ) (p : ℕ) → StopsIn counts j taken p → (p < length taken + block_size j counts) ⊎ (block_size j counts ≡ 0)
 stops_within counts j taken p h = elim h.within [
   | inl inside ↦ inl inside
   | inr none ↦ inr none.0

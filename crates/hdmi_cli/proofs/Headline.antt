@@ -46,7 +46,7 @@ lanes_listing : (g : Grammar) (listing : ListingOf) (all : List Event) (blue gre
 lanes_listing g listing all blue green red d e f o first whole (inl (columns, events, reported, is)) = grind (arith, aligned_same)
 lanes_listing g listing all blue green red d e f o first whole (inr (columns, events, nowhere, is)) = absurd (nowhere.nowhere d e f first.triple)
 
-same_lanes : (g : Grammar) (listing : ListingOf) (x y z u v w : List Bool) (o : RunOutcome) → AreSame x y z u v w → ListsLanes g listing u v w o → ListsLanes g listing x y z o
+pub same_lanes : (g : Grammar) (listing : ListingOf) (x y z u v w : List Bool) (o : RunOutcome) → AreSame x y z u v w → ListsLanes g listing u v w o → ListsLanes g listing x y z o
 same_lanes g listing x y z u v w o same h =
     subst (λ a. ListsLanes g listing a y z o) (sym same.blue) (subst (λ b. ListsLanes g listing u b z o) (sym same.green) (subst (λ c. ListsLanes g listing u v c o) (sym same.red) h))
 

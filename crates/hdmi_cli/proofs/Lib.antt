@@ -30,3 +30,9 @@ pub mod RelaySettles
 pub mod RelayExamples
 pub mod Local
 pub mod LocalPackets
+pub mod OneOutcomeLists
+pub mod OneOutcomeMakes
+pub mod OneOutcomeCopies
+pub mod OneOutcomeSample
+pub mod OneOutcomeRelays
+pub mod OneOutcome

@@ -35,7 +35,7 @@ pub same_reported : (x y z u v w : List Bool) (columns : ℕ) (events : List Eve
 same_reported x y z u v w columns events same h =
     subst (λ a. IsAlignedReported a y z columns events) (sym same.blue) (subst (λ b. IsAlignedReported u b z columns events) (sym same.green) (subst (λ c. IsAlignedReported u v c columns events) (sym same.red) h))
 
-more_passes : (events all : List Event) → Begins events all → 20000000 < columns_of (relayed events) → 20000000 < columns_of (relayed all)
+pub more_passes : (events all : List Event) → Begins events all → 20000000 < columns_of (relayed events) → 20000000 < columns_of (relayed all)
 more_passes events all b passes = grind (arith, columns_grow)
 
 -- what is reported of the aligned columns, all of them, is relayed past the limit

@@ -11,6 +11,7 @@ pub mod Samples
 pub mod Relays
 pub mod Outcome
 pub mod Taken
+pub mod OneOutcome
 pub mod Endings
 pub mod ListsCommands
 pub mod RunNotes

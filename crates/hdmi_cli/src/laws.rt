@@ -1,8 +1,14 @@
-//! That premises of the top call's clauses can be met, and that those on slips within a line leave none out. The functions do
-//! nothing: what they ensure are the laws.
+//! That words and bytes have one outcome, that premises of the top call's clauses can be met, and that those on slips within a
+//! line leave none out. The functions do nothing: what they ensure are the laws.
+ghost use Rattle.hdmi_cli.specs.OneOutcome.{OneOutcome};
 ghost use Rattle.hdmi_cli.specs.RelayExamples.{HasCleanCapture, HasRelayedTwice};
 ghost use Rattle.hdmi_cli.specs.TrackExamples.{HasNoticedSlip, HasShortSlip, HasUnlockedSlip};
 ghost use Rattle.hdmi_cli.specs.TrackPasses.{SlipsAreNoticedOrNot};
+
+/// Words and bytes have one outcome, but for bytes that are no capture and `recover track`.
+pub fn one_outcome()
+    ensures { OneOutcome }
+{}
 
 /// Every slip within a line is one that `recover track` notices, or one that it does not: what it then writes is said of both.
 pub fn noticed_or_not()

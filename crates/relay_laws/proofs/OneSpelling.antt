@@ -38,7 +38,7 @@ same_lanes [] (d ∷ ds) b g r = absurd cc
 same_lanes (c ∷ cs) [] b g r = absurd cc
 same_lanes (c ∷ cs) (d ∷ ds) b g r = grind (arith, same_lanes cs ds)
 
-one_line : (pixels : List Pixel) (cs ds : List Column) → SpellsPixels pixels cs → SpellsPixels pixels ds → cs ≡ ds
+pub one_line : (pixels : List Pixel) (cs ds : List Column) → SpellsPixels pixels cs → SpellsPixels pixels ds → cs ≡ ds
 one_line pixels cs ds h k =
     same_lanes cs ds
     (one_lane (map (λ (p : Pixel). p.blue) pixels) (map (λ (c : Column). c.blue) cs) (map (λ (c : Column). c.blue) ds) h.blue k.blue)

@@ -28,3 +28,4 @@ pub mod RasterWriting
 pub mod RasterFrames
 pub mod Generated
 pub mod GeneratedRaster
+pub mod RasterOnce
