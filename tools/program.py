@@ -1,5 +1,7 @@
 """The program for the tools: where it is, and how it is run over a capture."""
 
+import functools
+import itertools
 import os
 import shutil
 import subprocess
@@ -32,13 +34,32 @@ def has(*words):
     return ran.returncode != OTHER_WORDS
 
 
+@functools.cache
+def processors():
+    """For each processor that may be used, the words that start a program on it alone, which is quicker than on all
+    (docs/BENCH.md); no words where there is one processor, or no `taskset` that may do so."""
+    if not hasattr(os, "sched_getaffinity"):
+        return [()] * os.cpu_count()
+    places = sorted(os.sched_getaffinity(0))
+    taskset = shutil.which("taskset")
+    if len(places) == 1 or not taskset:
+        return [()] * len(places)
+    words = [(taskset, "-c", str(place)) for place in places]
+    tried = [subprocess.run([*on, "true"], stderr=subprocess.DEVNULL).returncode == 0 for on in words]
+    return words if all(tried) else [()] * len(places)
+
+
 class Run:
-    """A command of the program that reads a file; its output is read line by line, and then its status and its note."""
+    """A command of the program that reads a file; its output is read line by line, and then its status and its note. Runs
+    side by side have a processor each."""
+
+    starts = itertools.count(os.getpid())
 
     def __init__(self, words, path):
+        on = processors()[next(self.starts) % len(processors())]
         with open(path, "rb") as source:
             self.process = subprocess.Popen(
-                [find(), *words], stdin=source, stdout=subprocess.PIPE, stderr=subprocess.PIPE, bufsize=1 << 20
+                [*on, find(), *words], stdin=source, stdout=subprocess.PIPE, stderr=subprocess.PIPE, bufsize=1 << 20
             )
         self.status, self.note = None, ""
 
