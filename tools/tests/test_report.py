@@ -392,7 +392,7 @@ def test_contents_that_are_wrong(report, program):
     assert "Contents wrong" in page.text("verdict") and page.text("no-faults") == "No fault was told."
     says = "The link is clean, its contents are not: 1 length, 1 checksum, 1 parity, 1 layout, 1 uneven, 1 depth."
     assert page.run("return document.querySelector('header .says').textContent") == says
-    assert page.run("return document.querySelector('header').className") == "contents"
+    assert page.run("return document.querySelector('header').className") == "contents" and page.count("contents") == 6
 
 
 def test_a_frame_of_another_size_than_its_infoframe_says(report, tool, program, sent):
@@ -448,7 +448,8 @@ def test_slips_past_which_nothing_aligns(report, tool, program, sent):
     told = f"9 slips, 7 aligned anew, none from place {places[7]:,} on: {bits[0]:,}, {bits[1]:,} and {bits[2]:,} bits of the lanes"
     assert len(places) == 9 and page.text("slips-say") == f"{told} are not shown."
     assert told in page.run("return document.querySelector('header .says').textContent")
-    assert page.run("return document.querySelector('#count-slips').nextElementSibling.textContent").startswith("7 aligned anew")
+    card = page.run("return document.querySelector('#count-slips').nextElementSibling.textContent")
+    assert card == f"7 aligned anew, none from place {places[7]:,} on"
     rows = [row for row in page.rows("fault-table") if row[0].startswith("slip")]
     assert ["not aligned anew" in row[0] for row in rows] == [False] * 7 + [True] * 2
     # the timeline has the bits that are not shown, and says so
@@ -467,7 +468,7 @@ def test_bits_between_slips_that_are_not_shown(report, program, sent):
     track = texts(program("recover", "track", source=capture, status=1))
     first, last = (int(line.split(" ")[3]) for line in track if line.startswith("! slip "))
     page = report(capture, 1)
-    assert page.text("slips-say") == f"2 slips, 1 aligned anew, {last - first:,} bits a lane between slips are not shown."
+    assert page.text("slips-say") == f"2 slips, 1 aligned anew: {last - first:,} bits a lane between slips are not shown."
     assert page.count("columns") == page.run("return data.columns") - -(-(last - first) // 10)
     assert "alignment 2" in page.run("pointTo(data.columns - 5); return document.getElementById('time').ariaValueText")
     assert page.count("frames") == sum(line["whole"] for line in page.run("return data.frames"))
