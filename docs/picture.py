@@ -29,10 +29,10 @@ TOP = Path(__file__).resolve().parents[1]
 BUILT = TOP / "crates" / "hdmi_cli" / "out" / "hdmi_cli"
 PICTURE, TEXT = TOP / "docs" / "report.png", TOP / "docs" / "report.txt"
 HEADING, PAGE = "## A picture there and back", "walk/damaged.html"
-WIDTH, HEIGHT = 960, 1372
+WIDTH, HEIGHT = 1280, 1830
 WAITS = 300  # seconds for the page, also on a slow machine
 COLOURS = 256
-FAULT, ZOOMS = 197, 4  # which fault is shown, and how often the timeline is enlarged there
+FAULT, ZOOMS = 197, 4  # which fault is shown, and how often the timeline is enlarged about it
 PARTS = ("header", "section[aria-labelledby=h-counts]", "#pictures", "#timeline")
 WORDS = ("headless=new", "no-sandbox", "disable-gpu", "disable-dev-shm-usage", "hide-scrollbars", "force-device-scale-factor=1")
 
@@ -85,6 +85,7 @@ def show(driver, page):
     WebDriverWait(driver, WAITS).until(lambda it: it.execute_script("return document.documentElement.dataset.ready") == "yes")
     press = "for (let left = arguments[1]; left > 0; left--) document.getElementById(arguments[0]).click()"
     driver.execute_script(press, "pixel-on", FAULT)
+    driver.execute_script(press, "fault-on", FAULT)
     driver.execute_script(press, "zoom-in", ZOOMS)
     settled = "const done = arguments[0]; scrollTo(0, 0); document.activeElement.blur(); setTimeout(() => requestAnimationFrame(done), 300)"
     driver.execute_async_script(settled)

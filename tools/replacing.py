@@ -26,11 +26,11 @@ def replacing(path, mode="wb", **words):
     """Opens a file that takes the place of `path` once all of it is written; `words` are those of `open`. Where it
     cannot be written `path` stays as it was, nothing is left beside it, and the error names `path`. A device or a pipe
     is written as it is."""
-    target = Path(os.path.realpath(path))
-    if target.exists() and not target.is_file():
-        with naming(path, target), open(target, mode, **words) as file:
+    if os.path.exists(path) and not os.path.isfile(path):
+        with naming(path), open(path, mode, **words) as file:
             yield file
         return
+    target = Path(os.path.realpath(path))
     beside = target.with_name(f".vabgrot.{os.getpid()}.{next(NUMBERS)}")
     try:
         with naming(path, beside):

@@ -120,7 +120,7 @@ def test_the_installed_script(front, tmp_path):
         assert (status, said) == (0, "") and out.startswith("usage: vabgrot COMMAND")
         assert "install [" not in out and "127" not in out and "./vabgrot" not in out and "tools/" not in out
     commands = [line for line in here.splitlines() if line.startswith("  ")]
-    assert [line for line in out.splitlines() if line.startswith("  ") and "--version" not in line] == [
+    assert [line for line in out.splitlines() if line.startswith("  ") and line.strip() != "vabgrot --version"] == [
         line for line in commands if "./vabgrot" not in line
     ]
     for words in (["check"], ["install"], ["package"], []):
@@ -166,6 +166,8 @@ def test_package(front, tmp_path):
     needed = {"python3", "python3-jinja2", "python3-numpy", "python3-pil", "python3-tqdm", "libc6"}
     assert {part.split()[0] for part in fields["Depends"].split(", ")} == needed
     assert {"python3-matplotlib", "python3-numba"} == set(fields["Recommends"].split(", "))
+    asked = re.search(r"(?m)^apt-get install (.*?)(#|$)", (TOP / "README.md").read_text())[1].split()
+    assert {it for it in asked if it[0] != "-"} == (needed | set(fields["Recommends"].split(", "))) - {"libc6", "python3"}
     ran(["dpkg-deb", "--extract", package, tmp_path / "root"])
     assert front("install", tmp_path / "prefix")[0] == 0
     names = [

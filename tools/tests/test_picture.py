@@ -1,5 +1,6 @@
 """docs/picture.py: the README's picture shows the page that the tools write today."""
 
+import os
 import shutil
 import subprocess
 
@@ -16,8 +17,8 @@ def test_the_picture_is_of_this_page(program):
     pytest.importorskip("selenium.webdriver", reason="Debian's package python3-selenium is missing")
     if not (shutil.which("chromium") and shutil.which("chromedriver")):
         pytest.skip("Debian's packages chromium and chromium-driver are missing")
-    words = ["/usr/bin/env", f"VABGROT_PROGRAM={built()}", TOP / "docs" / "picture.py", "--text"]
-    came = subprocess.run(words, capture_output=True, text=True, timeout=HANGS)
+    env = os.environ | {"VABGROT_PROGRAM": str(built())}
+    came = subprocess.run([TOP / "docs" / "picture.py", "--text"], env=env, capture_output=True, text=True, timeout=HANGS)
     assert came.returncode == 0, came.stderr
     assert came.stdout == TEXT, "the page has changed: docs/picture.py makes the README's picture anew"
 
