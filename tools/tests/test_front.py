@@ -166,7 +166,7 @@ def test_package(front, tmp_path):
     needed = {"python3", "python3-jinja2", "python3-numpy", "python3-pil", "python3-tqdm", "libc6"}
     assert {part.split()[0] for part in fields["Depends"].split(", ")} == needed
     assert {"python3-matplotlib", "python3-numba"} == set(fields["Recommends"].split(", "))
-    asked = re.search(r"(?m)^apt-get install (.*?)(#|$)", (TOP / "README.md").read_text())[1].split()
+    asked = re.search(r"(?m)^apt-get install (.*)$", (TOP / "README.md").read_text())[1].split()
     assert {it for it in asked if it[0] != "-"} == (needed | set(fields["Recommends"].split(", "))) - {"libc6", "python3"}
     ran(["dpkg-deb", "--extract", package, tmp_path / "root"])
     assert front("install", tmp_path / "prefix")[0] == 0
