@@ -303,7 +303,8 @@ def main():
     status = build(kit) if kit.is_known() else build_by_rt()
     if status == 0:
         os.utime(BUILT, (began, began))  # what was changed since is newer
-        RECORD.write_bytes(kit.identity)
+        with contextlib.suppress(OSError):  # a kit may have its identity elsewhere
+            RECORD.write_bytes(kit.identity)
     return status
 
 

@@ -158,10 +158,10 @@ class Help(argparse.HelpFormatter):
     the tools stand."""
 
     def _expand_help(self, action):
-        return place.named(super()._expand_help(action))
+        return place.named(super()._expand_help(action), has_files=True)
 
     def _fill_text(self, text, width, indent):
-        parts = place.named(text).split("\n\n")
+        parts = place.named(text, has_files=True).split("\n\n")
         return "\n\n".join(
             it if it.startswith("  ") else super(Help, self)._fill_text(it, width, indent) for it in parts
         )

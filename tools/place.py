@@ -9,16 +9,17 @@ HERE = Path(__file__).resolve().parent
 PROGRAM = HERE / "vabgrot"  # where it is installed
 IS_INSTALLED = PROGRAM.is_file()
 DOCUMENTS = HERE.parent.parent / "share" / "doc" / "vabgrot"
-FILE = re.compile(r"\b(docs|examples)/(?=\w)")
-TOOL = re.compile(r"\btools/(?=\w)")
+FILE = re.compile(r"(?<![\w./])(docs|examples)/(?=\w)")
+TOOL = re.compile(r"(?<![\w./])tools/(?=(content|lanes|pictures|report|slice|sound|survey)\b)")
 
 
-def named(text):
-    """A text that has the names of a checkout (`./vabgrot`, `tools/NAME`, files of docs/ and examples/) with those that
-    hold where the tools stand."""
+def named(text, has_files=False):
+    """A text that names commands as in a checkout (`./vabgrot`, `tools/NAME`) with the names that they have where the tools
+    stand; and files of docs/ and examples/, where the text has no other file of such a name."""
     if not IS_INSTALLED:
         return text
-    text = FILE.sub(lambda found: f"{DOCUMENTS / found[1]}/", text)
+    if has_files:
+        text = FILE.sub(lambda found: f"{DOCUMENTS / found[1]}/", text)
     return TOOL.sub("vabgrot-", text.replace("./vabgrot", "vabgrot"))
 
 

@@ -55,6 +55,20 @@ def test_the_table_as_a_page(limited, tool, program, tmp_path):
     limited((tmp_path / "a.csv").stat().st_size, "a.html", "survey", "red.tmc", "--program", built(), "-o", "a.csv")
 
 
+def test_rows_of_the_table(limited, tool, program, tmp_path):
+    """The table has whole rows alone, and the survey goes on from them where there is room again."""
+    red = program("make", "link", source=(TOP / "examples" / "red.link").read_bytes())
+    (tmp_path / "captures").mkdir()
+    for number in range(4):
+        (tmp_path / "captures" / f"{number}.tmc").write_bytes(red)
+    words = [tmp_path / "captures", "--program", built(), "-o", tmp_path / "a.csv"]
+    tool("survey", tmp_path / "captures" / "0.tmc", *words[1:])
+    before = (tmp_path / "a.csv").read_bytes()
+    row = len(before.splitlines(True)[1])
+    limited(len(before) + row // 2, "a.csv", "survey", *words[:-1], "a.csv", is_there=False)
+    assert tool("survey", *words).stderr == b"4 captures, 3 judged now: 4 clean\n"
+
+
 @pytest.mark.parametrize("is_there", [False, True])
 def test_sound_and_lanes(limited, is_there):
     samples = b"mode 64 8 16 64 48 2 2 2 1\nacr 6144 25200\n" + b"s 123456 654321 0 0 0 0\n" * 500 + b"end\n"
