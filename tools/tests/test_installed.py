@@ -94,6 +94,35 @@ def test_the_program_that_is_used(shell, prefix):
     assert shell("vabgrot --version").stdout == shell("vabgrot-survey --version").stdout
 
 
+CLEAN = """set -eu
+export LC_ALL=C.UTF-8 HOME=$(mktemp -d)
+! command -v rt
+cd "$HOME"
+for tool in content lanes pictures report slice sound survey; do
+  mkdir "$HOME/$tool" && cd "$HOME/$tool"
+  vabgrot-$tool --help | sed '1,/^Examples/d; s/--eye eye.png//' > examples && bash -eu -o pipefail examples
+done
+vabgrot --version
+"""
+
+
+@pytest.mark.skipif("VABGROT_DEBIAN" not in os.environ, reason="VABGROT_DEBIAN names no root that debootstrap made (docs/DEVELOPING.md)")
+def test_in_a_clean_debian(tmp_path):
+    """The package in a Debian with nothing else in it: what it depends on is installed with it, and a user without rights
+    runs each tool's examples there. Eyes need matplotlib, which is recommended alone. Asks for root and for apt's sources."""
+    root = tmp_path / "root"
+    subprocess.run(["cp", "-a", os.environ["VABGROT_DEBIAN"], root], check=True)
+    shutil.copy("/etc/resolv.conf", root / "etc")
+    subprocess.run([copied(tmp_path / "top") / "vabgrot", "package", root / "tmp"], check=True)
+    (root / "tmp" / "clean").write_text(CLEAN)
+    get = "DEBIAN_FRONTEND=noninteractive apt-get -qq"
+    within = f"{get} update && {get} install -y --no-install-recommends /tmp/vabgrot_*.deb"
+    words = f"mount -t proc proc {root}/proc && chroot {root} sh -c '{within}' && chroot --userspec=nobody:nogroup {root} bash /tmp/clean"
+    came = subprocess.run(["unshare", "--mount", "sh", "-c", words], capture_output=True, text=True, timeout=HANGS)
+    assert came.returncode == 0, came.stderr
+    assert came.stdout.splitlines()[-1].startswith("vabgrot 1.0.0, built with ")
+
+
 @pytest.mark.skipif(shutil.which("man") is None, reason="man of Debian's package man-db is missing")
 def test_the_man_page(shell, prefix):
     page = next((prefix / "share/man/man1").iterdir())
