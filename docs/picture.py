@@ -22,7 +22,9 @@ from pathlib import Path
 
 from PIL import Image, PngImagePlugin
 from selenium import webdriver
+from selenium.common.exceptions import WebDriverException
 from selenium.webdriver.chrome.service import Service
+from selenium.webdriver.common.by import By
 from selenium.webdriver.support.ui import WebDriverWait
 
 TOP = Path(__file__).resolve().parents[1]
@@ -84,17 +86,17 @@ def show(driver, page):
     driver.get(page.as_uri())
     WebDriverWait(driver, WAITS).until(lambda it: it.execute_script("return document.documentElement.dataset.ready") == "yes")
     press = "for (let left = arguments[1]; left > 0; left--) document.getElementById(arguments[0]).click()"
-    driver.execute_script(press, "pixel-on", FAULT)
-    driver.execute_script(press, "fault-on", FAULT)
-    driver.execute_script(press, "zoom-in", ZOOMS)
+    for button, times in (("pixel-on", FAULT), ("fault-on", FAULT), ("zoom-in", ZOOMS)):
+        driver.find_element(By.ID, button)
+        driver.execute_script(press, button, times)
     settled = "const done = arguments[0]; scrollTo(0, 0); document.activeElement.blur(); setTimeout(() => requestAnimationFrame(done), 300)"
     driver.execute_async_script(settled)
 
 
 def text_of(driver):
     """What the page says in the parts that the picture shows, a line each."""
-    gather = "return arguments[0].map((part) => document.querySelector(part)?.innerText ?? '').join('\\n')"
-    lines = (" ".join(line.split()) for line in driver.execute_script(gather, PARTS).splitlines())
+    texts = (driver.find_element(By.CSS_SELECTOR, part).get_property("innerText") for part in PARTS)
+    lines = (" ".join(line.split()) for text in texts for line in text.splitlines())
     return "".join(f"{line}\n" for line in lines if line)
 
 
@@ -113,13 +115,16 @@ def main():
     parser = argparse.ArgumentParser(description=__doc__, formatter_class=argparse.RawDescriptionHelpFormatter)
     parser.add_argument("--text", action="store_true", help="write what the page says to standard output, and no file")
     args = parser.parse_args()
-    with tempfile.TemporaryDirectory() as folder, browser() as driver:
-        show(driver, walked(Path(folder)))
-        text = text_of(driver)
-        if args.text:
-            sys.stdout.write(text)
-            return
-        picture = picture_of(driver, text)
+    try:
+        with tempfile.TemporaryDirectory() as folder, browser() as driver:
+            show(driver, walked(Path(folder)))
+            text = text_of(driver)
+            picture = picture_of(driver, text)
+    except WebDriverException as why:
+        sys.exit(f"picture.py: {str(why.msg).splitlines()[0]}")
+    if args.text:
+        sys.stdout.write(text)
+        return
     PICTURE.write_bytes(picture)
     TEXT.write_text(text, "utf-8")
 
