@@ -7,25 +7,37 @@ import shutil
 import subprocess
 from pathlib import Path
 
+import place
 from listing import Refused
 
-HERE = Path(__file__).resolve().parent
-BUILT = HERE.parent / "crates" / "hdmi_cli" / "out" / "hdmi_cli"
-INSTALLED = HERE.parent.parent / "bin" / "vabgrot"
+BUILT = place.HERE.parent / "crates" / "hdmi_cli" / "out" / "hdmi_cli"
 OTHER_WORDS, NO_CAPTURE, NO_ALIGNMENT = 2, 3, 7
+NO_CAPTURES = {
+    "magic": place.named("no capture, which begins with TMC; `tools/lanes pack` makes one of the raw bits of three lanes"),
+    "version": "no capture that is known: its fourth byte is {}, and that of versions 1 and 2 is 49 or 50",
+    "short": "no whole capture: it ends after {} bytes, before the last one that its header announces",
+    "padding": "no capture: byte {}, the last one of a lane, has bits behind the lane's end",
+    "trailing": "no capture: byte {} and what follows are behind the end that its header announces",
+}
 
 
-def find():
-    """The program that VABGROT_PROGRAM names, the one that was built or installed beside the tools, or that of the
-    PATH."""
-    named = os.environ.get("VABGROT_PROGRAM")
-    for path in [Path(named)] if named else [BUILT, INSTALLED]:
-        if path.is_file():
-            return path
+def find(named=None):
+    """The program: the one that is named, or that VABGROT_PROGRAM names; else the one that was built or installed beside
+    the tools, or that of the PATH."""
+    named = named or os.environ.get("VABGROT_PROGRAM")
+    path = Path(named or (place.PROGRAM if place.IS_INSTALLED else BUILT))
+    if path.is_file() and os.access(path, os.X_OK):
+        return path
     found = not named and shutil.which("vabgrot")
     if not found:
-        raise Refused(f"there is no program {named or BUILT}: `./vabgrot` builds it, or VABGROT_PROGRAM names one")
+        raise Refused(f"there is no program {path}: `./vabgrot` builds it, or VABGROT_PROGRAM names one")
     return Path(found)
+
+
+def explained(note):
+    """The program's note on an input that is refused, and for one that is no capture before it in words why."""
+    kind, _, number = note.removeprefix("input: ").partition(" ")
+    return f"{NO_CAPTURES[kind].format(number)} ({note})" if kind in NO_CAPTURES and number else note
 
 
 def has(*words):

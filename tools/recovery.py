@@ -7,6 +7,7 @@ import numpy as np
 
 from capture import MOST_BITS
 from listing import Refused
+from replacing import naming
 
 FIRST = 2000  # the edges by which bit rate and phase are found
 GAIN, PULL = 0.03, 0.03**2 / 10  # of the loop, a bit
@@ -31,13 +32,18 @@ class Bits:
             raise Refused(f"a lane has at most {MOST_BITS} bits")
         bits = np.concatenate([self.held, bits])
         whole = len(bits) // 8 * 8
-        self.file.write(np.packbits(bits[:whole], bitorder="little").tobytes())
+        self.put(bits[:whole])
         self.held = bits[whole:]
+
+    def put(self, bits):
+        with naming(tempfile.gettempdir()):
+            self.file.write(np.packbits(bits, bitorder="little").tobytes())
 
     def ended(self):
         """The file at its beginning, with all bits in it."""
-        self.file.write(np.packbits(self.held, bitorder="little").tobytes())
-        self.file.seek(0)
+        self.put(self.held)
+        with naming(tempfile.gettempdir()):
+            self.file.seek(0)
         return self.file
 
 

@@ -100,7 +100,8 @@ def test_each_capture_is_judged(tool, folder, tmp_path):
     island = {"verdict": "faulty", "columns": "75", "islands": "1", "packets": "1", "symbols": "1", "mended": "1"}
     assert taken(rows["island.tmc"], island) == island
     assert taken(rows["none.tmc"], ["verdict", "note"]) == {"verdict": "unaligned", "note": "no alignment"}
-    assert taken(rows["short.tmc"], ["verdict", "note"]) == {"verdict": "refused", "note": "input: short 109"}
+    note = "no whole capture: it ends after 109 bytes, before the last one that its header announces (input: short 109)"
+    assert taken(rows["short.tmc"], ["verdict", "note"]) == {"verdict": "refused", "note": note}
     page = (tmp_path / "survey.html").read_text()
     assert "<h1>16 captures: 12 clean, 2 faulty, 1 refused, 1 unaligned</h1>" in page and page.count("<tr class=") == 16
 
@@ -263,7 +264,7 @@ def test_what_is_refused(tool, folder, tmp_path):
     ):
         (tmp_path / "empty").mkdir(exist_ok=True)
         assert says in tool("survey", *places, "-o", table, *words, status=3).stderr
-    assert b"no such program" in tool("survey", folder, "-o", table, "--program", folder, status=3).stderr
+    assert b"there is no program" in tool("survey", folder, "-o", table, "--program", folder, status=3).stderr
     table.write_text("a,b\n1,2\n")
     assert b"no table of a survey" in tool("survey", folder, "-o", table, *words, status=3).stderr
     assert table.read_text() == "a,b\n1,2\n"
