@@ -15,9 +15,9 @@ OTHER_WORDS, NO_CAPTURE, NO_ALIGNMENT = 2, 3, 7
 NO_CAPTURES = {
     "magic": place.named("no capture, which begins with TMC; `tools/lanes pack` makes one of the raw bits of three lanes"),
     "version": "no capture that is known: its fourth byte is {}, and that of versions 1 and 2 is 49 or 50",
-    "short": "no whole capture: it ends after {} bytes, before the last one that its header announces",
+    "short": "no whole capture: it ends after {} bytes, in its header or before the end that the header names",
     "padding": "no capture: byte {}, the last one of a lane, has bits behind the lane's end",
-    "trailing": "no capture: byte {} and what follows are behind the end that its header announces",
+    "trailing": "no capture: byte {} and what follows are behind the end that the header names",
 }
 
 

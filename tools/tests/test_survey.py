@@ -100,7 +100,7 @@ def test_each_capture_is_judged(tool, folder, tmp_path):
     island = {"verdict": "faulty", "columns": "75", "islands": "1", "packets": "1", "symbols": "1", "mended": "1"}
     assert taken(rows["island.tmc"], island) == island
     assert taken(rows["none.tmc"], ["verdict", "note"]) == {"verdict": "unaligned", "note": "no alignment"}
-    note = "no whole capture: it ends after 109 bytes, before the last one that its header announces (input: short 109)"
+    note = "no whole capture: it ends after 109 bytes, in its header or before the end that the header names (input: short 109)"
     assert taken(rows["short.tmc"], ["verdict", "note"]) == {"verdict": "refused", "note": note}
     page = (tmp_path / "survey.html").read_text()
     assert "<h1>16 captures: 12 clean, 2 faulty, 1 refused, 1 unaligned</h1>" in page and page.count("<tr class=") == 16
