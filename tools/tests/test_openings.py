@@ -1,6 +1,7 @@
 """tools/openings.py and what tools/report advises by it, and what `recover track` sees of lanes that lose bits."""
 
 import re
+import shlex
 from html import unescape
 
 import pytest
@@ -58,9 +59,10 @@ def advice(tool, tmp_path):
 
 def cut(tool, capture, line, folder):
     """The capture as the advice says."""
-    places = re.search(r"lanes cut a.tmc --from (\d+),(\d+),(\d+) ", line).groups()
-    lanes, paths = bits_of(tool, capture, folder)
-    return packed(tool, [lane[int(at) :] for lane, at in zip(lanes, places)], paths)
+    (folder / "a.tmc").write_bytes(capture)
+    name, *words, _, _ = shlex.split(re.search(r"“tools/(lanes cut a.tmc .* > cut.tmc)”", line)[1])
+    words[1] = folder / words[1]
+    return tool(name, *words).stdout
 
 
 @pytest.mark.parametrize("skew", [(0, 0, 0), (0, 70, 35), (20, 0, 11)])
