@@ -31,9 +31,9 @@ class Fit(NamedTuple):
         return max(0, *self.skew) - min(0, *self.skew)
 
     @property
-    def made(self):
+    def made_words(self):
         """The skew as `make --skew` takes it: by how many bits each lane begins later than one that begins first."""
-        return tuple(max(0, *self.skew) - late for late in (0, *self.skew))
+        return ",".join(str(max(0, *self.skew) - late) for late in (0, *self.skew))
 
     @property
     def cut(self):

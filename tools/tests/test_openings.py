@@ -99,6 +99,13 @@ def test_advice_about_dvi_where_it_fits(tool, program, sent, advice):
     assert not any("--dvi" in line for line in advice(hurt)[0])
 
 
+def test_an_alignment_behind_what_is_looked_at(tool, sent, advice, tmp_path):
+    lanes, paths = bits_of(tool, sent(kind="dvi"), tmp_path)
+    late = packed(tool, ["0" * (1 << 24) + lane for lane in lanes], paths)
+    lines, verdict = advice(late)
+    assert verdict == "Faulty" and len(lines) > 4 and not any("--dvi" in line for line in lines)
+
+
 def test_what_openings_are(monkeypatch, sent, tmp_path):
     pytest.importorskip("numpy", reason="Debian's package python3-numpy is missing")
     monkeypatch.syspath_prepend(TOP / "tools")
@@ -107,7 +114,7 @@ def test_what_openings_are(monkeypatch, sent, tmp_path):
     (tmp_path / "a.tmc").write_bytes(sent("--offset", 3, "--skew", "0,70,35"))
     fits = openings.fits(openings.beginnings(tmp_path / "a.tmc"))
     places = tuple(place(0, 0) - 3 - late for late in (0, 70, 35))
-    assert fits.found == fits.best and fits.found.made == (0, 70, 35) and fits.later is None
+    assert fits.found == fits.best and fits.found.made_words == "0,70,35" and fits.later is None
     assert (fits.found.openings, fits.found.first, fits.found.spread) == (LINES, places, 70)
     assert fits.found.cut == tuple(at - 120 for at in places)
     assert openings.fits(openings.beginnings(tmp_path / "a.tmc", 4096)).found.openings == 5
