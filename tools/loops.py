@@ -108,10 +108,11 @@ def cache():
     """The folder of the user's for what was compiled; None where there is none that can be written."""
     try:
         place = Path(os.environ.get("XDG_CACHE_HOME") or Path.home() / ".cache") / "vabgrot"
-        place.mkdir(parents=True, exist_ok=True)
+        if place.is_absolute():
+            place.mkdir(parents=True, exist_ok=True)
     except (OSError, RuntimeError):  # no folder, no home
         return None
-    return str(place) if os.access(place, os.W_OK) else None
+    return str(place) if place.is_absolute() and os.access(place, os.W_OK) else None
 
 
 @lru_cache(None)
@@ -133,8 +134,8 @@ def fast(function):
     try:
         if numba().config.CACHE_DIR:
             return numba().njit(TYPES[function], cache=True)(function)
-    except OSError:
-        pass  # the folder has no room, or what is in it cannot be read
+    except Exception:  # the folder has no room, or what is in it is torn, which ends in faults of many kinds
+        pass
     return numba().njit(TYPES[function])(function)
 
 

@@ -457,7 +457,7 @@ def test_bits_are_the_same_all_ways(monkeypatch, trace, has_clock):
 
 
 def test_what_is_compiled_is_kept(tool, plain, tmp_path, monkeypatch):
-    """In a folder of the user's, once; where none can be written it is compiled anew each time."""
+    """In a folder of the user's, once; where none can be written, or what is kept is torn, it is compiled anew."""
     pytest.importorskip("numba")
     waves, first, sent = plain
     path = saved(tmp_path / "a.npy", waves)
@@ -468,5 +468,8 @@ def test_what_is_compiled_is_kept(tool, plain, tmp_path, monkeypatch):
         assert_like(sent, first, tool("slice", path).stdout)
         kept.append({it: it.stat().st_mtime_ns for it in (tmp_path / "cache" / "vabgrot").rglob("*.nb*")})
     assert kept[0] == kept[1] and len(kept[0]) == 6
+    for it in kept[0]:
+        it.write_bytes(it.read_bytes()[:50])
+    assert_like(sent, first, tool("slice", path).stdout)
     monkeypatch.setenv("XDG_CACHE_HOME", str(path))
     assert_like(sent, first, tool("slice", path).stdout)
