@@ -103,7 +103,8 @@ def test_devices(tool, program, tmp_path):
 
 
 def test_standard_output():
-    for words in (["content", TOP / "docs" / "sent.png"], ["lanes", "pack", *3 * [TOP / "docs" / "sent.png"]]):
+    lanes = [TOP / "docs" / name for name in ("sent.png", "report.png", "FORMATS.md")]
+    for words in (["content", lanes[0]], ["lanes", "pack", *lanes]):
         with open("/dev/full", "wb") as full:
             came = subprocess.run([TOP / "tools" / words[0], *words[1:]], stdout=full, stderr=subprocess.PIPE)
         assert came.returncode == 3
