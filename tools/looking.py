@@ -186,23 +186,25 @@ def changes(fit, turns):
     return " ".join(words)
 
 
-def commands(path, words, turns, counts):
-    """The commands that pack a capture anew, to be pasted."""
+def commands(tool, path, words, turns, counts):
+    """The commands that pack a capture anew, to be pasted, by the tool as it was called."""
+    tool = shlex.quote(tool)
     stem = Path(path).with_suffix("")
     files = " ".join(shlex.quote(f"{stem}.lane{lane}") for lane in range(3))
     unit = turns[0].unit
     bits = ",".join(str((count - turn.start) // unit * unit) for count, turn in zip(counts, turns))
     kind, source = " --words 16" if unit == TEN else "", f" < {shlex.quote(path)}"
-    unpack = f"tools/lanes unpack{kind} {files}"
+    unpack = f"{tool} unpack{kind} {files}"
     if any(turn.start for turn in turns):
         starts = ",".join(str(turn.start) for turn in turns)
-        unpack, source = f"tools/lanes cut {shlex.quote(path)} --from {starts} | {unpack}", ""
+        unpack, source = f"{tool} cut {shlex.quote(path)} --from {starts} | {unpack}", ""
     again = shlex.quote(f"{stem}.again.tmc")
-    return f"{unpack}{source} && tools/lanes pack {words} --bits {bits} {files} > {again}"
+    return f"{unpack}{source} && {tool} pack {words} --bits {bits} {files} > {again}"
 
 
-def judged(path, lanes, counts):
-    """The lines that say what was found of the lanes of the capture in a file, and whether it is right as it is."""
+def judged(tool, path, lanes, counts):
+    """The lines that say what was found of the lanes of the capture in a file, and whether it is right as it is; `tool` is
+    how `lanes` was called."""
     found = []
     for lane, count in zip(tqdm(lanes, unit="lane", disable=None), counts):
         found.append(looked(np.unpackbits(np.frombuffer(lane, np.uint8), bitorder="little")[:count]))
@@ -228,5 +230,5 @@ def judged(path, lanes, counts):
     doubt = f"; so they are with {others} other orders and polarities" if others else ""
     lines.append(f"with `{' '.join(['lanes pack', words]).strip()}`{besides}: {share} are right{doubt}")
     if not besides:
-        lines.append(f"to be pasted: {commands(path, words, turns, counts)}")
+        lines.append(f"to be pasted: {commands(tool, path, words, turns, counts)}")
     return lines, False

@@ -257,8 +257,8 @@ def test_look_finds_order_and_polarity(tool, lane_files, tmp_path, order, invert
 
 def pasted(line, path):
     """What a capture holds that the commands of a line make."""
-    assert line.startswith("to be pasted: tools/lanes ")
-    subprocess.run(line.removeprefix("to be pasted: "), shell=True, check=True, cwd=TOP, stdout=subprocess.DEVNULL)
+    assert line.startswith(f"to be pasted: {TOP}/tools/lanes ")
+    subprocess.run(line.removeprefix("to be pasted: "), shell=True, check=True, stdout=subprocess.DEVNULL)
     return path.read_bytes()
 
 
