@@ -12,7 +12,7 @@ from listing import Refused
 from replacing import naming
 
 FIRST = 2000  # the edges by which bit rate and phase are found
-RUNS, RUN = 64, 1024  # of values by which the levels of a piece are found
+RUNS, RUN = 32, 1024  # of values by which the levels of a piece are found
 LEAST_SAMPLES = 2.6  # a bit, where its edges alone tell the bits
 HYSTERESIS = 0.1  # of the swing, on both sides of the threshold
 EYE_WIDTH, EYE_HEIGHT, EYE_BITS, EYE_ROOM = 101, 101, 4096, 0.5
