@@ -29,6 +29,7 @@ from pathlib import Path
 TOP = Path(__file__).resolve().parent
 PROGRAM = "hdmi_cli"
 BUILT = TOP / "crates" / PROGRAM / "out" / PROGRAM
+RECORD = BUILT.with_name("kit")  # says which kit built the program; `./vabgrot --version` reads it
 TARGET = "x86_64-unknown-linux-gnu"
 CRATE = 90  # as many lines of code take as long as a check of a crate without any
 ASKED = 13  # and as one `?`, at which a function may end early
@@ -302,6 +303,8 @@ def main():
     status = build(kit) if kit.is_known() else build_by_rt()
     if status == 0:
         os.utime(BUILT, (began, began))  # what was changed since is newer
+        with contextlib.suppress(OSError):  # a kit may have its identity elsewhere
+            RECORD.write_bytes(kit.identity)
     return status
 
 

@@ -90,13 +90,43 @@ def sound(program):
     status, left, notes = run(program, ["recover", "biphase", "0"], run(program, ["damage", "1:150:354", "1:170:354"], capture)[1])
     wanted = stream[16 * 192 :]  # the start of the first block is lost with the packet
     yield "recover biphase with a lost packet", (status, left == wanted, notes), (1, True, b"")
+    yield from pairs(program)
     one = bytes.fromhex("172b2dd3ca34cd4c2733333333333333")
+    turned = bytes(byte ^ 0xFF for byte in one)
+    yield "read biphase of the other polarity", run(program, ["read", "biphase"], turned), (3, b"", b"input: subframe 0\n")
     yield "read biphase of a frame", run(program, ["read", "biphase"], one), (0, b"s 123456 000000 0 0 1 0\nend\n", b"")
     yield "read biphase of a wrong one", run(program, ["read", "biphase"], one[:7] + b"\x4d" + one[8:]), (3, b"", b"input: subframe 0\n")
     yield "read biphase of a short one", run(program, ["read", "biphase"], one[:15]), (3, b"", b"input: short 15\n")
     yield "read biphase of nothing", run(program, ["read", "biphase"]), (0, b"end\n", b"")
     for words in (["recover", "biphase"], ["recover", "biphase", "4"], ["recover", "biphase", "00"], ["read"], ["read", "biphase", "0"]):
         yield f"usage {words!r}", run(program, words, capture), (2, b"", USAGE)
+
+
+def pairs(program):
+    """Packets of samples of four channels: body K is pair K, and each pair begins at its own first block. A lost packet takes
+    its frames out."""
+
+    def packet(header, *bodies):
+        return b"p %s %s %s\n" % (header, b" ".join(body.ljust(14, b"0") for body in (bodies + (b"", b"", b""))[:4]), b"0" * 32)
+
+    def heard(capture, pair):
+        status, stream, _ = run(program, ["recover", "biphase", str(pair)], capture)
+        return status, run(program, ["read", "biphase"], stream)[1]
+
+    island = b"c 00 4\nc 14 8\ni 00\n%se 00\nc 00 12\nend\n"
+    four = packet(b"021310", b"563412bc9a78", b"010000020000") + packet(b"021320", b"111111222222", b"333333444444")
+    capture = run(program, ["make", "link"], island % four)[1]
+    first = b"s 123456 789abc 0 0 1 0\ns 111111 222222 0 0 0 0\nend\n"
+    yield "pair 0 of four channels", heard(capture, 0), (0, first)
+    yield "pair 1 of four channels", heard(capture, 1), (0, b"s 333333 444444 0 0 1 0\nend\n")
+    yield "pair 2 of four channels", heard(capture, 2), (0, b"end\n")
+    heads = ((1, b"020310"), (5, b"020300"), (9, b"020300"))
+    three = [packet(head, *(b"%02x0000%02x0000" % (it, it + 1) for it in (at, at + 2))) for at, head in heads]
+    capture = run(program, ["make", "link"], island % b"".join(three))[1]
+    hits = [f"1:{place}:0ab" for place in range(470, 730, 30)]  # the second packet lies from column 46 on
+    lost = run(program, ["damage", *hits], capture)[1]
+    left = b"".join(b"s %06x %06x 0 0 %d 0\n" % (at, at + 1, at == 1) for at in (1, 3, 9, 11)) + b"end\n"
+    yield "a stream without a lost packet's frames", heard(lost, 0), (1, left)
 
 
 def relayed(program):
@@ -115,6 +145,16 @@ def relayed(program):
     yield "relay of a lost packet", run(program, ["relay"], lost), (1, run(program, ["make", "link"], null)[1], b"")
     twice = run(program, ["relay"], run(program, ["relay"], lost)[1])
     yield "relay of a relay", twice, (0, run(program, ["make", "link"], null)[1], b"")
+    wrong = run(program, ["damage", "2:140:300"], run(program, ["make", "link"], LISTING)[1])[1]
+    status, sent, _ = run(program, ["relay"], wrong)
+    yield "relay of a damaged pixel", (status, run(program, ["check"], sent)), (1, (0, b"clean\n", b""))
+    pixel = run(program, ["recover", "link"], sent)
+    yield "what is behind it", pixel, (0, LISTING.replace(b"ff0000", b"010000"), b"")
+    two = LISTING.replace(b"end\n", b"c 04 8\nv 00ff0000ff00\nc 00 12\nend\n")
+    cut = run(program, ["make", "link", "--bits", "380"], two)[1]
+    yield "a capture that is cut within a line", run(program, ["check"], cut), (0, b"cut 37\nclean\n", b"")
+    sent = run(program, ["relay"], cut)[1]
+    yield "relay of it", run(program, ["recover", "link"], sent), (0, LISTING.replace(b"end", b"c 04 8\nend"), b"")
     yield "relay of nothing to align", run(program, ["relay"], b"TMC1\0\0\0\0"), (7, b"", b"no alignment\n")
     yield "relay of a short capture", run(program, ["relay"], clean[:-1]), (3, b"", b"input: short %d\n" % (len(clean) - 1))
 

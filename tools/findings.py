@@ -22,7 +22,7 @@ FAULTS = {  # each kind: on which row of the timeline it stands, and what it say
     "symbols": ("packet", "characters of a packet that are none of TERC4"),
     "mended": ("packet", "a block of a packet with one wrong bit, which was mended"),
     "lost": ("packet", "a block of a packet with more wrong bits"),
-    "slip": ("slip", "a lane lost bits, and the lanes were aligned anew"),
+    "slip": ("slip", "a lane lost bits; from here on the lanes were searched anew"),
 }
 CONTENT_FAULTS = {
     "length": "an InfoFrame whose length is not that of its kind",
@@ -34,7 +34,8 @@ CONTENT_FAULTS = {
     "ragged": "a row that is not as wide as the first of its frame",
     "vic": "a frame of another size than its AVI InfoFrame says",
 }
-PERIODS = ("control", "video", "packet", "open", "close", "unknown")
+PERIODS = ("control", "video", "packet", "open", "close", "unknown", "unaligned")
+TEN = 10  # bits of a character
 FULL_TEXT = 1_000_000  # bytes up to which the listing is kept whole
 FIRST_DIGITS = 48  # of a long row
 
@@ -128,6 +129,21 @@ class Told:
         return self.content.words if self.content else "not read, since a block is lost"
 
 
+@dataclass
+class Epoch:
+    """The bits from a slip on, or from the beginning of the capture: its first column, its place in the capture, whether its
+    lanes were aligned, and where they were not, how many bits of each lane it has: they have no line of the listing."""
+
+    at: int = 0
+    place: int = 0
+    is_aligned: bool = False
+    hidden: int = 0
+
+    @property
+    def hidden_columns(self):
+        return -(-self.hidden // TEN)
+
+
 class Findings:
     """Takes the lines of a link listing, one after another, and gives each frame to `show` when it ends."""
 
@@ -149,7 +165,7 @@ class Findings:
         }
         self.counts, self.content_counts = Counter(), Counter()
         self.packets, self.frames, self.pending, self.last, self.vic = [], [], [], None, 0
-        self.epochs, self.rows, self.cut = [0], 0, None
+        self.epochs, self.rows, self.cut = [Epoch()], 0, None
         self.unknown = -1  # the last period of no told length
         self.is_certain = True
 
@@ -158,12 +174,18 @@ class Findings:
         counter = self.frames_of.columns
         return counter.before + counter.column
 
+    @property
+    def aligned_columns(self):
+        """The columns without those of epochs that were not aligned."""
+        return self.columns - sum(epoch.hidden_columns for epoch in self.epochs)
+
     def take(self, line, name, fields):
         thing = self.frames_of.columns.take(line, name, fields)
         if not (thing.kind == "fault" and thing.fields[0] in link.OF_PACKET):
             self.settle()
         self.text.add(name, fields)
         self.shift(self.frames_of.columns.missed)
+        self.epochs[-1].is_aligned |= thing.kind != "slip"
         ended = self.frames_of.take(thing)
         if ended:
             self.end_frame(ended, thing.at)
@@ -221,21 +243,32 @@ class Findings:
         kind, *numbers = thing.fields
         self.counts[kind, numbers[0] if kind in link.LANED or kind == "slip" else None] += 1
         lane = numbers.pop(0) if kind in link.LANED or kind == "slip" else -1
+        if kind == "slip":
+            self.hide(numbers[0])
+        at = self.columns if kind == "slip" else thing.at
         x, y, rgb = self.pixel() if kind == "code" else (-1, -1, "")
         if self.frames_of.frame.rows:
             self.pending.append(len(self.faults["kind"]))
         more = numbers if kind == "slip" else numbers[1:]
-        self.add(self.faults, kind, lane, thing.at, thing.epoch, thing.column, thing.line, more, -1, x, y, rgb)
+        self.add(self.faults, kind, lane, at, thing.epoch, thing.column, thing.line, more, -1, x, y, rgb)
         if kind in link.OF_PACKET and self.last:
             self.judge(kind, more)
         elif kind == "slip":
             self.is_certain &= thing.is_exact
-            self.epochs.append(self.columns)
+            self.epochs.append(Epoch(self.columns, *more))
             self.sound.lose()
             self.cut, self.unknown = None, -1
         elif thing.columns or kind in link.UNCOUNTED:
             self.unknown = len(self.periods["at"])
             self.add(self.periods, PERIODS.index("unknown"), thing.at, thing.columns, thing.line, 0)
+
+    def hide(self, end):
+        """The last epoch ends at this place of the capture. Where it was not aligned its bits are columns that no line tells."""
+        epoch = self.epochs[-1]
+        if not epoch.is_aligned and end > epoch.place:
+            epoch.hidden = end - epoch.place
+            self.add(self.periods, PERIODS.index("unaligned"), self.columns, epoch.hidden_columns, 0, 0)
+            self.frames_of.columns.leave_out(epoch.hidden_columns)
 
     def judge(self, kind, more):
         """What a fault says of the last packet."""
@@ -263,8 +296,8 @@ class Findings:
         self.content_counts.update({"ragged": ragged * frame.is_whole, "vic": int(other)})
         self.frames.append(self.show(frame, at, ragged, self.vic if other else None))
 
-    def finish(self, is_whole):
-        """No more lines come; a whole listing has its line `end`."""
+    def finish(self, is_whole, bits):
+        """No more lines come; a whole listing has its line `end`. `bits` are those of the longest lane."""
         if is_whole:
             self.text.add("end", [])
         self.settle()
@@ -273,6 +306,8 @@ class Findings:
         frame = self.frames_of.finish()
         if frame:
             self.end_frame(frame, self.columns)
+        if is_whole and len(self.epochs) > 1:
+            self.hide(bits)
 
     def stretch(self):
         """What could not be counted goes on until the next period."""

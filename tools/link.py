@@ -58,6 +58,10 @@ class Columns:
         self.value, self.is_closing = 0, False
         self.edge, self.period, self.periods = None, 0, 0
 
+    def leave_out(self, columns):
+        """So many columns stand before the next one that no line tells."""
+        self.before += columns
+
     def things(self, lines):
         """The things that the lines of a listing tell."""
         for line, name, fields in lines:

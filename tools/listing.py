@@ -1,14 +1,19 @@
 """What the tools share: the lines of listings, the video modes, and how a tool ends."""
 
 import argparse
+import errno
 import io
+import os
 import signal
 import sys
 import textwrap
 from typing import NamedTuple
 
+import place
+
 DONE, FAULTY, REFUSED = 0, 1, 3
 STATUSES = "Status: 0 done; {}2 the words are wrong; 3 the input is refused, or a file cannot be read or written."
+FULL = (errno.ENOSPC, errno.EDQUOT, errno.EFBIG)  # the errors of a write alone
 MOST_COLUMNS = 20_000_000
 CUSTOM_CLOCK = 25_200_000  # of a mode of one's own, in Hz
 CONTENT = frozenset("vic mode row frame avi audio spd info acr gcp s packet ! cut".split())
@@ -149,10 +154,14 @@ def numbers(text, most):
 
 
 class Help(argparse.HelpFormatter):
-    """Fills each paragraph of a text, but keeps the lines of those that are set in."""
+    """Fills each paragraph of a text, but keeps the lines of those that are set in. Commands and files are named as where
+    the tools stand."""
+
+    def _expand_help(self, action):
+        return place.named(super()._expand_help(action), has_files=True)
 
     def _fill_text(self, text, width, indent):
-        parts = text.split("\n\n")
+        parts = place.named(text, has_files=True).split("\n\n")
         return "\n\n".join(
             it if it.startswith("  ") else super(Help, self)._fill_text(it, width, indent) for it in parts
         )
@@ -162,8 +171,21 @@ def parser(name, text, faulty="", examples=""):
     """A reader of a tool's words; `faulty` says when its status is 1, and `examples` are lines of commands."""
     epilog = STATUSES.format(f"1 {faulty}; " if faulty else "")
     if examples:
-        epilog += "\n\nExamples, at the top of the repository:\n\n" + textwrap.indent(examples, "  ")
-    return argparse.ArgumentParser(prog=name, description=text, epilog=epilog, formatter_class=Help)
+        head = "Examples:" if place.IS_INSTALLED else "Examples, at the top of the repository:"
+        epilog += f"\n\n{head}\n\n" + textwrap.indent(examples, "  ")
+    name = f"vabgrot-{name}" if place.IS_INSTALLED else name
+    found = argparse.ArgumentParser(prog=name, description=text, epilog=epilog, formatter_class=Help)
+    found.add_argument("--version", action=place.Version)
+    return found
+
+
+def end_output():
+    """Writes what is still held for standard output, or drops it where that fails, so that Python does not try again."""
+    try:
+        sys.stdout.flush()
+    except OSError:
+        with open(os.devnull, "wb") as nothing:
+            os.dup2(nothing.fileno(), sys.stdout.fileno())
 
 
 def run(name, work):
@@ -175,10 +197,12 @@ def run(name, work):
     except Refused as why:
         status = f"{why}"
     except OSError as why:
-        status = f"{why.filename}: {why.strerror}" if why.filename else f"{why}"
+        output = "standard output" if why.errno in FULL else None
+        status = ": ".join(part for part in (why.filename or output, why.strerror or str(why)) if part)
     except KeyboardInterrupt:
         sys.exit(130)
     if isinstance(status, str):
         print(f"{name}: {status}", file=sys.stderr)
         status = REFUSED
+        end_output()
     sys.exit(status)

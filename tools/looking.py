@@ -1,6 +1,9 @@
-"""What a capture's lanes look like: control characters, what control periods end in, and the lanes' order and polarity."""
+"""What a capture's lanes look like: control characters, what control periods end in, and the lanes' bit order, order and
+polarity."""
 
+import shlex
 from itertools import permutations, product
+from pathlib import Path
 from typing import NamedTuple
 
 import numpy as np
@@ -15,6 +18,7 @@ SKEW = 70
 PART = 1 << 22
 MOST_ENDS = 20_000
 IS_CONTROL = np.isin(np.arange(1024), CONTROL)
+IS_TURNED_CONTROL = np.isin(np.arange(1024), [int(f"{word:010b}"[::-1], 2) for word in CONTROL])
 
 
 class Ends(NamedTuple):
@@ -35,10 +39,10 @@ def words_at_all(bits):
     return words
 
 
-def lock_of(bits):
+def lock_of(bits, is_control=IS_CONTROL):
     """The least place at which twelve control characters stand in a row."""
     for first in range(0, len(bits), PART):
-        control = IS_CONTROL[words_at_all(bits[first : first + PART + TEN * RUN])]
+        control = is_control[words_at_all(bits[first : first + PART + TEN * RUN])]
         size = len(control) - TEN * (RUN - 1)
         if size <= 0:
             return None
@@ -70,25 +74,33 @@ def ends_of(bits):
     return Ends(lock, lock + TEN * at, np.where(like, words[at - 1], 0), guards)
 
 
-def as_it_is(bits):
-    return bits
+class Turn(NamedTuple):
+    """A bit order: units of so many bits from a place on, each of which is turned round."""
+
+    unit: int
+    start: int
+
+    def of(self, bits):
+        """The bits with each whole unit turned round; what is left over at the end is dropped."""
+        end = self.start + (len(bits) - self.start) // self.unit * self.unit
+        turned = bits[self.start : end].reshape(-1, self.unit)[:, ::-1].reshape(-1)
+        return np.concatenate([bits[: self.start], turned]) if self.start else turned
+
+    def __str__(self):
+        if self == AS_IT_IS:
+            return "as it is"
+        unit = {BYTES.unit: "byte", TEN: "ten"}[self.unit]
+        return f"with each {unit}{f' from bit {self.start} on' if self.start else ''} turned round"
 
 
-def bytes_turned(bits):
-    whole = len(bits) // 8 * 8
-    return bits[:whole].reshape(-1, 8)[:, ::-1].reshape(-1)
+AS_IT_IS, BYTES = Turn(1, 0), Turn(8, 0)
 
 
-def tens_turned(bits):
-    whole = len(bits) // TEN * TEN
-    return bits[:whole].reshape(-1, TEN)[:, ::-1].reshape(-1)
-
-
-BIT_ORDERS = {
-    "as it is": as_it_is,
-    "with each byte turned round": bytes_turned,
-    "with each ten turned round": tens_turned,
-}
+def turns_of(bits):
+    """The bit orders to be tried: of each ten those from bit 0 on, as words are dumped, and those that are characters
+    where control characters stand turned round."""
+    place = lock_of(bits, IS_TURNED_CONTROL)
+    return dict.fromkeys([AS_IT_IS, BYTES, Turn(TEN, 0), Turn(TEN, (place or 0) % TEN)])
 
 
 def score(ends):
@@ -98,18 +110,18 @@ def score(ends):
 
 def looked(bits):
     """The bit order of a lane with the most guards, the first of them where it is as good as others, and its ends."""
-    best = max(((name, ends_of(turn(bits))) for name, turn in BIT_ORDERS.items()), key=lambda pair: score(pair[1]))
+    best = max(((turn, ends_of(turn.of(bits))) for turn in turns_of(bits)), key=lambda pair: score(pair[1]))
     return best if best[1] else (None, None)
 
 
-def told(number, count, name, ends):
+def told(number, count, turn, ends):
     if not ends:
         return f"lane {number}: {count} bits, no twelve control characters in a row in any bit order"
     kinds = {"2cc": GUARD, "133": OTHER}
     counts = ", ".join(f"{int((ends.guards == kind).sum())} in {text}" for text, kind in kinds.items())
     islands = int(np.isin(ends.guards, ISLAND_0).sum())
     return (
-        f"lane {number}: {count} bits, locks {name} at place {ends.lock}; of {len(ends.places)} control periods "
+        f"lane {number}: {count} bits, locks {turn} at place {ends.lock}; of {len(ends.places)} control periods "
         f"{counts} and {islands} in an island's guard of lane 0"
     )
 
@@ -160,25 +172,45 @@ def fit_of(rows):
     return best, sum(fit.right == best.right for fit in fits) - 1
 
 
-def advice(fit, names):
-    """The words that pack the lanes as they are wanted."""
+def changes(fit, turns):
+    """The words that pack the lanes as they are wanted, each of which is of one bit order."""
     order = [fit.order.index(lane) for lane in range(3)]
     words = ["--order " + ",".join(map(str, order))] if order != [0, 1, 2] else []
     if fit.inverts:
         words.append("--invert " + ",".join(map(str, sorted(order[lane] for lane in fit.inverts))))
-    if set(names) == {"with each byte turned round"}:
+    units = {turn.unit for turn in turns}
+    if units == {TEN}:
+        words.append("--words 16")
+    if units in ({TEN}, {BYTES.unit}):
         words.append("--msb")
     return " ".join(words)
 
 
-def judged(lanes, counts):
-    """The lines that say what was found, and whether the capture is right as it is."""
+def commands(tool, path, words, turns, counts):
+    """The commands that pack a capture anew, to be pasted, by the tool as it was called."""
+    tool = shlex.quote(tool)
+    stem = Path(path).with_suffix("")
+    files = " ".join(shlex.quote(f"{stem}.lane{lane}") for lane in range(3))
+    unit = turns[0].unit
+    bits = ",".join(str((count - turn.start) // unit * unit) for count, turn in zip(counts, turns))
+    kind, source = " --words 16" if unit == TEN else "", f" < {shlex.quote(path)}"
+    unpack = f"{tool} unpack{kind} {files}"
+    if any(turn.start for turn in turns):
+        starts = ",".join(str(turn.start) for turn in turns)
+        unpack, source = f"{tool} cut {shlex.quote(path)} --from {starts} | {unpack}", ""
+    again = shlex.quote(f"{stem}.again.tmc")
+    return f"{unpack}{source} && {tool} pack {words} --bits {bits} {files} > {again}"
+
+
+def judged(tool, path, lanes, counts):
+    """The lines that say what was found of the lanes of the capture in a file, and whether it is right as it is; `tool` is
+    how `lanes` was called."""
     found = []
     for lane, count in zip(tqdm(lanes, unit="lane", disable=None), counts):
         found.append(looked(np.unpackbits(np.frombuffer(lane, np.uint8), bitorder="little")[:count]))
     lines = [told(number, count, *pair) for number, (count, pair) in enumerate(zip(counts, found))]
-    names, ends = zip(*found)
-    if None in names:
+    turns, ends = zip(*found)
+    if None in turns:
         return lines + ["no alignment: not all lanes lock"], False
     rows = openings(ends)
     if not rows.shape[1]:
@@ -186,11 +218,17 @@ def judged(lanes, counts):
     fit, others = fit_of(rows)
     if not fit.right:
         text = "no guards: order and polarity cannot be told (DVI has none), or a wire of another lane is here"
-        return lines + [text], set(names) == {"as it is"}
-    words, share = advice(fit, names), f"{fit.right} of {rows.shape[1]} openings"
-    if not words and set(names) == {"as it is"}:
+        return lines + [text], False
+    words, share, units = changes(fit, turns), f"{fit.right} of {rows.shape[1]} openings", {turn.unit for turn in turns}
+    if not words and units == {AS_IT_IS.unit}:
         return lines + [f"right as it is: {share}"], True
-    turned = [f"lane {number} {name}" for number, name in enumerate(names) if name != "as it is"]
-    besides = f" and {', '.join(turned)}" if turned and "--msb" not in words else ""
+    if units == {TEN}:
+        doubt = "" if any(turn.start for turn in turns) else ", or its words were packed without --msb"
+        lines.append(f"the serialiser sends the highest bit first{doubt}")
+    turned = [f"lane {number} {turn}" for number, turn in enumerate(turns) if turn != AS_IT_IS]
+    besides = f" and {', '.join(turned)}" if len(units) > 1 else ""
     doubt = f"; so they are with {others} other orders and polarities" if others else ""
-    return lines + [f"with `{' '.join(['lanes pack', words]).strip()}`{besides}: {share} are right{doubt}"], False
+    lines.append(f"with `{' '.join(['lanes pack', words]).strip()}`{besides}: {share} are right{doubt}")
+    if not besides:
+        lines.append(f"to be pasted: {commands(tool, path, words, turns, counts)}")
+    return lines, False

@@ -88,18 +88,20 @@ def read(path):
     return Sound(rate, 16 if width <= 2 else 24, left, side(data, width, channels, 1) if channels == 2 else left)
 
 
-def write(path, sound):
-    """Writes a WAV file of two channels, with the sound's bits a sample."""
+def wav(sound):
+    """The bytes of a WAV file of two channels, with the sound's bits a sample."""
     width = sound.bits // 8
     data = bytearray(2 * width * sound.samples)
     for channel, taken in enumerate((sound.left, sound.right)):
         for place in range(width):
             data[channel * width + width - 1 - place :: 2 * width] = taken[place::3]
-    with open(path, "wb") as out, wave.open(out, "wb") as file:
+    out = io.BytesIO()
+    with wave.open(out, "wb") as file:
         file.setnchannels(2)
         file.setsampwidth(width)
         file.setframerate(sound.rate)
         file.writeframes(data)
+    return out.getvalue()
 
 
 def rate_of(n, cycles, clock):

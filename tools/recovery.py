@@ -2,20 +2,28 @@
 
 import tempfile
 from dataclasses import dataclass, field
+from typing import NamedTuple
 
 import numpy as np
 
+import loops
 from capture import MOST_BITS
 from listing import Refused
+from replacing import naming
 
 FIRST = 2000  # the edges by which bit rate and phase are found
-GAIN, PULL = 0.03, 0.03**2 / 10  # of the loop, a bit
+RUNS, RUN = 32, 1024  # of values by which the levels of a piece are found
+LEAST_SAMPLES = 2.6  # a bit, where its edges alone tell the bits
 HYSTERESIS = 0.1  # of the swing, on both sides of the threshold
-MOST_WEIGHT = 8  # bits without an edge for which the next one makes up
-STRAY = 0.02  # how far the period may move from the one that was found
 EYE_WIDTH, EYE_HEIGHT, EYE_BITS, EYE_ROOM = 101, 101, 4096, 0.5
 LEAST_OPENING, MOST_JITTER = 0.1, 0.9  # of an eye that is open
-CYCLE = 10  # the bits of a cycle of the clock (HDMI 1.4, section 4.2.4)
+
+
+def rows_of(keys, values):
+    """Of each of some rising values the last of the rising keys that is not past it, or the first one."""
+    begins = np.maximum.accumulate(np.searchsorted(values, keys))
+    begins[0] = 0
+    return np.repeat(np.arange(len(keys)), np.diff(begins, append=len(values)))
 
 
 class Bits:
@@ -31,23 +39,30 @@ class Bits:
             raise Refused(f"a lane has at most {MOST_BITS} bits")
         bits = np.concatenate([self.held, bits])
         whole = len(bits) // 8 * 8
-        self.file.write(np.packbits(bits[:whole], bitorder="little").tobytes())
+        self.put(bits[:whole])
         self.held = bits[whole:]
+
+    def put(self, bits):
+        with naming(tempfile.gettempdir()):
+            self.file.write(np.packbits(bits, bitorder="little").tobytes())
 
     def ended(self):
         """The file at its beginning, with all bits in it."""
-        self.file.write(np.packbits(self.held, bitorder="little").tobytes())
-        self.file.seek(0)
+        self.put(self.held)
+        with naming(tempfile.gettempdir()):
+            self.file.seek(0)
         return self.file
 
 
 class Trace:
     """The levels of one lane over a piece, and the last ones before it."""
 
-    def __init__(self, piece, values, before=None):
+    def __init__(self, piece, channel, before=None):
         tail = min(2, len(before.values)) if before else 0
         self.new = tail
-        self.values = np.concatenate([before.values[-tail:], values]) if tail else values
+        self.values = np.empty(tail + len(piece.values), np.float32)
+        self.values[:tail] = before.values[-tail:] if tail else 0
+        channel.write(piece.values, self.values[tail:])
         self.times = piece.times
         if piece.times is not None and tail:
             self.times = np.concatenate([before.times[-tail:], piece.times])
@@ -59,15 +74,15 @@ class Trace:
         if self.times is not None:
             return self.values[np.maximum(np.searchsorted(self.times, moments, "right") - 1, 0)]
         places = np.clip(moments - self.first, 0, len(self.values) - 1)
-        whole = np.minimum(places.astype(np.int64), max(len(self.values) - 2, 0))
-        left, right = self.values[whole], self.values[np.minimum(whole + 1, len(self.values) - 1)]
-        return left + (right - left) * (places - whole)
+        whole = np.minimum(places.astype(np.int64), len(self.values) - 2)
+        left = self.values[whole].astype(float)
+        return left + (self.values[whole + 1] - left) * (places - whole)
 
     def moments(self, places, thresholds):
         """When the level passed the thresholds on the way to the samples at some places."""
         if self.times is not None:
             return self.times[places]
-        left = self.values[places - 1]
+        left = self.values[places - 1].astype(float)
         steps = self.values[places] - left
         return self.first + places - 1 + np.clip((thresholds - left) / np.where(steps, steps, 1), 0, 1)
 
@@ -88,8 +103,17 @@ class Levels:
         return (self.high + self.low) / 2
 
 
+def spread(values):
+    """The values, or runs of them that are spread evenly over many."""
+    if len(values) <= RUNS * RUN:
+        return values
+    begins = np.linspace(0, len(values) - RUN, RUNS).astype(int)
+    return np.concatenate([values[begin : begin + RUN] for begin in begins])
+
+
 def levels_of(values):
     """The levels round which the values lie, by the means of those above and below the middle."""
+    values = spread(values)
     middle = (float(values.min()) + float(values.max())) / 2
     low = high = middle
     for _ in range(20):
@@ -103,61 +127,59 @@ def levels_of(values):
     return Levels(low, high)
 
 
-def edges_of(trace, levels, state):
-    """The moments at which the level changes from one side of the threshold to the other, and whether it rises."""
-    room = HYSTERESIS * levels.swing
-    values = trace.values[trace.new :]
-    above = values > levels.middle + room
-    sure = np.flatnonzero(above | (values < levels.middle - room))
-    sides = above[sure]
-    changed = np.flatnonzero(sides != np.concatenate([[state], sides[:-1]])) if len(sides) else sure
-    places, rising = sure[changed] + trace.new, sides[changed]
-    if len(places) and places[0] == 0:
-        places, rising = places[1:], rising[1:]
-    moments = trace.moments(places, levels.middle + np.where(rising, room, -room))
-    return moments, rising, bool(sides[-1]) if len(sides) else state
+def crossed(trace, side, low, high):
+    """The moments that `loops.cross` writes of the new values of a trace."""
+    run = trace.times is None and loops.fast(loops.cross)
+    if run:
+        moments = np.empty(len(trace.values))
+        return moments[: run(trace.values, trace.new, side, low, high, float(trace.first), moments)]
+    above, below = trace.values[trace.new :] > high, trace.values[trace.new :] < low
+    turned = above | below
+    turned[1:] = (above[1:] > above[:-1]) | (below[1:] > below[:-1])
+    places = np.flatnonzero(turned)
+    sides = above[places]
+    changed = sides != np.concatenate([[side], sides])[:-1]
+    return trace.moments(places[changed] + trace.new, np.where(sides[changed], float(high), float(low)))
 
 
-@dataclass
-class Track:
-    """Where a loop stood before some edges and behind each of them: bit `numbers` begins at `phases`."""
+def edges_of(trace, levels, side):
+    """The moments at which the level changes from one side of the threshold to the other, whether it rises, and the side
+    on which it is at the end."""
+    low, high = (np.float32(levels.middle + part * levels.swing) for part in (-HYSTERESIS, HYSTERESIS))
+    moments = crossed(trace, side, low, high)
+    rising = np.arange(len(moments)) % 2 == int(side)
+    return moments, rising, side != bool(len(moments) % 2)
+
+
+class Track(NamedTuple):
+    """Where a loop stood before some edges and behind each of them: bit `numbers` begins at `phases`, and how far each
+    edge was behind the beginning of a bit, in bits."""
 
     phases: np.ndarray
     numbers: np.ndarray
     periods: np.ndarray
     errors: np.ndarray
 
+    def middles(self, numbers):
+        """The middles of some bits that rise, and their periods."""
+        at = rows_of(self.numbers, numbers)
+        return self.phases[at] + (numbers - self.numbers[at] + 0.5) * self.periods[at], self.periods[at]
+
 
 @dataclass
 class Loop:
-    """A second-order digital phase-locked loop: bit `number` begins at `phase`, and `period` is that of a bit."""
+    """A phase-locked loop: bit `number` begins at `phase`, and `period` is that of a bit."""
 
     phase: float
     period: float
     number: int = 0
-    pull: float = PULL
+    pull: float = loops.PULL
 
     def track(self, edges):
-        """Follows the edges, one by one; each counts by the bits since the one before, 8 at most."""
-        phase, period, gain, pull = self.phase, self.period, GAIN, self.pull
-        least, most = (1 - STRAY) * period, (1 + STRAY) * period
-        phases, periods = [phase], [period]
-        for edge in edges.tolist():
-            steps = ((edge - phase) / period + 0.5) // 1.0
-            phase += steps * period
-            error = (edge - phase) * (steps if steps < MOST_WEIGHT else MOST_WEIGHT)
-            phase += gain * error
-            period += pull * error
-            if not least <= period <= most:
-                period = least if period < least else most
-            phases.append(phase)
-            periods.append(period)
-        phases, periods = np.array(phases), np.array(periods)
-        steps = np.floor((edges - phases[:-1]) / periods[:-1] + 0.5)
-        errors = (edges - phases[:-1]) / periods[:-1] - steps
-        numbers = self.number + np.concatenate([[0], np.cumsum(steps)])
-        self.phase, self.period, self.number = phase, period, int(numbers[-1])
-        return Track(phases, numbers, periods, errors)
+        """Follows the edges."""
+        track = Track(*loops.followed(edges, self.phase, self.period, self.pull, self.number))
+        self.phase, self.number, self.period = float(track.phases[-1]), int(track.numbers[-1]), float(track.periods[-1])
+        return track
 
 
 def settled(edges, loop, start):
@@ -192,6 +214,8 @@ def period_of(edges, least):
 class Freely:
     """The time of lanes that have no clock: the file's own."""
 
+    track = Track(np.empty(0), np.empty(0, np.int64), np.empty(0), np.empty(0))
+
     def feed(self, piece):
         pass
 
@@ -202,9 +226,11 @@ class Freely:
         return bits
 
     def lock(self, edges, start, name, least):
-        period = period_of(edges, least)
-        if period is None:
-            raise Refused(f"{name}: its edges keep to no bit rate")
+        period = period_of(edges, least / 2)
+        if period is None or period < least:
+            text = "its edges keep to no bit rate" if period is None else f"its edges tell some {period:.2g} samples a bit"
+            wanted = f"; under {least} the clock's channel is wanted, with --clock" if least else ""
+            raise Refused(f"{name}: {text}{wanted}")
         return settled(edges, Loop(edges[0], period), start)
 
 
@@ -222,10 +248,9 @@ class Lane:
 
     def edges(self, piece):
         """The edges of the next piece."""
-        values = self.channel.of(piece.values)
-        if not np.isfinite(values).all():
+        self.trace = Trace(piece, self.channel, self.trace)
+        if not np.isfinite(self.trace.values).all():
             raise Refused(f"{self.name}: a level is no finite number")
-        self.trace = Trace(piece, values, self.trace)
         levels = levels_of(self.trace.values)
         if self.levels is None:
             if not levels.swing > 0:
@@ -242,25 +267,37 @@ class Lane:
         if self.loop is None:
             if len(edges) < 8:
                 raise Refused(f"{self.name}: its level changes {len(edges)} times, which tells no bit rate")
-            least = 2.0 if piece.times is None else 0.0
+            least = LEAST_SAMPLES if piece.times is None else 0.0
             self.loop = base.lock(edges[:FIRST], base.bits(np.array([self.trace.first]))[0], self.name, least)
         track = self.loop.track(edges)
+        self.measure.errors(track.errors)
         self.slice(track, base)
 
     def slice(self, track, base):
         """Takes the level in the middle of each bit up to the last moment of the piece."""
         loop, last = self.loop, base.bits(np.array([self.trace.last]))[0]
         behind = loop.number + int(np.floor((last - loop.phase) / loop.period - 0.5)) + 1
-        numbers = np.arange(self.written.count, behind)
-        at = np.maximum(np.searchsorted(track.numbers, numbers, "right") - 1, 0)
-        middles = track.phases[at] + (numbers - track.numbers[at] + 0.5) * track.periods[at]
-        levels = self.trace.at(base.moments(middles))
-        ones = levels > self.levels.middle
+        if behind <= self.written.count:
+            return
+        ones, lowest_one, highest_zero = self.sampled(track, base, behind)
+        self.measure.take(len(ones), self.levels, lowest_one, highest_zero)
+        self.measure.spans(base.moments(track.middles(np.array([self.written.count, behind - 1]))[0]))
+        if self.eye is not None:
+            self.draw(*track.middles(np.arange(self.written.count, behind)[:EYE_BITS]), base)
         self.written.write(ones)
-        self.measure.take(track.errors, levels, ones, self.levels, len(numbers))
-        self.measure.spans(base.moments(middles[[0, -1]]) if len(middles) else [], len(numbers))
-        if self.eye is not None and len(numbers):
-            self.draw(middles[:EYE_BITS], track.periods[at][:EYE_BITS], base)
+
+    def sampled(self, track, base, behind):
+        """Whether the level in the middle of each bit that was not written yet is over the threshold, and what
+        `loops.sample` answers."""
+        trace, number, middle = self.trace, self.written.count, self.levels.middle
+        run = trace.times is None and loops.fast(loops.sample)
+        if run:
+            ones = np.empty(behind - number, bool)
+            ends = run(trace.values, float(trace.first), track[:3], base.track[:3], number, middle, ones)
+            return ones, *ends
+        levels = trace.at(base.moments(track.middles(np.arange(number, behind))[0]))
+        ones = levels > middle
+        return ones, levels[ones].min(initial=np.inf), levels[~ones].max(initial=-np.inf)
 
     def draw(self, middles, periods, base):
         """Counts the levels from one bit before the middle of a bit to one behind it."""
@@ -289,19 +326,23 @@ class Measure:
     lowest_one: float = np.inf
     highest_zero: float = -np.inf
 
-    def take(self, errors, levels, ones, found, bits):
+    def errors(self, errors):
+        """Adds how far some edges were behind the beginning of a bit."""
         self.edges += len(errors)
         if len(errors):
             self.square += float(np.square(errors).sum())
             self.early, self.late = min(self.early, errors.min()), max(self.late, errors.max())
-        self.lowest_one = min(self.lowest_one, levels[ones].min(initial=np.inf))
-        self.highest_zero = max(self.highest_zero, levels[~ones].max(initial=-np.inf))
-        self.sums += bits * np.array([found.low, found.high])
+
+    def take(self, bits, levels, lowest_one, highest_zero):
+        """Adds some bits, the levels of their lane, and those in the middle of the bits."""
+        self.lowest_one = min(self.lowest_one, lowest_one)
+        self.highest_zero = max(self.highest_zero, highest_zero)
+        self.sums += bits * np.array([levels.low, levels.high])
         self.bits += bits
 
-    def spans(self, middles, bits):
-        if bits:
-            self.ends = [self.ends[0] if self.ends else middles[0], middles[-1]]
+    def spans(self, middles):
+        """Adds the moments of the first and of the last of some bits."""
+        self.ends = [self.ends[0] if self.ends else middles[0], middles[-1]]
 
     @property
     def period(self):
@@ -346,12 +387,12 @@ class Clock:
 
     def bits(self, moments):
         track = self.track
-        at = np.maximum(np.searchsorted(track.phases, moments, "right") - 1, 0)
-        return CYCLE * (track.numbers[at] + (moments - track.phases[at]) / track.periods[at])
+        at = rows_of(track.phases, moments)
+        return loops.CYCLE * (track.numbers[at] + (moments - track.phases[at]) / track.periods[at])
 
     def moments(self, bits):
-        track, cycles = self.track, bits / CYCLE
-        at = np.maximum(np.searchsorted(track.numbers, cycles, "right") - 1, 0)
+        track, cycles = self.track, bits / loops.CYCLE
+        at = rows_of(track.numbers, cycles)
         return track.phases[at] + (cycles - track.numbers[at]) * track.periods[at]
 
     def lock(self, edges, start, name, _):

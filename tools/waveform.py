@@ -328,12 +328,12 @@ class Channel(NamedTuple):
     plus: Optional[int]
     minus: Optional[int]
 
-    def of(self, values):
+    def write(self, values, levels):
+        """Writes the levels of the wire, or of the pair, in each row of the values into an array of as many."""
         with np.errstate(all="ignore"):  # what is too large comes out as no finite number, and is refused
-            levels = values[:, self.plus].astype(np.float32) if self.plus is not None else np.float32(0)
+            levels[:] = values[:, self.plus] if self.plus is not None else 0
             if self.minus is not None:
-                levels = levels - values[:, self.minus].astype(np.float32)
-        return levels
+                levels -= values[:, self.minus].astype(np.float32)
 
 
 def channel_of(word, names):
@@ -352,6 +352,20 @@ def channel_of(word, names):
     whole = [at for at in cuts if {word[:at], word[at + 1 :]} <= {"", *names}]
     at = (whole or cuts)[0]
     return Channel(place(word[:at]) if at else None, place(word[at + 1 :]))
+
+
+def channels_of(words, names):
+    """The channels that some words name. One that is named twice is refused: as a lane of its own, as the first wire of
+    two lanes, or as the same pair turned over; many lanes may have one second wire."""
+    channels, known = [], set()
+    for channel in (channel_of(word, names) for word in words):
+        first = channel.minus if channel.plus is None else channel.plus
+        for key in {first, frozenset({first, channel.minus} - {None})}:
+            if key in known:
+                raise Refused(f"the channel `{names[first]}` is named twice")
+            known.add(key)
+        channels.append(channel)
+    return channels
 
 
 def arrays_of(wave, path):

@@ -6,7 +6,7 @@ const count = (number) => number.toLocaleString("en-US");
 const clamp = (value, least, most) => Math.min(Math.max(value, least), most);
 const colour = (name) => getComputedStyle(document.documentElement).getPropertyValue(`--${name}`).trim();
 const LANES = ["lane 0 (blue)", "lane 1 (green)", "lane 2 (red)"];
-const PERIODS = ["control", "video", "island", "island", "island", "unknown"];
+const PERIODS = ["control", "video", "island", "island", "island", "unknown", "unaligned"];
 let data;
 
 async function unpacked(text) {
@@ -40,64 +40,16 @@ function placeOf(list, value) {
   return low - 1;
 }
 
+function epochOf(at) {
+  return Math.max(0, placeOf(data.epochs, at));
+}
+
 function columnText(at) {
-  const epoch = Math.max(0, placeOf(data.epochs, at));
-  const column = `column ${count(at - data.epochs[epoch])}`;
-  return data.epochs.length > 1 ? `${column} of alignment ${epoch + 1}` : column;
-}
-
-/* A table or list that shows a page of its rows at a time. */
-class Paged {
-  constructor(place, name, size, draw) {
-    this.size = size;
-    this.draw = draw;
-    this.page = 0;
-    this.rows = [];
-    this.bar = made("div", { className: "bar", role: "group" });
-    this.bar.setAttribute("aria-label", `Pages of ${name}`);
-    this.back = made("button", { type: "button", onclick: () => this.go(this.page - 1) }, "← Earlier");
-    this.on = made("button", { type: "button", onclick: () => this.go(this.page + 1) }, "Later →");
-    this.says = made("span");
-    this.says.setAttribute("aria-live", "polite");
-    this.bar.append(this.back, this.on, this.says);
-    this.body = made("div", { className: "scroll", tabIndex: 0, role: "region" });
-    this.body.setAttribute("aria-label", name);
-    place.append(this.bar, this.body);
-  }
-
-  set(rows) {
-    this.rows = rows;
-    this.go(0);
-  }
-
-  go(page) {
-    const pages = Math.max(1, Math.ceil(this.rows.length / this.size));
-    this.page = clamp(page, 0, pages - 1);
-    const first = this.page * this.size;
-    const shown = this.rows.slice(first, first + this.size);
-    this.back.disabled = this.page === 0;
-    this.on.disabled = this.page === pages - 1;
-    this.says.textContent = shown.length
-      ? `${count(first + 1)} to ${count(first + shown.length)} of ${count(this.rows.length)}`
-      : "nothing of this kind";
-    this.body.replaceChildren(this.draw(shown));
-  }
-}
-
-function table(caption, heads, rows) {
-  const cells = (row) => row.map((cell) => (cell instanceof Node && cell.nodeName === "TD" ? cell : made("td", {}, cell)));
-  return made(
-    "table", {},
-    made("caption", {}, caption),
-    made("thead", {}, made("tr", {}, ...heads.map((head) => made("th", { scope: "col" }, head)))),
-    made("tbody", {}, ...rows.map((row) => made("tr", {}, ...cells(row)))),
-  );
-}
-
-function choice(name, options, change) {
-  const select = made("select", { onchange: () => change(select.value) });
-  select.append(...options.map(([value, text]) => made("option", { value }, text)));
-  return [made("label", {}, `${name} `, select), select];
+  const epoch = epochOf(at);
+  const late = at - data.epochs[epoch];
+  if (data.hidden[epoch]) return `place ${count(data.places[epoch] + 10 * late)}, not aligned`;
+  const column = `column ${count(late)}`;
+  return data.epochs.length > 1 ? `${column} of alignment ${data.alignments[epoch] || "none"}` : column;
 }
 
 /* ---- the pictures ---- */
@@ -334,6 +286,7 @@ function drawTime() {
   drawFrames(pen, across, width);
   drawPeriods(pen, scale, width);
   drawFaults(pen, across, width, height);
+  drawUnaligned(pen, across, width, height);
   pen.fillStyle = colour("card");
   pen.fillRect(0, 0, LABEL - 1, height);
   pen.fillStyle = colour("soft");
@@ -409,6 +362,33 @@ function drawFaults(pen, across, width, height) {
   }
 }
 
+/* Bits of which nothing is shown are hatched. */
+function drawUnaligned(pen, across, width, height) {
+  data.hidden.forEach((hidden, epoch) => {
+    const [left, right] = [Math.max(LABEL, across(data.epochs[epoch])), Math.min(width, across(data.epochs[epoch] + Math.ceil(hidden / 10)))];
+    if (!hidden || right < LABEL || left > width) return;
+    pen.save();
+    pen.beginPath();
+    pen.rect(left, HEAD, Math.max(1, right - left), height - HEAD);
+    pen.clip();
+    pen.strokeStyle = colour("unaligned");
+    pen.beginPath();
+    for (let x = left - height; x < right; x += 8) {
+      pen.moveTo(x, height);
+      pen.lineTo(x + height, 0);
+    }
+    pen.stroke();
+    const text = "not aligned, not shown";
+    if (right - left > pen.measureText(text).width + 16) {
+      pen.fillStyle = colour("card");
+      pen.fillRect(left + 4, HEAD + 5, pen.measureText(text).width + 8, ROW - 10);
+      pen.fillStyle = colour("ink");
+      pen.fillText(text, left + 8, HEAD + 18);
+    }
+    pen.restore();
+  });
+}
+
 function periodText(at) {
   const number = placeOf(data.periods.at, at);
   if (number < 0) return "";
@@ -421,6 +401,7 @@ function periodText(at) {
     () => "the start of a data island",
     () => "the end of a data island",
     () => "columns that open nothing, or that could not be counted",
+    () => "nothing is shown",
   ][kind]();
   return [text, data.periods.line[number]];
 }
@@ -438,6 +419,12 @@ function sayTime() {
   by("time-says").replaceChildren(`${parts.join(", ")} `);
   if (line) by("time-says").append(lineLink(line));
   for (const fault of at) by("time-says").append(" ", made("span", { className: "bad" }, faultText(fault)), " ", lineLink(data.faults.line[fault]));
+}
+
+/* Zooms about the cursor where it is in view, else about the middle. */
+function zoomHere(factor) {
+  const isSeen = time.first <= time.cursor && time.cursor <= time.last;
+  zoom(factor, isSeen ? time.cursor : undefined);
 }
 
 function zoom(factor, around = (time.first + time.last) / 2) {
@@ -478,6 +465,7 @@ function startTime() {
     return time.first + ((event.clientX - box.left - LABEL) / (box.width - LABEL)) * (time.last - time.first);
   };
   canvas.addEventListener("wheel", (event) => {
+    if (!event.ctrlKey && time.last - time.first >= data.columns) return;
     event.preventDefault();
     zoom(event.deltaY < 0 ? 0.8 : 1.25, columnAt(event));
   }, { passive: false });
@@ -502,94 +490,21 @@ function startTime() {
       ArrowLeft: () => pointTo(time.cursor - (event.shiftKey ? 1 : step)), ArrowRight: () => pointTo(time.cursor + (event.shiftKey ? 1 : step)),
       ArrowDown: () => pointTo(time.cursor - (event.shiftKey ? 1 : step)), ArrowUp: () => pointTo(time.cursor + (event.shiftKey ? 1 : step)),
       PageUp: () => pointTo(time.cursor + 10 * step), PageDown: () => pointTo(time.cursor - 10 * step),
-      "+": () => zoom(0.5, time.cursor), "=": () => zoom(0.5, time.cursor), "-": () => zoom(2, time.cursor),
+      "+": () => zoomHere(0.5), "=": () => zoomHere(0.5), "-": () => zoomHere(2),
       Home: () => look(0, data.columns), n: () => stepTimeFault(1), p: () => stepTimeFault(-1),
     };
     if (!keys[event.key] || event.ctrlKey || event.metaKey || event.altKey) return;
     event.preventDefault();
     keys[event.key]();
   });
-  by("zoom-in").onclick = () => zoom(0.5, time.cursor);
-  by("zoom-out").onclick = () => zoom(2, time.cursor);
+  by("zoom-in").onclick = () => zoomHere(0.5);
+  by("zoom-out").onclick = () => zoomHere(2);
   by("zoom-all").onclick = () => look(0, data.columns);
   by("fault-back").onclick = () => stepTimeFault(-1);
   by("fault-on").onclick = () => stepTimeFault(1);
   new ResizeObserver(drawTime).observe(canvas);
   matchMedia("(prefers-color-scheme: dark)").addEventListener("change", drawTime);
   drawTime();
-}
-
-/* ---- the tables ---- */
-
-function faultText(fault) {
-  const [kind, lane, more] = [data.faults.kind[fault], data.faults.lane[fault], data.faults.more[fault]];
-  if (kind === "slip") return `slip of ${LANES[lane]}, found at bit ${count(more[0])} of it`;
-  if (kind === "symbols") return `symbols: ${more[0]} of 96 characters`;
-  if (kind === "mended") return `mended: ${data.blocks[more[0]]}, bit ${more[1]}`;
-  if (kind === "lost") return `lost: ${data.blocks[more[0]]}`;
-  return lane >= 0 ? `${kind} on ${LANES[lane]}` : kind;
-}
-
-function faultPlace(fault) {
-  const [frame, x, y] = [data.faults.frame[fault], data.faults.x[fault], data.faults.y[fault]];
-  if (data.faults.kind[fault] !== "code" || frame < 0) return "";
-  const name = frameName(data.frames[frame]);
-  if (x < 0) return `${name}, row ${y}`;
-  const show = async () => { await showFrame(frame, x, y); by("pictures").scrollIntoView(); by("picture").focus({ preventScroll: true }); };
-  return made("button", { type: "button", className: "count", onclick: show }, `${name}, row ${y}, pixel ${x}`);
-}
-
-function startFaults() {
-  const place = by("fault-table");
-  if (!place) return;
-  const wanted = { kind: "", lane: "" };
-  const paged = new Paged(place, "faults", 20, (faults) => table("The faults in the order of the listing", ["fault", "column", "picture", "listing"], faults.map((fault) => {
-    const to = () => { pointTo(data.faults.at[fault]); by("timeline").scrollIntoView(); by("time").focus({ preventScroll: true }); };
-    return [faultText(fault), made("button", { type: "button", className: "count", onclick: to }, columnText(data.faults.at[fault])), faultPlace(fault), lineLink(data.faults.line[fault])];
-  })));
-  const fill = () => paged.set(data.faults.kind.map((_, fault) => fault).filter((fault) =>
-    (!wanted.kind || data.faults.kind[fault] === wanted.kind) && (wanted.lane === "" || data.faults.lane[fault] === Number(wanted.lane))));
-  const kinds = [...new Set(data.faults.kind)];
-  const [kindLabel, kind] = choice("kind", [["", "all"], ...kinds.map((one) => [one, one])], (value) => { wanted.kind = value; fill(); });
-  const [laneLabel, lane] = choice("lane", [["", "all"], ...LANES.map((one, number) => [String(number), one]), ["-1", "of no lane"]], (value) => { wanted.lane = value; fill(); });
-  paged.bar.prepend(kindLabel, laneLabel);
-  for (const button of document.querySelectorAll(".count[data-kind]")) {
-    button.onclick = () => {
-      kind.value = wanted.kind = button.dataset.kind;
-      lane.value = wanted.lane = button.dataset.lane;
-      fill();
-      place.scrollIntoView();
-      paged.says.focus();
-    };
-  }
-  fill();
-}
-
-function startPackets() {
-  const place = by("packet-table");
-  if (!place) return;
-  const packets = data.packets;
-  const verdict = (number) => {
-    const told = packets.verdicts[number];
-    const bad = data.blocks.map((block, one) => [block, told[one]]).filter(([, says]) => says !== "clean");
-    const parts = bad.map(([block, says]) => made("div", { className: says === "lost" ? "bad" : "" }, `${block}: ${says}`));
-    if (packets.symbols[number]) parts.push(made("div", {}, `${packets.symbols[number]} foreign characters`));
-    return made("td", {}, ...(parts.length ? parts : ["all clean"]));
-  };
-  const paged = new Paged(place, "packets", 20, (numbers) => table("The packets in the order of the listing", ["packet", "column", "what it says", "blocks", "listing"], numbers.map((number) => {
-    const to = () => { pointTo(packets.at[number]); by("timeline").scrollIntoView(); by("time").focus({ preventScroll: true }); };
-    const words = made("td", {}, data.words[packets.words[number]]);
-    for (const fault of packets.faults[number]) words.append(made("div", { className: "bad" }, fault));
-    return [packets.names[number], made("button", { type: "button", className: "count", onclick: to }, columnText(packets.at[number])), words, verdict(number), lineLink(packets.line[number])];
-  })));
-  const isHurt = (number) => packets.symbols[number] || packets.faults[number].length || packets.verdicts[number].some((one) => one !== "clean");
-  const wanted = { name: "", hurt: "" };
-  const fill = () => paged.set(packets.at.map((_, number) => number).filter((number) =>
-    (!wanted.name || packets.names[number] === wanted.name) && (!wanted.hurt || isHurt(number))));
-  const [kind] = choice("kind", [["", "all"], ...[...new Set(packets.names)].map((one) => [one, one])], (value) => { wanted.name = value; fill(); });
-  const [state] = choice("blocks", [["", "all"], ["hurt", "not all clean"]], (value) => { wanted.hurt = value; fill(); });
-  paged.bar.prepend(kind, state);
-  fill();
 }
 
 /* ---- the listing ---- */
@@ -608,20 +523,40 @@ function startListing() {
     }
     return list;
   });
-  const input = made("input", { type: "number", min: 1, max: numbers.length });
-  const go = (event) => { event.preventDefault(); location.hash = `L${clamp(Number(input.value) || 1, 1, numbers.length)}`; };
-  paged.bar.prepend(made("form", { onsubmit: go }, made("label", {}, "line ", input), " ", made("button", {}, "Go")));
-  paged.set(numbers);
-  const follow = () => {
-    const found = /^#L(\d+)$/.exec(location.hash);
-    if (!found) return;
-    const number = clamp(Number(found[1]), 1, numbers.length);
+  const show = (number, isFocused) => {
     paged.go(Math.floor((number - 1) / LINES));
     const item = by(`L${number}`);
     for (const other of document.querySelectorAll(".is-here")) other.classList.remove("is-here");
     item.classList.add("is-here");
     item.scrollIntoView({ block: "center", behavior: "instant" });
-    item.querySelector("a").focus({ preventScroll: true });
+    if (isFocused) item.querySelector("a").focus({ preventScroll: true });
+  };
+  const search = { text: "", found: [], place: -1 };
+  const text = made("input", { type: "search" });
+  const says = made("span");
+  says.setAttribute("aria-live", "polite");
+  const find = (step) => {
+    if (text.value !== search.text) {
+      const first = paged.page * LINES;
+      const found = data.lines.flatMap((line, number) => (text.value && line.includes(text.value) ? [number + 1] : []));
+      const next = placeOf(found, first);
+      Object.assign(search, { text: text.value, found, place: step > 0 ? next : next + 1 });
+    }
+    const all = search.found.length;
+    search.place = all ? (search.place + step + all) % all : -1;
+    says.textContent = all ? `${count(search.place + 1)} of ${count(all)}` : text.value ? "in no line" : "";
+    if (all) show(search.found[search.place], false);
+  };
+  const findForm = made("form", { onsubmit: (event) => { event.preventDefault(); find(1); } },
+    made("label", {}, "text ", text), " ", made("button", {}, "Find →"), " ",
+    made("button", { type: "button", onclick: () => find(-1) }, "← Find"), " ", says);
+  const input = made("input", { type: "number", min: 1, max: numbers.length });
+  const go = (event) => { event.preventDefault(); location.hash = `L${clamp(Number(input.value) || 1, 1, numbers.length)}`; };
+  paged.bar.prepend(findForm, made("form", { onsubmit: go }, made("label", {}, "line ", input), " ", made("button", {}, "Go")));
+  paged.set(numbers);
+  const follow = () => {
+    const found = /^#L(\d+)$/.exec(location.hash);
+    if (found) show(clamp(Number(found[1]), 1, numbers.length), true);
   };
   addEventListener("hashchange", follow);
   document.addEventListener("click", (event) => {

@@ -11,7 +11,7 @@ TOOLS = ["content", "lanes", "pictures", "report", "slice", "sound", "survey"]
 
 def commands(text):
     """The lines that are set in, behind the line that announces examples."""
-    _, _, behind = text.partition("Examples, at the top of the repository:\n")
+    behind = text.rpartition("\nExamples")[2]
     return [line for line in behind.splitlines() if line.startswith("  ")]
 
 

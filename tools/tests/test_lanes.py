@@ -1,11 +1,14 @@
 """tools/lanes: the layout is that of docs/FORMATS.md."""
 
 import random
+import re
+import subprocess
 from pathlib import Path
 
 import pytest
 
-EXAMPLES = Path(__file__).resolve().parents[2] / "examples"
+TOP = Path(__file__).resolve().parents[2]
+EXAMPLES = TOP / "examples"
 # The worked example of docs/FORMATS.md: 270 bits a lane.
 CONTROL = "54534d35d5"
 RED = [
@@ -104,7 +107,7 @@ def test_bad_files_and_words(tool, files, tmp_path):
 
 
 def test_help(tool):
-    for words in (["--help"], ["pack", "--help"], ["unpack", "--help"], ["look", "--help"]):
+    for words in (["--help"], *([command, "--help"] for command in ("pack", "unpack", "cut", "look"))):
         assert tool("lanes", *words).stdout.startswith(b"usage: lanes")
 
 
@@ -142,8 +145,79 @@ def test_words_have_ten_bits(tool, files, width):
     assert b"it has 270 bits, and 271 are wanted" in came.stderr
     paths = files(words_of(lane, 270, width, msb=True) for lane in RED)
     assert tool("lanes", "pack", "--words", width, "--msb", *paths).stdout == CAPTURE
+    for words in (["--words", width], ["--words", width, "--msb"]):
+        assert tool("lanes", "unpack", *words, *paths, source=CAPTURE).stdout == b"270,270,270\n"
+        assert tool("lanes", "pack", *words, *paths).stdout == CAPTURE
     paths[1].write_bytes(b"abc")
     assert b"no whole number of words" in tool("lanes", "pack", "--words", width, *paths, status=3).stderr
+
+
+@pytest.mark.parametrize("count", [0, 1, 9, 271, 2_621_440, 2_621_447])
+def test_words_there_and_back(tool, files, count):
+    """Also where the last one is not whole, and where there are many."""
+    lane = random.Random(count).randbytes((count + 7) // 8)
+    if count % 8:
+        lane = lane[:-1] + bytes([lane[-1] & (1 << count % 8) - 1])
+    paths = files([lane, b"", b""])
+    sent = tool("lanes", "pack", "--bits", f"{count},0,0", *paths).stdout
+    for words in (["--words", 16], ["--words", 32, "--msb"]):
+        bits = tool("lanes", "unpack", *words, *paths, source=sent).stdout.decode().strip()
+        assert paths[0].stat().st_size == (count + 9) // 10 * words[1] // 8
+        assert tool("lanes", "pack", *words, "--bits", bits, *paths).stdout == sent
+
+
+def test_a_file_that_is_named_twice(tool, files, tmp_path):
+    """It is refused, and nothing is written; what holds nothing may be named for all."""
+    paths = files(RED)
+    (tmp_path / "link").symlink_to(paths[0])
+    for other in (paths[0], tmp_path / ".." / tmp_path.name / "blue", tmp_path / "link"):
+        assert b"it is named twice" in tool("lanes", "pack", *paths[:2], other, status=3).stderr
+        assert b"it is named twice" in tool("lanes", "unpack", *paths[:2], other, source=CAPTURE, status=3).stderr
+    tool("lanes", "unpack", tmp_path / "new", tmp_path / "new", paths[0], source=CAPTURE, status=3)
+    assert [path.read_bytes() for path in paths] == RED and not (tmp_path / "new").exists()
+    assert tool("lanes", "unpack", "/dev/null", "/dev/null", paths[0], source=CAPTURE).stdout == b"270,270,270\n"
+    assert paths[0].read_bytes() == RED[2]
+
+
+def bits_of(lanes, counts):
+    return ["".join(str(lane[at // 8] >> at % 8 & 1) for at in range(count)) for lane, count in zip(lanes, counts)]
+
+
+@pytest.mark.parametrize("given", ["0", "1", "8", "13", "270", "0,0,70", "3,10,269", "270,0,270"])
+def test_cut(tool, files, tmp_path, given):
+    """The lanes without their first bits, in a capture of either version."""
+    (tmp_path / "a.tmc").write_bytes(CAPTURE)
+    starts = [int(word) for word in given.split(",")] * (1 if "," in given else 3)
+    came = tool("lanes", "cut", tmp_path / "a.tmc", "--from", given).stdout
+    assert came[3:4] == (b"1" if len(set(starts)) == 1 else b"2")
+    paths = files([b"", b"", b""])
+    counts = [int(word) for word in tool("lanes", "unpack", *paths, source=came).stdout.split(b",")]
+    assert counts == [270 - start for start in starts]
+    wanted = [lane[start:] for lane, start in zip(bits_of(RED, [270] * 3), starts)]
+    assert bits_of([path.read_bytes() for path in paths], counts) == wanted
+
+
+def test_cut_that_is_refused(tool, tmp_path):
+    (tmp_path / "a.tmc").write_bytes(CAPTURE)
+    came = tool("lanes", "cut", tmp_path / "a.tmc", "--from", "0,271,0", status=3)
+    assert b"lane 1 has 270 bits, and 271 are to be cut" in came.stderr and came.stdout == b""
+    tool("lanes", "cut", tmp_path / "missing", "--from", 1, status=3)
+    (tmp_path / "b.tmc").write_bytes(CAPTURE[:-1])
+    tool("lanes", "cut", tmp_path / "b.tmc", "--from", 1, status=3)
+    for words in ([], ["--from", "1,2"], ["--from", "-1"], ["--from", "x"]):
+        tool("lanes", "cut", tmp_path / "a.tmc", *words, status=2)
+
+
+def test_cut_brings_a_late_lane_within_reach(tool, program, tmp_path):
+    """Lane 2 is 400 bits late, so nothing aligns; 400 bits of it are cut, and what was sent comes back."""
+    text = (EXAMPLES / "bars.content").read_bytes()
+    late = program("make", "content", "--skew", "400,400,0", "--version", 2, source=text)
+    program("check", source=late, status=7)
+    (tmp_path / "a.tmc").write_bytes(late)
+    came = tool("lanes", "cut", tmp_path / "a.tmc", "--from", "0,0,400").stdout
+    assert program("check", source=came) == b"clean\n"
+    sent = program("make", "content", "--offset", 400, "--version", 2, source=text)
+    assert program("recover", "content", source=came) == program("recover", "content", source=sent)
 
 
 def test_order_and_polarity(tool, files):
@@ -173,13 +247,54 @@ def test_look_finds_order_and_polarity(tool, lane_files, tmp_path, order, invert
     (tmp_path / "a.tmc").write_bytes(mixed)
     is_right = mixed == sent
     told = tool("lanes", "look", tmp_path / "a.tmc", status=0 if is_right else 1).stdout.decode().splitlines()
-    assert len(told) == 4 and all("locks as it is" in line for line in told[:3])
+    assert len(told) == (4 if is_right else 5) and all("locks as it is" in line for line in told[:3])
     if is_right:
         assert told[3] == "right as it is: 28 of 28 openings"
         return
-    words = told[3].split("`")[1].removeprefix("lanes pack").split()
-    again = tool("lanes", "unpack", *paths, source=mixed).stdout.decode().strip()
-    assert tool("lanes", "pack", *words, "--bits", again, *paths).stdout == sent
+    assert told[3].startswith("with `lanes pack --") and told[3].endswith("`: 28 of 28 openings are right")
+    assert pasted(told[4], tmp_path / "a.again.tmc") == sent
+
+
+def pasted(line, path):
+    """What a capture holds that the commands of a line make."""
+    assert line.startswith(f"to be pasted: {TOP}/tools/lanes ")
+    subprocess.run(line.removeprefix("to be pasted: "), shell=True, check=True, stdout=subprocess.DEVNULL)
+    return path.read_bytes()
+
+
+@pytest.mark.parametrize("starts", [(0, 0, 0), (3, 3, 3), (8, 5, 17)])
+@pytest.mark.parametrize("words", [[], ["--order", "2,0,1", "--invert", "1"]])
+def test_look_finds_a_serialiser_that_sends_the_highest_bit_first(tool, program, tmp_path, files, starts, words):
+    """Wherever in a character the lanes begin; their capture is packed anew, and what was sent comes back."""
+    text = (EXAMPLES / "bars.content").read_bytes()
+    sent = program("make", "content", "--version", 2, source=text)
+    paths = files([b"", b"", b""])
+    tool("lanes", "unpack", "--words", 16, *paths, source=sent)
+    (tmp_path / "first.tmc").write_bytes(tool("lanes", "pack", "--words", 16, "--msb", *words, *paths).stdout)
+    came = tool("lanes", "cut", tmp_path / "first.tmc", "--from", ",".join(map(str, starts))).stdout
+    (tmp_path / "a b.tmc").write_bytes(came)
+    told = tool("lanes", "look", tmp_path / "a b.tmc", status=1).stdout.decode().splitlines()
+    for line, start in zip(told, starts):
+        begins = f" from bit {-start % 10} on" if start % 10 else ""
+        assert f"locks with each ten{begins} turned round at place" in line
+    doubt = "" if any(start % 10 for start in starts) else ", or its words were packed without --msb"
+    assert told[3] == f"the serialiser sends the highest bit first{doubt}"
+    assert told[4].startswith("with `lanes pack ") and "--words 16 --msb`: " in told[4]
+    assert re.search(r"`: (29|30) of \1 openings are right$", told[4])
+    again = pasted(told[5], tmp_path / "a b.again.tmc")
+    (tmp_path / "c.tmc").write_bytes(again)
+    assert tool("lanes", "look", tmp_path / "c.tmc").stdout.splitlines()[3].startswith(b"right as it is: ")
+    assert program("check", source=again) == b"clean\n"
+    shown, wanted = (program("recover", "link", source=source) for source in (again, sent))
+    assert shown.count(b"\nv ") == wanted.count(b"\nv ") > 0
+
+
+def test_look_finds_no_opening(tool, program, tmp_path):
+    """A stream without guard bands has none that is right as it is."""
+    text = b"c 00 40\n" + b"v 010203040506070809\nc 00 40\n" * 5 + b"end\n"
+    (tmp_path / "a.tmc").write_bytes(program("make", "dvi", source=text))
+    told = tool("lanes", "look", tmp_path / "a.tmc", status=1).stdout
+    assert b"no guards: order and polarity cannot be told" in told
 
 
 def test_look_finds_the_bit_order(tool, lane_files, tmp_path):
@@ -191,6 +306,7 @@ def test_look_finds_the_bit_order(tool, lane_files, tmp_path):
     told = tool("lanes", "look", tmp_path / "a.tmc", status=1).stdout
     assert told.count(b"locks with each byte turned round") == 3 and b"with `lanes pack --msb`: 28 of 28" in told
     assert tool("lanes", "pack", "--msb", *paths).stdout == right
+    assert pasted(told.decode().splitlines()[-1], tmp_path / "a.again.tmc") == right
 
 
 def test_look_says_where_it_is_in_doubt(tool, files, tmp_path):

@@ -1,5 +1,6 @@
 """tools/report: what the page shows in a browser is what the program's listings say."""
 
+import csv
 import os
 import re
 import wave
@@ -194,7 +195,9 @@ def test_a_clean_capture(report, tool, program, sent, tmp_path):
     assert page.lines() == texts(link)
     same_frames(page, tool, content, tmp_path / "out")
     rows = page.rows("packet-table")
-    assert len(rows) == link.count(b"\np ") and {row[3] for row in rows} == {"all clean"}
+    assert len(rows) == link.count(b"\np ") and {row[4] for row in rows} == {"all clean"}
+    sent_bytes = [line.split(" ")[1:6] for line in texts(link) if line.startswith("p ")]
+    assert [row[3].replace(" ", "").split("|") for row in rows] == sent_bytes
     words = {row[0]: row[2] for row in rows}
     assert words["AVI InfoFrame"] == "RGB, no video identification code, no aspect told, full range"
     assert words["Audio clock"] == "N 6144, CTS 3600" and words["Audio InfoFrame"] == "2 channels, coding by the stream"
@@ -242,7 +245,7 @@ def test_a_damaged_capture(report, tool, program, sent, tmp_path):
     page = report(capture, 1)
     # the blocks of each packet, by the fault lines behind it
     for row in page.rows("packet-table"):
-        number = int(row[4].split(" ")[1])
+        number = int(row[5].split(" ")[1])
         told = []
         for line in lines[number:]:
             kind, *rest = line[2:].split(" ")
@@ -251,7 +254,7 @@ def test_a_damaged_capture(report, tool, program, sent, tmp_path):
             if kind != "symbols":
                 block = "header" if rest[1] == "4" else f"body {rest[1]}"
                 told.append(f"{block}: {'lost' if kind == 'lost' else 'mended, bit ' + rest[2]}")
-        assert [part for part in row[3].split(" | ") if ":" in part] == told
+        assert [part for part in row[4].split(" | ") if ":" in part] == told
     # each damaged pixel has its place
     pixels = [re.findall(r"Frame (\d+), row (\d+), pixel (\d+)", row[2]) for row in page.rows("fault-table")]
     pixels = [tuple(map(int, one[0])) for one in pixels if one]
@@ -330,6 +333,7 @@ def test_a_slipped_capture(report, tool, program, sent, tmp_path):
     assert [row[0].split(",")[0] for row in page.rows("fault-table") if row[0].startswith("slip")] == [
         "slip of lane 2 (red)"
     ]
+    assert page.text("slips-say") == "1 slip, 1 aligned anew."
     assert "broken off by a slip" in "".join(page.run("return data.frames.map((one) => one.says)"))
 
 
@@ -380,12 +384,24 @@ def test_contents_that_are_wrong(report, program):
     told = Counter(
         line.split(" ")[1] for line in texts(program("recover", "content", source=capture, status=1)) if line[0] == "!"
     )
-    page = report(capture)
+    page = report(capture, 1)
     cells = page.run(
         "return [...document.querySelectorAll('#faults .matrix tbody tr')].map((row) => [row.cells[0].textContent, Number(row.cells[1].textContent)])"
     )
     assert dict(cells) == told and set(told) == {"checksum", "length", "parity", "uneven", "layout", "depth"}
-    assert "Clean" in page.text("verdict")
+    assert "Contents wrong" in page.text("verdict") and page.text("no-faults") == "No fault was told."
+    says = "The link is clean, its contents are not: 1 length, 1 checksum, 1 parity, 1 layout, 1 uneven, 1 depth."
+    assert page.run("return document.querySelector('header .says').textContent") == says
+    assert page.run("return document.querySelector('header').className") == "contents" and page.count("contents") == 6
+
+
+def test_a_frame_of_another_size_than_its_infoframe_says(report, tool, program, sent):
+    """VIC 16 over 32 by 24 pixels, in each frame: the link is clean."""
+    listing = re.sub(rb"\navi [^\n]*", b"\navi 2 0 1 0 8 0 0 0 0 0 0 16 0 0 0 0 0", sent)
+    content = program("recover", "content", source=(capture := program("make", "content", source=listing)), status=1)
+    page = report(capture, 1)
+    says = page.run("return document.querySelector('header .says').textContent")
+    assert says == f"The link is clean, its contents are not: {content.count(b'! vic 16')} vic." and b"! vic 16" in content
 
 
 def test_pictures_have_room(monkeypatch):
@@ -413,3 +429,161 @@ def test_refused(tool, program, tmp_path):
     tool("report", status=2)
     tool("report", path, "--clock", 0, status=2)
     assert tool("report", "--help").stdout.startswith(b"usage: report")
+
+
+def at(lane, row, pixel, frame=2):
+    """The place in a lane, without skew, of a pixel's character."""
+    return f"{lane}:{10 * ((frame * DOWN + FIRST_ROW + row) * ACROSS + FIRST_PIXEL + pixel)}"
+
+
+def test_slips_past_which_nothing_aligns(report, tool, program, sent):
+    """Lane 1 loses nine bits in each of nine rows: 70 bits is the greatest skew, so after the eighth nothing aligns."""
+    capture = program("make", "content", source=sent)
+    for row in range(9, 0, -1):
+        capture = program("slip", at(1, row, 10) + ":9", source=capture)
+    track = texts(program("recover", "track", source=capture, status=1))
+    places = [int(line.split(" ")[3]) for line in track if line.startswith("! slip ")]
+    bits = [10 * ACROSS * DOWN * 5 + 320 - place for place in (places[7], places[7] + 81, places[7])]
+    page = report(capture, 1)
+    told = f"9 slips, 7 aligned anew, none from place {places[7]:,} on: {bits[0]:,}, {bits[1]:,} and {bits[2]:,} bits of the lanes"
+    assert len(places) == 9 and page.text("slips-say") == f"{told} are not shown."
+    assert told in page.run("return document.querySelector('header .says').textContent")
+    card = page.run("return document.querySelector('#count-slips').nextElementSibling.textContent")
+    assert card == f"7 aligned anew, none from place {places[7]:,} on"
+    rows = [row for row in page.rows("fault-table") if row[0].startswith("slip")]
+    assert ["not aligned anew" in row[0] for row in rows] == [False] * 7 + [True] * 2
+    # the timeline has the bits that are not shown, and says so
+    columns = page.run("return data.columns")
+    assert columns == page.count("columns") + sum(-(-one // 10) for one in (places[8] - places[7], max(bits) - places[8] + places[7]))
+    time = page.driver.find_element(By.ID, "time")
+    page.run("pointTo(data.columns - 5)")
+    assert "not aligned" in time.get_attribute("aria-valuetext") and "nothing is shown" in time.get_attribute("aria-valuetext")
+
+
+def test_bits_between_slips_that_are_not_shown(report, program, sent):
+    """Lane 0 loses what lane 1 had lost, so that the lanes align anew."""
+    capture = program("make", "content", "--skew", "0,68,68", source=sent)
+    for word in (at(0, 15, 10) + ":5", at(1, 5, 10) + ":5"):
+        capture = program("slip", word, source=capture)
+    track = texts(program("recover", "track", source=capture, status=1))
+    first, last = (int(line.split(" ")[3]) for line in track if line.startswith("! slip "))
+    page = report(capture, 1)
+    assert page.text("slips-say") == f"2 slips, 1 aligned anew: {last - first:,} bits a lane between slips are not shown."
+    assert page.count("columns") == page.run("return data.columns") - -(-(last - first) // 10)
+    assert "alignment 2" in page.run("pointTo(data.columns - 5); return document.getElementById('time').ariaValueText")
+    assert page.count("frames") == sum(line["whole"] for line in page.run("return data.frames"))
+
+
+def test_the_timeline_is_zoomed_about_what_is_seen(report, program, sent):
+    """About the cursor where it is in view, else about the middle; the wheel zooms with Ctrl or where it was zoomed."""
+    page = report(program("make", "content", source=sent))
+    view = lambda: page.run("return [time.first, time.last]")  # noqa: E731
+    wheel = """const event = new WheelEvent("wheel", { deltaY: arguments[0], ctrlKey: arguments[1], cancelable: true, clientX: 640 });
+        return [document.getElementById("time").dispatchEvent(event), time.last - time.first]"""
+    columns = page.run("return data.columns")
+    assert page.run(wheel, -100, False) == [True, columns]  # the page scrolls
+    assert page.run(wheel, -100, True) == [False, pytest.approx(0.8 * columns)]
+    assert page.run(wheel, -100, False) == [False, pytest.approx(0.64 * columns)]
+    for _ in range(9):
+        page.run(wheel, 100, False)
+    assert page.run(wheel, 100, False) == [True, columns]
+    page.run("pointTo(1000)")
+    page.click("zoom-in")
+    assert view()[0] == pytest.approx(500) and view()[1] - view()[0] == pytest.approx(columns / 2)
+    page.run("look(data.columns / 2, data.columns / 4)")
+    first, last = view()
+    page.click("zoom-in")
+    assert view() == [pytest.approx(first + columns / 16), pytest.approx(last - columns / 16)]
+    page.click("zoom-out")
+    assert view() == [pytest.approx(first), pytest.approx(last)]
+
+
+def typed(page, css, text):
+    """Writes into a field that searches."""
+    field = page.driver.find_element(By.CSS_SELECTOR, f"{css} input[type=search]")
+    page.run("arguments[0].value = arguments[1]; arguments[0].dispatchEvent(new Event('input'))", field, text)
+    return field
+
+
+def test_text_is_found(report, program, sent):
+    capture = program("damage", *hits(), source=program("make", "content", "--skew", "0,70,35", source=sent))
+    lines = texts(program("recover", "link", source=capture, status=1))
+    page = report(capture, 1)
+    every = len(page.rows("packet-table"))
+    typed(page, "#packet-table", "N 6144")
+    assert {row[0] for row in page.rows("packet-table")} == {"Audio clock"}
+    header = next(line.split(" ")[1] for line in lines if line.startswith("p 84"))
+    for text in (header, f"{header[:2]} {header[2:4]} {header[4:]}"):
+        typed(page, "#packet-table", text)
+        assert {row[0] for row in page.rows("packet-table")} == {"Audio InfoFrame"}
+    typed(page, "#packet-table", "")
+    assert len(page.rows("packet-table")) == every
+    typed(page, "#fault-table", "MENDED")
+    assert {row[0].split(":")[0] for row in page.rows("fault-table")} == {"mended"}
+    typed(page, "#fault-table", "no such text")
+    assert page.rows("fault-table") == []
+    field = typed(page, "#lines", "! code")
+    here = "return Number(document.querySelector('.is-here').id.slice(1))"
+    wanted = [number for number, line in enumerate(lines, 1) if "! code" in line]
+    field.send_keys(Keys.ENTER)
+    assert page.run(here) == wanted[0]
+    field.send_keys(Keys.ENTER, Keys.ENTER)
+    assert page.run(here) == wanted[2]
+    assert f"3 of {len(wanted)}" in page.text("lines")
+
+
+def test_faults_and_packets_are_saved(report, program, sent, tmp_path):
+    """As they are chosen, a line each, with what the listing says."""
+    capture = program("damage", *hits(), source=program("make", "content", "--skew", "0,70,35", source=sent))
+    lines = texts(program("recover", "link", source=capture, status=1))
+    page = report(capture, 1)
+    page.driver.execute_cdp_cmd("Browser.setDownloadBehavior", {"behavior": "allow", "downloadPath": str(tmp_path)})
+
+    def saved(name):
+        path = tmp_path / f"a-{name}.csv"
+        page.run("document.querySelector(arguments[0]).click()", f"#{name[:-1]}-table .save")
+        WebDriverWait(page.driver, HANGS).until(lambda _: path.exists() and path.stat().st_size)
+        with open(path, newline="") as file:
+            rows = list(csv.DictReader(file))
+        path.unlink()
+        return rows
+
+    faults = saved("faults")
+    assert [(int(row["line"]), row["fault"]) for row in faults] == [
+        (number, line.split(" ")[1]) for number, line in enumerate(lines, 1) if line.startswith("! ")
+    ]
+    for row in faults:
+        kind, *numbers = lines[int(row["line"]) - 1].split(" ")[1:]
+        assert row["column"] == numbers[kind in ("word", "code")] and row["lane"] == (numbers[0] if kind in ("word", "code") else "")
+    assert [(row["row"], row["pixel"]) for row in faults if row["pixel"]] == [
+        (str(row), str(3 * row % 32)) for row in range(0, 24, 5)
+    ]
+    packets = saved("packets")
+    assert [[row[name] for name in ("header", "body 0", "body 1", "body 2", "body 3")] for row in packets] == [
+        line.split(" ")[1:6] for line in lines if line.startswith("p ")
+    ]
+    assert sum(row["body 0 is"] == "lost" for row in packets) == sum(
+        line.startswith("! lost") and line.endswith(" 0") for line in lines
+    )
+    typed(page, "#packet-table", "N 6144")
+    assert {row["text"] for row in saved("packets")} == {"N 6144, CTS 3600"}
+
+
+def test_narrow_and_wide(report, program, sent):
+    """Nothing is wider than a window of 390 pixels, and no number of the cards is broken or cut."""
+    capture = program("damage", *hits(), source=program("make", "content", "--skew", "0,70,35", source=sent))
+    page = report(capture, 1)
+    try:
+        for width in (390, 1280):
+            page.driver.execute_cdp_cmd(
+                "Emulation.setDeviceMetricsOverride", {"width": width, "height": 844, "deviceScaleFactor": 1, "mobile": False}
+            )
+            page.run(
+                "const one = document.getElementById('count-columns'); one.textContent = '429,496,729'; one.style.setProperty('--size', 11)"
+            )
+            assert page.run("return innerWidth") == width
+            assert page.run("return document.documentElement.scrollWidth - document.documentElement.clientWidth") == 0
+            tall = "return [...document.querySelectorAll('.cards b')].filter((one) => one.scrollWidth > one.clientWidth || one.clientHeight > 40).length"
+            assert page.run(tall) == 0
+    finally:
+        page.driver.execute_cdp_cmd("Emulation.clearDeviceMetricsOverride", {})

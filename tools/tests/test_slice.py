@@ -13,6 +13,9 @@ from channel import Channel
 
 sys.path.append(str(Path(__file__).resolve().parents[1]))
 import capture  # noqa: E402
+import loops  # noqa: E402
+import recovery  # noqa: E402
+import waveform  # noqa: E402
 
 EXAMPLES = Path(__file__).resolve().parents[2] / "examples"
 SKEW = (0.0, 6.9, 3.8)
@@ -245,7 +248,9 @@ def test_figures_and_eyes(tool, sent, tmp_path):
     """A channel without trouble but random jitter of 0.02 unit intervals RMS; the levels and the rate are those given."""
     waves, _ = Channel(20.3, random=0.28, bandwidth=2.0, offset=1.0, swing=0.5).waves(sent)
     came = tool("slice", saved(tmp_path / "a.npy", waves), "--rate", 1e9, "--eye", tmp_path / "eye.png")
-    for lane, line in enumerate(came.stderr.decode().splitlines()):
+    lines = [line for line in came.stderr.decode().splitlines() if not line.startswith("slice: Debian's package")]
+    assert len(lines) == 3
+    for lane, line in enumerate(lines):
         assert line.startswith(f"lane {lane}: ") and "49.261" in line and "20.3 samples a bit" in line
         words = line.replace(",", "").split()
         assert 0.015 < float(words[words.index("jitter") + 1]) < 0.03
@@ -270,11 +275,11 @@ def test_files_that_are_refused(tool, plain, tmp_path):
         ("back.csv", b"t,a\n0,1\n0,1\n", b"do not rise"),
         ("uneven.csv", b"t,a\n0,1\n1,1\n2,1\n900,1\n", b"not evenly spaced"),
         ("no.vcd", b"$var wire 1 ! a $end\n", b"no value change dump"),
-        ("back.vcd", b"$timescale 1 ns $end $var wire 1 ! a $end $enddefinitions $end\n#5\n1!\n#3\n0!\n", b"no time"),
+        ("back.vcd", b"$timescale 1 ns $end $var wire 3 ! a $end $enddefinitions $end\n#5\n1!\n#3\n0!\n", b"no time"),
         ("no.what", b"no", b"its name ends in none of"),
     ):
         (tmp_path / name).write_bytes(data)
-        assert says in tool("slice", tmp_path / name, "--lanes", "0,0,0", status=3).stderr
+        assert says in tool("slice", tmp_path / name, status=3).stderr
     tool("slice", tmp_path / "missing.npy", status=3)
     tool("slice", saved(tmp_path / "one.npy", waves[:, 0]), status=3)
     assert b"there is no channel `3`" in tool("slice", path, "--lanes", "0,1,3", status=3).stderr
@@ -291,6 +296,58 @@ def test_files_that_are_refused(tool, plain, tmp_path):
     assert b"no whole number of samples" in tool("slice", path, "--raw", "int16", "--channels", 7, status=3).stderr
 
 
+@pytest.mark.parametrize("lanes", ["0,1,0", "D0P,D2P,0", "0-1,0,2", "0-1,1-0,2", "0,-0,2", "0-1,2-3,3-2"])
+def test_a_channel_that_is_named_twice(tool, plain, tmp_path, lanes):
+    waves, _, _ = plain
+    path = write_csv(tmp_path / "a.csv", ["t", "D0P", "D0N", "D1P", "D2P"], 1, np.column_stack([waves, waves[:, 0]]))
+    assert b" is named twice" in tool("slice", path, "--lanes=" + lanes, status=3).stderr
+
+
+def test_a_clock_that_is_a_lane_too(tool, plain, tmp_path):
+    waves, _, _ = plain
+    path = saved(tmp_path / "a.npy", waves)
+    assert b"the channel `1` is named twice" in tool("slice", path, "--clock", 1, status=3).stderr
+
+
+def test_lanes_against_one_wire(tool, plain, tmp_path):
+    """A second wire may be that of many lanes."""
+    waves, first, sent = plain
+    path = saved(tmp_path / "a.npy", np.column_stack([waves + 50, np.full(len(waves), 50)]))
+    assert_like(sent, first, tool("slice", path, "--lanes", "0-3,1-3,2-3").stdout)
+
+
+def random_lanes(bits):
+    """Three lanes of random bits; the tools look at no character."""
+    return list(np.random.default_rng(9).integers(0, 2, (3, bits)).astype(bool))
+
+
+@pytest.mark.parametrize("samples", [1.3, 1.8, 2.1, 2.3, 2.55])
+def test_few_samples_ask_for_a_clock(tool, tmp_path, samples):
+    lanes = random_lanes(20_000)
+    channel = Channel(samples, random=0.1, noise=0.02, skew=SKEW)
+    waves, first = channel.waves(lanes)
+    path = saved(tmp_path / "a.npy", np.column_stack([waves, channel.clock(len(lanes[0]), len(waves))]))
+    said = tool("slice", path, status=3).stderr
+    assert b"lane 0: its edges " in said and b"; under 2.6 the clock's channel is wanted, with --clock\n" in said
+    if samples > 2:
+        assert_like(lanes, first, tool("slice", path, "--clock", 3).stdout)
+
+
+def test_a_lane_of_another_rate(tool, tmp_path):
+    """The clock's wire as a lane, and a lane that is 0.2 percent faster; one that is 0.05 percent faster is let pass."""
+    lanes = random_lanes(20_000)
+    channel = Channel(5.3, noise=0.02)
+    waves, _ = channel.waves(lanes)
+    path = saved(tmp_path / "a.npy", np.column_stack([waves, channel.clock(len(lanes[0]), len(waves))]))
+    said = tool("slice", path, "--lanes", "0,1,3", status=1).stderr.splitlines()[-1]
+    assert said.startswith(b"slice: the bit rates of the lanes differ by 400 percent: bits are wrong, or a channel is no")
+    for part, status in ((0.002, 1), (0.0005, 0)):
+        other, _ = Channel(5.3 * (1 + part), noise=0.02).waves(lanes)
+        path = saved(tmp_path / "a.npy", np.column_stack([waves[:, :2], other[: len(waves), 2]]))
+        said = tool("slice", path, status=status).stderr
+        assert (b"differ by 0.2 percent" in said) == (status == 1)
+
+
 def test_bad_words(tool, tmp_path):
     path = saved(tmp_path / "a.npy", np.zeros((9, 3)))
     for words in (["--lanes", "0,1"], ["--raw", "int8"], ["--channels", 3], ["--piece", 1], ["--rate", 0]):
@@ -301,3 +358,118 @@ def test_bad_words(tool, tmp_path):
 
 def test_help(tool):
     assert tool("slice", "--help").stdout.startswith(b"usage: slice")
+
+
+@pytest.fixture
+def without_numba(tmp_path, monkeypatch):
+    """Takes numba away from what is run."""
+
+    def take():
+        (tmp_path / "none").mkdir(exist_ok=True)
+        (tmp_path / "none" / "numba.py").write_text("raise ImportError\n")
+        monkeypatch.setenv("PYTHONPATH", str(tmp_path / "none"))
+
+    return take
+
+
+TROUBLES = [
+    dict(samples=2.71, random=0.1, skew=SKEW),
+    dict(samples=4.13, **HARD),
+    dict(samples=7.77, **HARD),
+    dict(samples=13.2, random=0.4, noise=0.15),  # bits are wrong, and the same ones
+    dict(samples=39.87, **HARD),
+]
+
+
+@pytest.mark.parametrize("has_clock", [False, True])
+@pytest.mark.parametrize("words", TROUBLES, ids=lambda words: f"{words['samples']}")
+def test_numba_makes_no_difference(tool, without_numba, tmp_path, words, has_clock):
+    """The same bits to the last, and the same figures, with it and without it."""
+    pytest.importorskip("numba")
+    lanes = random_lanes(12_000)
+    channel = Channel(**words)
+    waves, _ = channel.waves(lanes)
+    waves = np.column_stack([waves, channel.clock(len(lanes[0]), len(waves))]).astype(np.float32)
+    given = [saved(tmp_path / "a.npy", waves), "--piece", 9001, *(["--clock", 3] if has_clock else [])]
+    status = 1 if "random" in words and words["samples"] == 13.2 else 0
+    fast = tool("slice", *given, status=status)
+    without_numba()
+    slow = tool("slice", *given, status=status)
+    assert fast.stdout == slow.stdout and len(fast.stdout) > 4000
+    said, *figures = slow.stderr.splitlines()
+    assert said == b"slice: Debian's package python3-numba is not here: with it this takes a fraction of the time"
+    assert figures == fast.stderr.splitlines()
+
+
+@pytest.fixture
+def trace():
+    """Levels of tenths, many of them alike or on a threshold, from moment 100 on."""
+    levels = np.round(np.cumsum(np.random.default_rng(2).standard_normal(3000)) % 3, 1)
+    return recovery.Trace(waveform.Piece(100, levels[:, None]), waveform.Channel(0, None))
+
+
+def all_ways(monkeypatch, loop, write, by_numpy):
+    """What a loop writes as Python's own and compiled, and what NumPy finds in its place."""
+    pytest.importorskip("numba")
+    found = [write(loop), write(loops.fast(loop))]
+    monkeypatch.setattr(loops, "fast", lambda _: None)
+    return [*found, by_numpy()]
+
+
+@pytest.mark.parametrize("side", [False, True])
+def test_edges_are_the_same_all_ways(monkeypatch, trace, side):
+    low, high = np.float32(0.5), np.float32(2.0)
+
+    def write(loop):
+        moments = np.zeros(3000)
+        return moments[: loop(trace.values, 1, side, low, high, 100.0, moments)]
+
+    trace.new = 1
+    one, *others = all_ways(monkeypatch, loops.cross, write, lambda: recovery.crossed(trace, side, low, high))
+    assert len(one) > 100 and all(np.array_equal(one, other) for other in others)
+
+
+@pytest.mark.parametrize("has_clock", [False, True])
+def test_bits_are_the_same_all_ways(monkeypatch, trace, has_clock):
+    """Also where two edges lie in one bit, and where bits lie before the first edge or past the last value."""
+    noise = np.random.default_rng(4)
+    numbers = np.cumsum(noise.integers(0, 5, 200))
+    track = recovery.Track(110 + 7.3 * numbers + noise.standard_normal(200), numbers, noise.uniform(7, 8, 200), None)
+    lane = recovery.Lane("a lane", None)
+    lane.trace, lane.levels = trace, recovery.Levels(0, 3)
+    lane.written.write(np.zeros(3, bool))
+    base = recovery.Freely()
+    if has_clock:
+        base = recovery.Clock(None)
+        base.track = recovery.Track(np.arange(90.0, 3000, 9.7), np.arange(300)[:300], np.full(300, 9.7), None)
+
+    def write(loop):
+        ones = np.zeros(447, bool)
+        ends = loop(trace.values, 100.0, track[:3], base.track[:3], 3, 1.5, ones)
+        return ones.tolist(), *ends
+
+    def by_numpy():
+        ones, *ends = lane.sampled(track, base, 450)
+        return ones.tolist(), *ends
+
+    one, *others = all_ways(monkeypatch, loops.sample, write, by_numpy)
+    assert 100 < sum(one[0]) < 400 and all(one == other for other in others)
+
+
+def test_what_is_compiled_is_kept(tool, plain, tmp_path, monkeypatch):
+    """In a folder of the user's, once; where none can be written, or what is kept is torn, it is compiled anew."""
+    pytest.importorskip("numba")
+    waves, first, sent = plain
+    path = saved(tmp_path / "a.npy", waves)
+    monkeypatch.delenv("NUMBA_CACHE_DIR", raising=False)
+    monkeypatch.setenv("XDG_CACHE_HOME", str(tmp_path / "cache"))
+    kept = []
+    for _ in range(2):
+        assert_like(sent, first, tool("slice", path).stdout)
+        kept.append({it: it.stat().st_mtime_ns for it in (tmp_path / "cache" / "vabgrot").rglob("*.nb*")})
+    assert kept[0] == kept[1] and len(kept[0]) == 6
+    for it in kept[0]:
+        it.write_bytes(it.read_bytes()[:50])
+    assert_like(sent, first, tool("slice", path).stdout)
+    monkeypatch.setenv("XDG_CACHE_HOME", str(path))
+    assert_like(sent, first, tool("slice", path).stdout)

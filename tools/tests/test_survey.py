@@ -100,9 +100,28 @@ def test_each_capture_is_judged(tool, folder, tmp_path):
     island = {"verdict": "faulty", "columns": "75", "islands": "1", "packets": "1", "symbols": "1", "mended": "1"}
     assert taken(rows["island.tmc"], island) == island
     assert taken(rows["none.tmc"], ["verdict", "note"]) == {"verdict": "unaligned", "note": "no alignment"}
-    assert taken(rows["short.tmc"], ["verdict", "note"]) == {"verdict": "refused", "note": "input: short 109"}
+    note = "no whole capture: it ends after 109 bytes, in its header or before the end that the header names (input: short 109)"
+    assert taken(rows["short.tmc"], ["verdict", "note"]) == {"verdict": "refused", "note": note}
     page = (tmp_path / "survey.html").read_text()
     assert "<h1>16 captures: 12 clean, 2 faulty, 1 refused, 1 unaligned</h1>" in page and page.count("<tr class=") == 16
+
+
+def test_a_clean_link_with_wrong_contents(tool, program, folder, tmp_path):
+    """Each AVI InfoFrame and one sample are wrong, which the link carried as it was given."""
+    sums = "p 82020d 67000800010000 00000000000000 00000000000000 00000000000000 " + "0" * 32
+    odd = "p 020110 56341200000088 00000000000000 00000000000000 00000000000000 " + "0" * 32
+    lines = ["c 00 4", "c 14 8", "i 00", sums, sums, odd, "e 00", "c 00 12", "end"]
+    capture = folder / "contents.tmc"
+    capture.write_bytes(program("make", "link", source="".join(f"{line}\n" for line in lines).encode()))
+    table = tmp_path / "survey.csv"
+    words = [capture, folder / "red00.tmc", "-o", table, "--program", built()]
+    came = tool("survey", *words, status=1)
+    assert came.stderr == b"2 captures, 2 judged now: 1 clean, 1 contents\n"
+    wanted = {"verdict": "contents", "note": "", "faults": "0", "contents": "3", "checksum": "2", "parity": "1", "vic": "0"}
+    assert taken(rows_of(table)["contents.tmc"], wanted) == wanted
+    assert rows_of(table)["red00.tmc"]["contents"] == "0"
+    assert b"2 captures, 0 judged now: 1 clean, 1 contents" in tool("survey", *words, status=1).stderr
+    assert '<tr class="contents">' in (tmp_path / "survey.html").read_text()
 
 
 def test_what_is_done_and_unchanged_is_kept(tool, folder, program, tmp_path):
@@ -136,10 +155,10 @@ def test_one_processor_each(tool, folder, tmp_path):
     came = subprocess.run([*map(str, words), "--program", program], capture_output=True)
     assert came.returncode == 1, came.stderr
     used = asked.read_text().split()
-    assert len(used) == 32 and set(used) == set(map(str, places))
+    assert len(used) == 48 and set(used) == set(map(str, places))
     words[2] = str(places[0])
     subprocess.run([*map(str, words), "--program", program, "--anew"], capture_output=True)
-    assert asked.read_text().split()[32:] == [str(places[0])] * 32
+    assert asked.read_text().split()[48:] == [str(places[0])] * 48
 
 
 @pytest.mark.skipif(shutil.which("taskset") is None, reason="taskset of util-linux is missing")
@@ -245,7 +264,7 @@ def test_what_is_refused(tool, folder, tmp_path):
     ):
         (tmp_path / "empty").mkdir(exist_ok=True)
         assert says in tool("survey", *places, "-o", table, *words, status=3).stderr
-    assert b"no such program" in tool("survey", folder, "-o", table, "--program", folder, status=3).stderr
+    assert b"there is no program" in tool("survey", folder, "-o", table, "--program", folder, status=3).stderr
     table.write_text("a,b\n1,2\n")
     assert b"no table of a survey" in tool("survey", folder, "-o", table, *words, status=3).stderr
     assert table.read_text() == "a,b\n1,2\n"

@@ -1,0 +1,133 @@
+#!/usr/bin/python3
+"""Makes the README's picture of a report anew: runs the commands of the README in a folder of their own, opens the page that
+they write in headless Chromium, and writes docs/report.png and docs/report.txt.
+
+    docs/picture.py             writes the two files
+    docs/picture.py --text      writes what the page says to standard output, and no file
+
+The text file has what the page says above the end of the picture: verdict, counts, notes, names. It stands in the picture's
+file too (as its Description), so that tools/tests/test_picture.py notices a picture whose page has changed since. The
+program is the one that VABGROT_PROGRAM names, or that ./vabgrot builds. Needs Debian's packages chromium, chromium-driver,
+python3-selenium, and those of the tools."""
+
+import argparse
+import io
+import os
+import re
+import subprocess
+import sys
+import tempfile
+from contextlib import contextmanager
+from pathlib import Path
+
+from PIL import Image, PngImagePlugin
+from selenium import webdriver
+from selenium.common.exceptions import WebDriverException
+from selenium.webdriver.chrome.service import Service
+from selenium.webdriver.common.by import By
+from selenium.webdriver.support.ui import WebDriverWait
+
+TOP = Path(__file__).resolve().parents[1]
+BUILT = TOP / "crates" / "hdmi_cli" / "out" / "hdmi_cli"
+PICTURE, TEXT = TOP / "docs" / "report.png", TOP / "docs" / "report.txt"
+HEADING, PAGE = "## A picture there and back", "walk/damaged.html"
+WIDTH, HEIGHT = 1280, 1830
+WAITS = 300  # seconds for the page, also on a slow machine
+COLOURS = 256
+FAULT, ZOOMS = 197, 4  # which fault is shown, and how often the timeline is enlarged about it
+PARTS = ("header", "section[aria-labelledby=h-counts]", "#pictures", "#timeline")
+WORDS = ("headless=new", "no-sandbox", "disable-gpu", "disable-dev-shm-usage", "hide-scrollbars", "force-device-scale-factor=1")
+
+
+def commands():
+    """The first commands below the heading."""
+    _, _, behind = (TOP / "README.md").read_text("utf-8").partition(f"{HEADING}\n")
+    block = re.search(r"(?ms)^```\n(.*?)^```$", behind)
+    if not block:
+        sys.exit(f"picture.py: README.md has no commands below `{HEADING}`")
+    return block[1]
+
+
+def walked(folder):
+    """The page that the commands write in a folder, which gets links to what they name."""
+    program = Path(os.environ.get("VABGROT_PROGRAM", BUILT)).resolve()
+    if not program.is_file():
+        sys.exit(f"picture.py: there is no program {program}: `./vabgrot` builds it, or VABGROT_PROGRAM names one")
+    for name in ("tools", "docs", "examples"):
+        (folder / name).symlink_to(TOP / name)
+    (folder / "vabgrot").symlink_to(program)
+    env = os.environ | {"VABGROT_PROGRAM": str(program)}
+    ran = subprocess.run(["bash", "-c", commands()], cwd=folder, env=env, capture_output=True, text=True)
+    page = folder / PAGE
+    if not page.is_file():
+        sys.exit(f"picture.py: the commands of README.md wrote no {PAGE}:\n{ran.stderr}")
+    return page
+
+
+@contextmanager
+def browser():
+    options = webdriver.ChromeOptions()
+    for word in (*WORDS, f"window-size={WIDTH},{HEIGHT}"):
+        options.add_argument(f"--{word}")
+    options.binary_location = "/usr/bin/chromium"
+    driver = webdriver.Chrome(options=options, service=Service("/usr/bin/chromedriver"))
+    try:
+        yield driver
+    finally:
+        driver.quit()
+
+
+def show(driver, page):
+    """Opens the page, in bright colours, at one of its faults."""
+    scheme = [{"name": "prefers-color-scheme", "value": "light"}, {"name": "prefers-reduced-motion", "value": "reduce"}]
+    size = {"width": WIDTH, "height": HEIGHT, "deviceScaleFactor": 1, "mobile": False}
+    driver.execute_cdp_cmd("Emulation.setEmulatedMedia", {"features": scheme})
+    driver.execute_cdp_cmd("Emulation.setDeviceMetricsOverride", size)
+    driver.get(page.as_uri())
+    WebDriverWait(driver, WAITS).until(lambda it: it.execute_script("return document.documentElement.dataset.ready") == "yes")
+    press = "for (let left = arguments[1]; left > 0; left--) document.getElementById(arguments[0]).click()"
+    for button, times in (("pixel-on", FAULT), ("fault-on", FAULT), ("zoom-in", ZOOMS)):
+        driver.find_element(By.ID, button)
+        driver.execute_script(press, button, times)
+    settled = "const done = arguments[0]; scrollTo(0, 0); document.activeElement.blur(); setTimeout(() => requestAnimationFrame(done), 300)"
+    driver.execute_async_script(settled)
+
+
+def text_of(driver):
+    """What the page says in the parts that the picture shows, a line each."""
+    texts = (driver.find_element(By.CSS_SELECTOR, part).get_property("innerText") for part in PARTS)
+    lines = (" ".join(line.split()) for text in texts for line in text.splitlines())
+    return "".join(f"{line}\n" for line in lines if line)
+
+
+def picture_of(driver, text):
+    """The page's picture as the bytes of a PNG file that has the text in it."""
+    image = Image.open(io.BytesIO(driver.get_screenshot_as_png())).convert("RGB")
+    image = image.crop((0, 0, WIDTH, HEIGHT)).quantize(COLOURS, dither=Image.Dither.NONE)
+    info = PngImagePlugin.PngInfo()
+    info.add_itxt("Description", text, zip=True)
+    out = io.BytesIO()
+    image.save(out, "PNG", optimize=True, pnginfo=info)
+    return out.getvalue()
+
+
+def main():
+    parser = argparse.ArgumentParser(description=__doc__, formatter_class=argparse.RawDescriptionHelpFormatter)
+    parser.add_argument("--text", action="store_true", help="write what the page says to standard output, and no file")
+    args = parser.parse_args()
+    try:
+        with tempfile.TemporaryDirectory() as folder, browser() as driver:
+            show(driver, walked(Path(folder)))
+            text = text_of(driver)
+            picture = picture_of(driver, text)
+    except WebDriverException as why:
+        sys.exit(f"picture.py: {str(why.msg).splitlines()[0]}")
+    if args.text:
+        sys.stdout.write(text)
+        return
+    PICTURE.write_bytes(picture)
+    TEXT.write_text(text, "utf-8")
+
+
+if __name__ == "__main__":
+    main()
