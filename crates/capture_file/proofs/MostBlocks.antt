@@ -4,7 +4,7 @@ use Rattle.std.specs.Prelude.{◌⊎◌, slice_index}
 use Rattle.std.proofs.lemmas.Bool.{cases_lt}
 use Rattle.std.proofs.lemmas.List.{take-append-le}
 use Rattle.capture_file.specs.Layout.{packed, blocks_below}
-use Rattle.capture_file.specs.Captures.{IsCapture, BeginsCapture, StopsAt, IsFault, HasRead, bits_in, block_size, place_of}
+use Rattle.capture_file.specs.Captures.{BeginsCapture, StopsAt, IsFault, HasRead, bits_in, block_size, place_of}
 use Rattle.capture_file.specs.Laws.{IsReadBefore}
 use Rattle.capture_file.specs.declared.fault.CaptureFault.{CaptureFault}
 use Rattle.capture_file.specs.declared.fault.CaptureFault.TheVariants.{Magic, Version, Short, Padding, Trailing}
@@ -102,11 +102,11 @@ most_blocks bytes place taken rest counts took j x y z u v w is read before b =
     let lb = read_length b.counts k (length took) took u v w b.read in
     let there : (j ≤ k) ⊎ ((k ≡ j) ⊎ ((c ≤ 32768 * k) × (d ≤ 32768 * k) × (e ≤ 32768 * k))) = elim (cases_lt k j) [
       | inl less ↦ inr (stop_there c d e k j n place (omega (arith, less))
-        (elim (stops_within b.counts k took place b.stops) [
-          | inl inside ↦ inl (omega (arith, inside, lb))
-          | inr none ↦ inr none
-        ])
-        (omega (arith, before, la)))
+          (elim (stops_within b.counts k took place b.stops) [
+            | inl inside ↦ inl (omega (arith, inside, lb))
+            | inr none ↦ inr none
+          ])
+          (omega (arith, before, la)))
       | inr le ↦ inl le
     ] in
     no_longer c d e j k x y z u v w there
