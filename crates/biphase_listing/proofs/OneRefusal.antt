@@ -1,5 +1,5 @@
 -- Bytes are refused as frames for one fault at most, after one list of samples.
-use Rattle.std.proofs.Common.{◌≡◌, ℕ, ◌<◌, List, refl, ap, sym, ◌∙◌, subst, arith, inl, inr}
+use Rattle.std.proofs.Common.{◌≡◌, ℕ, List, refl, ap, sym, ◌∙◌, subst, arith, inl, inr}
 use Rattle.std.proofs.lemmas.Bool.{cases_lt}
 use Rattle.audio_packets.specs.declared.sample.Sample.{Sample}
 use Rattle.biphase_listing.specs.Groups.{AreFrames}

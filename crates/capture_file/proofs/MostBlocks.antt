@@ -4,7 +4,7 @@ use Rattle.std.specs.Prelude.{◌⊎◌, slice_index}
 use Rattle.std.proofs.lemmas.Bool.{cases_lt}
 use Rattle.std.proofs.lemmas.List.{take-append-le}
 use Rattle.capture_file.specs.Layout.{packed, blocks_below}
-use Rattle.capture_file.specs.Captures.{IsCapture, BeginsCapture, StopsAt, IsFault, HasRead, bits_in, block_size, place_of}
+use Rattle.capture_file.specs.Captures.{BeginsCapture, StopsAt, IsFault, HasRead, bits_in, block_size, place_of}
 use Rattle.capture_file.specs.Laws.{IsReadBefore}
 use Rattle.capture_file.specs.declared.fault.CaptureFault.{CaptureFault}
 use Rattle.capture_file.specs.declared.fault.CaptureFault.TheVariants.{Magic, Version, Short, Padding, Trailing}

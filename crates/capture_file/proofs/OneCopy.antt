@@ -1,19 +1,18 @@
 -- Of bytes there is one copy with hits at most, one first hit past its lane, one damaged copy before a place, and one without a slip.
-use Rattle.std.proofs.Common.{◌≡◌, ℕ, ◌+◌, ◌-◌, ◌*◌, ◌<◌, ◌≤◌, min, Bool, false, List, [], ◌++◌, length, refl, ap, ap₂, ◌∙◌, sym, subst, arith, inl, inr, append_assoc, append-nil, length-append, replicate}
+use Rattle.std.proofs.Common.{◌≡◌, ℕ, ◌+◌, ◌-◌, ◌*◌, ◌<◌, ◌≤◌, min, Bool, false, List, [], ◌++◌, length, refl, ap, ap₂, ◌∙◌, sym, arith, inl, inr, append_assoc, append-nil, length-append, replicate}
 use Rattle.std.proofs.lemmas.List.{length-replicate}
 use Rattle.std.specs.Prelude.{◌⊎◌, All, slice_index, slice_get, Some}
 use Rattle.std.proofs.lemmas.Bool.{cases_lt}
 use Rattle.std.proofs.lemmas.List.Elements.{All-get_or}
 use Rattle.std.proofs.lemmas.Option.{get_or_from_slice_get, slice_get_within}
 use Rattle.capture_file.specs.Layout.{packed, block, blocks_below}
-use Rattle.capture_file.specs.Captures.{counts_of, header_of, IsHeader, IsHeadless, HasRead, StopsIn, lane_blocks, layout, place_of}
+use Rattle.capture_file.specs.Captures.{counts_of, IsHeader, IsHeadless, lane_blocks, layout, place_of}
 use Rattle.capture_file.specs.Damage.{damaged}
-use Rattle.capture_file.specs.BlockDamage.{FitsLane, AllFitLanes, IsDamagedFront, IsDamagedCapture, AreWithinLanes, IsMisplacedIn, IsDamagedBefore, IsFaultyDamage}
-use Rattle.capture_file.specs.Laws.{AreSame, IsReadBefore}
+use Rattle.capture_file.specs.BlockDamage.{FitsLane, AllFitLanes, IsDamagedCapture, AreWithinLanes, IsMisplacedIn, IsDamagedBefore, IsFaultyDamage}
+use Rattle.capture_file.specs.Laws.{IsReadBefore}
 use Rattle.capture_file.specs.Slips.{slipped, IsSlippedCapture}
 use Rattle.capture_file.specs.declared.damaging.Hit.{Hit}
 use Rattle.capture_file.specs.declared.fault.CaptureFault.{CaptureFault}
-use Rattle.capture_file.proofs.Damages.{fits_same}
 use Rattle.capture_file.proofs.Fronts.{same_front}
 use Rattle.capture_file.proofs.Halfways.{lane_fits, damaged_all, same_long}
 use Rattle.capture_file.proofs.Heads.{SameHeads, same_heads}

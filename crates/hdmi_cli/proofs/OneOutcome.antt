@@ -1,5 +1,5 @@
 -- Words and bytes have one outcome.
-use Rattle.std.proofs.Common.{◌≡◌, ℕ, List, [], refl, ap, ◌∙◌, sym, subst, inl, inr}
+use Rattle.std.proofs.Common.{◌≡◌, ℕ, List, ◌∙◌, sym, subst, inl, inr}
 use Rattle.std.specs.Prelude.{map}
 use Rattle.island_pack.specs.Spelling.{Spells}
 use Rattle.source_end.specs.DviPeriods.{DviSpells}
@@ -16,7 +16,7 @@ use Rattle.relay_laws.proofs.OneSpelling.{one_spelling}
 use Rattle.hdmi_cli.specs.Commands.{hit_asked, tap_asked}
 use Rattle.hdmi_cli.specs.Listings.{link_listing, check_listing, content_listing, biphase_listing}
 use Rattle.hdmi_cli.specs.OneOutcome.{Decides, OneOutcome}
-use Rattle.hdmi_cli.specs.Outcome.{RunOutcome, Does, IsOutcome}
+use Rattle.hdmi_cli.specs.Outcome.{RunOutcome, Does}
 use Rattle.hdmi_cli.proofs.OneOutcomeCopies.{damages_once, lanes_asked, slips_once, frames_once}
 use Rattle.hdmi_cli.proofs.OneOutcomeLists.{lists_once, tracks_once}
 use Rattle.hdmi_cli.proofs.OneOutcomeMakes.{makes_once, content_once, one_dvi_spelling}

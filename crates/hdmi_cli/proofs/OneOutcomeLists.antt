@@ -1,6 +1,6 @@
 -- What captures are listed and tracked as is one outcome.
-use Rattle.std.proofs.Common.{◌≡◌, ◌⊎◌, ℕ, ◌<◌, Bool, List, [], ◌++◌, refl, ap, ap₂, ◌∙◌, sym, subst, arith, inl, inr, append_assoc}
-use Rattle.capture_file.specs.Captures.{IsCapture, IsCaptureOf, IsFault, IsHeadless, HasRead, StopsIn, place_of}
+use Rattle.std.proofs.Common.{◌≡◌, ℕ, Bool, List, [], ◌++◌, ap, ◌∙◌, sym, subst, arith, inl, inr, append_assoc}
+use Rattle.capture_file.specs.Captures.{IsCapture, IsCaptureOf, IsHeadless, HasRead, StopsIn, place_of}
 use Rattle.capture_file.specs.Layout.{packed, blocks_below}
 use Rattle.capture_file.specs.Laws.{AreSame, IsReadBefore}
 use Rattle.capture_file.specs.declared.fault.CaptureFault.{CaptureFault}
@@ -10,7 +10,6 @@ use Rattle.period_grammar.specs.Events.{Event}
 use Rattle.link_sink.specs.Grammar.{Grammar}
 use Rattle.link_sink.specs.Sinks.{Fed, IsReportedBy}
 use Rattle.link_sink.proofs.Following.{reported_one}
-use Rattle.track_sink.specs.Epochs.{IsTrack}
 use Rattle.track_laws.proofs.One.{one_track}
 use Rattle.hdmi_cli.specs.Blocks.{AreBefore, HasBlocks}
 use Rattle.hdmi_cli.specs.Listings.{Listing}
@@ -61,7 +60,7 @@ one_refusal g listing bytes f h o p a b =
     let events : a.events ≡ again.events = reported_one g a.fed a.events again.events a.reported (subst (λ x. IsReportedBy g x again.events) fed again.reported) in
     a.outcome_is ∙ ap (λ (es : List Event). record { status = 3; output = listing.lines es; note = capture_note f }) events ∙ sym again.outcome_is
 
-capture_of : (x y z : List Bool) (bytes : List ℕ) → IsCaptureOf x y z bytes → IsCapture bytes
+pub capture_of : (x y z : List Bool) (bytes : List ℕ) → IsCaptureOf x y z bytes → IsCapture bytes
 capture_of x y z bytes is = record { blue = x; green = y; red = z; holds = is }
 
 pub lists_once : (g : Grammar) (listing : Listing) (bytes : List ℕ) (o p : RunOutcome) → ListsCapture g listing bytes o → ListsCapture g listing bytes p → o ≡ p

@@ -1,13 +1,11 @@
 -- What a capture is relayed as is one outcome.
-use Rattle.std.proofs.Common.{◌≡◌, ◌⊎◌, ℕ, ◌+◌, ◌<◌, ◌≤◌, Bool, List, [], ◌++◌, length, take, drop, refl, ap, ap₂, ◌∙◌, sym, subst, arith, inl, inr, append_assoc}
+use Rattle.std.proofs.Common.{◌≡◌, ℕ, ◌+◌, ◌≤◌, Bool, List, [], ◌++◌, length, take, drop, refl, ap, ◌∙◌, sym, subst, arith, inl, inr, append_assoc}
 use Rattle.std.proofs.Math.Seq.{take-append_seam}
 use Rattle.std.proofs.lemmas.Bool.{cases_lt}
 use Rattle.std.proofs.lemmas.List.{take-append-drop, take-append-le}
 use Rattle.tmds_word.specs.Column.{Column}
 use Rattle.island_pack.specs.Periods.{columns_of}
-use Rattle.island_pack.specs.Spelling.{Spells}
-use Rattle.capture_file.specs.Captures.{IsCapture, IsCaptureOf, IsFault, place_of}
-use Rattle.capture_file.specs.Laws.{AreSame}
+use Rattle.capture_file.specs.Captures.{IsCaptureOf, place_of}
 use Rattle.capture_file.specs.Taps.{tapped_capture}
 use Rattle.capture_file.specs.declared.fault.CaptureFault.{CaptureFault}
 use Rattle.capture_file.proofs.MostBlocks.{AreNoLonger, read_begins, fault_after, most_blocks}
@@ -19,7 +17,7 @@ use Rattle.period_grammar.specs.Heard.{heard}
 use Rattle.link_sink.specs.Alignment.{IsAlignedReported, IsNowhereReported}
 use Rattle.link_sink.specs.Grammar.{link_grammar}
 use Rattle.link_sink.specs.LinkHearing.{link_is_grammar}
-use Rattle.link_sink.specs.Sinks.{Fed, IsReportedSoFar}
+use Rattle.link_sink.specs.Sinks.{Fed}
 use Rattle.link_laws.specs.Growth.{AreGrown}
 use Rattle.link_laws.proofs.Growth.{reported_grows}
 use Rattle.relay.specs.Relayed.{relayed}
@@ -29,7 +27,7 @@ use Rattle.hdmi_cli.specs.Notes.{capture_note}
 use Rattle.hdmi_cli.specs.Outcome.{RunOutcome, Relays}
 use Rattle.hdmi_cli.specs.Relays.{IsRelayed, PassesLimit, RelaysBefore, relay_status, whole_tap}
 use Rattle.hdmi_cli.proofs.Headline.{aligned_same}
-use Rattle.hdmi_cli.proofs.OneOutcomeLists.{none_read, read_before}
+use Rattle.hdmi_cli.proofs.OneOutcomeLists.{capture_of, none_read, read_before}
 use Rattle.hdmi_cli.proofs.RelayBlocks.{LanesBegin, blocks_begin}
 use Rattle.hdmi_cli.proofs.RelayLimit.{same_reported, more_passes, passes_whole, passes_nowhere}
 
@@ -83,9 +81,6 @@ blocks_grown bytes taken rest took more counts others j k p r is are has had le 
 ]
 
 -- ---- the limit
-
-capture_of : (x y z : List Bool) (bytes : List ℕ) → IsCaptureOf x y z bytes → IsCapture bytes
-capture_of x y z bytes is = record { blue = x; green = y; red = z; holds = is }
 
 -- where it is passed before a fault, more is relayed of the whole blocks before the fault
 passes_before : (bytes : List ℕ) (fault : CaptureFault) → PassesLimit bytes → RelaysBefore bytes fault → ⊥

@@ -1,5 +1,5 @@
 -- A sample has one outcome.
-use Rattle.std.proofs.Common.{◌≡◌, ℕ, Bool, true, false, List, [], length, refl, ap, ap₂, ◌∙◌, sym, subst}
+use Rattle.std.proofs.Common.{◌≡◌, ℕ, Bool, true, false, List, [], length, ap, ap₂, ◌∙◌, sym, subst}
 use Rattle.tmds_word.specs.Column.{Column}
 use Rattle.island_pack.specs.Periods.{Period}
 use Rattle.island_pack.specs.Spelling.{Spells}
@@ -11,7 +11,6 @@ use Rattle.capture_file.proofs.OneCapture.{one_capture}
 use Rattle.capture_file.proofs.OneCopy.{one_damaged}
 use Rattle.period_grammar.specs.Events.{Event}
 use Rattle.period_grammar.specs.Heard.{heard}
-use Rattle.lane_deskew.specs.Aligned.{aligned_columns}
 use Rattle.link_sink.specs.Alignment.{AreReported, reported_by}
 use Rattle.link_sink.specs.declared.hear.Outcome.{Outcome}
 use Rattle.relay_laws.proofs.OneSpelling.{one_spelling}

@@ -2,7 +2,6 @@
 use Rattle.std.proofs.Common.{◌≡◌, ℕ, ◌+◌, ◌*◌, true, List, [], ◌∷◌, ◌++◌, map, length, take, drop, refl, ap, ap₂, ◌∙◌, sym, Option, Some, None}
 use Rattle.std.specs.Prelude.{IsTrue}
 use Rattle.std.proofs.lemmas.List.{length-map, take-map, drop-map}
-use Rattle.island_pack.specs.Periods.{Period}
 use Rattle.island_pack.specs.declared.packet.Packet.{Packet}
 use Rattle.infoframe.specs.Fields.{avi_fits, avi_table, audio_fits, audio_table}
 use Rattle.infoframe.specs.Written.{IsWritten, fits}
@@ -10,7 +9,7 @@ use Rattle.infoframe.specs.declared.content.Info.{Info}
 use Rattle.infoframe.proofs.Law.{one_writing}
 use Rattle.source_end.specs.Content.{Frame}
 use Rattle.source_end.specs.Generator.{IsGenerated, picture_info, sound_info, clock_packet, first_sounds, first_rows, frame_at, first_frames}
-use Rattle.source_end.specs.Raster.{Line, Part, pixels, packets, up_from, columns, sync_at, value_at, guard_at, room, sync, back, active, total, packets_at, guards_at, until, whole, laid, lines_of, parts_of, final_columns, gathered, raster_of}
+use Rattle.source_end.specs.Raster.{Line, Part, pixels, packets, up_from, columns, sync_at, value_at, guard_at, room, sync, back, active, total, packets_at, guards_at, until, whole, laid, lines_of, parts_of, gathered, raster_of}
 use Rattle.source_end.specs.declared.mode.Mode.{Mode}
 
 -- a packet's header and bodies
