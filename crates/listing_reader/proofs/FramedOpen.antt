@@ -29,9 +29,6 @@ pub framed_none : (r : Rules) (Own : Period → List Column → Type 0) (Whole :
 unfolding values_of
 framed_none r Own Whole f ps rs h k = omega (arith, framed_open r Own Whole f ps rs, ap r.columns_of h, f.no_columns, ap (λ xs. length (values_of xs)) k)
 
-pub none_runs : (ps : List Period) (rs : List ControlRun) → rs ≡ [] → with_open ps rs ≡ ps
-none_runs ps rs h = ap (with_open ps) h
-
 -- The control period that is closed has no fault.
 pub framed_closes : (r : Rules) (Own : Period → List Column → Type 0) (Whole : List Period → List Column → Type 0) → IsFraming r Own Whole
     → (ps : List Period) (rs : List ControlRun) → is_control_last (last_period ps) ≡ false → is_in_range (control rs) ≡ true → r.columns_of (with_open ps rs) ≤ 20000000 → r.push_fault ps (control rs) ≡ None

@@ -31,9 +31,6 @@ some_open periods x draft h k = grind arith
 pub none_closed : (periods : List Period) (x : Option DataIsland) (draft : Draft) → drafted periods x ≡ draft → is_some x ≡ false → is_closed draft.opened ≡ true
 none_closed periods x draft h k = grind arith
 
-pub none_packets : (periods : List Period) (x : Option DataIsland) (draft : Draft) → drafted periods x ≡ draft → x ≡ None → has_packets 1 18 draft.opened ≡ false
-none_packets periods x draft h k = grind arith
-
 closed_columns : (x : Option OpenIsland) → is_closed x ≡ true → open_columns x ≡ 0
 closed_columns None h = refl
 closed_columns (Some x) h = absurd cc

@@ -16,7 +16,7 @@ use Rattle.listing_reader.specs.declared.teller.Refusal.TheVariants.{Cause, NoMe
 use Rattle.listing_reader.specs.Causes.{run_cause, island_cause, packet_cause, close_cause, end_cause, line_cause, caused, unless, is_closed, has_room}
 use Rattle.listing_reader.specs.Drafts.{Draft}
 use Rattle.listing_reader.specs.Forms.{LineForm, control_line, video_line, video_by, island_line, packet_line, close_line, end_line, no_line}
-use Rattle.listing_reader.specs.Reported.{AnswersCause, RefusesAs}
+use Rattle.listing_reader.specs.Reported.{AnswersCause}
 
 -- Tests before causes.
 
@@ -119,9 +119,6 @@ cause_end draft = refl
 
 pub none_of : (T : Type 0) (v : T) (seen : Option ItemFault) → AnswersFault {T = T} seen (Ok v) → seen ≡ None
 none_of T v seen h = grind arith
-
-pub answers_fault : (S T : Type 0) (fault : ItemFault) (seen : Option ItemFault) (refusal : Refusal) → AnswersFault {T = S} seen (Err fault) → RefusesAs fault refusal → AnswersCause {T = T} (caused seen) (Err refusal)
-answers_fault S T fault seen refusal h k = grind (arith, answers_same)
 
 -- a video data period in its range, outside an island
 pub video_pushed : (draft : Draft) (bytes : List ℕ) → is_in_range (video bytes) ≡ true → is_closed draft.opened ≡ true → line_cause draft (video_line bytes) ≡ caused (push_fault draft.periods (video bytes))
