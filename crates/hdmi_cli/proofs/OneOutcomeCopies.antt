@@ -1,5 +1,5 @@
 -- What captures are copied to with hits or without a slip, and what bytes of frames are read as, is one outcome.
-use Rattle.std.proofs.Common.{◌≡◌, ℕ, zero, suc, ◌+◌, ◌<◌, List, [], ◌∷◌, ◌++◌, ap, ap₂, ◌∙◌, sym, subst, arith, inl, inr}
+use Rattle.std.proofs.Common.{◌≡◌, ℕ, zero, suc, ◌<◌, List, [], ◌∷◌, ◌++◌, ap, ap₂, ◌∙◌, sym, subst, arith, inl, inr}
 use Rattle.std.specs.Prelude.{All, map, codes, length, get_or}
 use Rattle.capture_file.specs.Captures.{IsCapture, counts_of, lane_blocks}
 use Rattle.capture_file.specs.BlockDamage.{IsDamagedCapture, IsMisplacedIn, IsFaultyDamage}

@@ -1,5 +1,5 @@
 -- What listings and contents are made into is one outcome.
-use Rattle.std.proofs.Common.{◌≡◌, List, [], ◌∷◌, ◌++◌, ap, ap₂, ◌∙◌, sym, Option, Some, None, ◌+◌}
+use Rattle.std.proofs.Common.{◌≡◌, List, [], ◌∷◌, ◌++◌, ap, ap₂, ◌∙◌, sym, Option, Some, None}
 use Rattle.tmds_word.specs.Column.{Column}
 use Rattle.island_pack.specs.Periods.{Period, control, video, island, pixels_of}
 use Rattle.island_pack.specs.Spelling.{Spells}
