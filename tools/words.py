@@ -7,14 +7,18 @@ TEN = 10
 PART = 1 << 18  # words; four of them make five bytes
 
 
+def bits_of(words, msb):
+    """The lowest ten bits of each word of an array of unsigned numbers as booleans, one after another from the lowest, or
+    with `msb` from the highest on."""
+    places = np.arange(TEN)[:: -1 if msb else 1]
+    return (words[:, None] >> places.astype(words.dtype) & 1).astype(bool).reshape(-1)
+
+
 def joined(data, width, msb):
-    """The lowest ten bits of each word of so many bits, low byte first, one after another from the lowest, or with
-    `msb` from the highest on."""
-    words, places = np.frombuffer(data, f"<u{width // 8}"), np.arange(TEN)[:: -1 if msb else 1]
-    parts = []
+    """The bytes that have `bits_of` words of so many bits, low byte first."""
+    words, parts = np.frombuffer(data, f"<u{width // 8}"), []
     for at in tqdm(range(0, len(words), PART), unit="part", disable=None):
-        bits = words[at : at + PART, None] >> places.astype(words.dtype) & 1
-        parts.append(np.packbits(bits.astype(bool).reshape(-1), bitorder="little").tobytes())
+        parts.append(np.packbits(bits_of(words[at : at + PART], msb), bitorder="little").tobytes())
     return b"".join(parts)
 
 
