@@ -10,6 +10,7 @@ from listing import Refused
 
 PREFIXES = {"": 1, "m": 1e-3, "u": 1e-6, "n": 1e-9, "p": 1e-12, "f": 1e-15}
 MOST_NAMES = 8  # that a refusal lists
+RANGE = re.compile(r"\[-?\d+:-?\d+\]$")  # of a vector's bits, which some simulators write without a space behind its name
 
 
 class Variable(NamedTuple):
@@ -84,7 +85,8 @@ class Dump:
         elif word == "$upscope" and self.scopes:
             self.scopes.pop()
         elif word == "$var" and len(body) >= 4 and body[1].isdecimal():
-            self.variables.append(Variable(".".join([*self.scopes, body[3]]), body[2], int(body[1])))
+            name = RANGE.sub("", body[3])
+            self.variables.append(Variable(".".join([*self.scopes, name]), body[2], int(body[1])))
 
     def changes(self, codes) -> Iterator[Change]:
         """Each new time, and the changes of the variables with these codes. A time that goes back is refused."""

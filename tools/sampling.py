@@ -13,6 +13,7 @@ from words import TEN
 
 UNKNOWN = -1  # a word of which a bit is x or z
 ASK = "give --clock"
+MOST_AT_ONCE = 1 << 16  # columns
 
 
 class Stretch(NamedTuple):
@@ -29,7 +30,7 @@ class Columns:
     time `first`, and `late` those after it, the first at the time `torn`. `step` is the time from a column to the next."""
 
     def __init__(self, stretches: Iterator[Stretch], size: int):
-        self.stretches, self.size = stretches, size
+        self.stretches, self.size = stretches, min(size, MOST_AT_ONCE)
         self.count, self.early, self.late = 0, 0, 0
         self.first = self.last = self.torn = None
 
@@ -58,10 +59,21 @@ class Columns:
 
     def pieces(self):
         """Arrays of columns, three words a row."""
-        taken = filter(self.take, self.stretches)
-        while piece := list(islice(taken, self.size)):
-            rows = np.array([stretch.words for stretch in piece], np.uint16)
-            yield np.repeat(rows, [stretch.columns for stretch in piece], axis=0)
+        held, columns = [], 0
+        for stretch in filter(self.take, self.stretches):
+            held.append(stretch)
+            columns += stretch.columns
+            if columns >= self.size:
+                yield repeated(held)
+                held, columns = [], 0
+        if held:
+            yield repeated(held)
+
+
+def repeated(stretches):
+    """The columns of some stretches, three words a row."""
+    rows = np.array([stretch.words for stretch in stretches], np.uint16)
+    return np.repeat(rows, [stretch.columns for stretch in stretches], axis=0)
 
 
 def variables_of(dump: Dump, names, clock):
@@ -137,17 +149,14 @@ def changes_of(dump: Dump, lanes: list) -> Iterator[tuple]:
 
 def by_step(dump: Dump, lanes: list, size: int) -> Iterator[Stretch]:
     """A column each step of time: the least time between changes of the words, of which every other one is a multiple."""
-    found = changes_of(dump, lanes)
-    early = []
+    found, size = changes_of(dump, lanes), min(size, MOST_AT_ONCE)
     for time, row in found:
-        if row is None or UNKNOWN not in row:
-            found = chain([(time, row)], found)
+        if row is None:
+            return
+        if UNKNOWN not in row:
             break
-        early.append(row)
-    yield from (Stretch(time, time, 1, row) for row in early)
-    first = list(islice(found, size))
-    if first[0][1] is None:
-        return
+        yield Stretch(time, time, 1, row)
+    first = [(time, row), *islice(found, size)]
     times = [time for time, row in first if row]  # the end of the dump need be at no step
     spans = [later - earlier for earlier, later in zip(times, times[1:])]
     step = min(spans, default=0)
@@ -159,5 +168,7 @@ def by_step(dump: Dump, lanes: list, size: int) -> Iterator[Stretch]:
         if following and (later - time) % step:
             raise Refused(f"{dump.path}: the words change at time {later}, at no step of {step} units: {ASK}")
         columns = max(1, (later - time) // step)
-        yield Stretch(time, time + (columns - 1) * step, columns, row)
+        for at in range(0, columns, size):
+            part = min(size, columns - at)
+            yield Stretch(time + at * step, time + (at + part - 1) * step, part, row)
         time, row = later, following

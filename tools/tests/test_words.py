@@ -70,6 +70,11 @@ def test_words_without_a_clock(tool, program, dump):
     assert program("recover", "link", source=came.stdout) == TEXT
 
 
+def test_a_range_that_is_part_of_the_name(tool, program, dump):
+    came = tool("slice", dump(changes(RED), HEADER.replace(" [9:0]", "[9:0]")), "--words", WORDS, "--clock", "top.clk")
+    assert program("recover", "link", source=came.stdout) == TEXT
+
+
 def test_the_highest_bit_first(tool, program, dump):
     """As of tools/lanes: a dump whose bit 9 is sent first."""
     turned = [tuple(int(f"{word:010b}"[::-1], 2) for word in row) for row in RED]
