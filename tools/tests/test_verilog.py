@@ -75,14 +75,15 @@ def test_the_source(tool, program, core, tmp_path, simulator):
     assert kinds["s"] == [sample(number) for number in range(len(kinds["s"]))]
     others = {line for line in lines if line.split()[0] not in kinds}
     assert others == {"avi 0 0 1 0 8 0 0 0 0 0 0 0 0 0 0 0 0", "acr 6144 25200", "audio 1 0 0 0 0 0 0", "end"}
-    came = tool("report", path, "-o", tmp_path / "a.html")
-    assert b"3 frames, 162 packets, 0 faults" in came.stderr + came.stdout
+    assert b"3 frames, 162 packets, 0 faults" in tool("report", path, "-o", tmp_path / "a.html").stderr
 
 
 @pytest.mark.parametrize("simulator", NEEDED)
-def test_the_source_of_dvi(program, core, simulator):
+def test_the_source_of_dvi(tool, program, core, tmp_path, simulator):
     """It has pixels alone, and no fault."""
-    lines = program("recover", "dvi", source=core(dvi="1", simulator=simulator).read_bytes()).decode().splitlines()
+    path = core(dvi="1", simulator=simulator)
+    assert b"3 frames, 0 packets, 0 faults" in tool("report", "--dvi", path, "-o", tmp_path / "a.html").stderr
+    lines = program("recover", "dvi", source=path.read_bytes()).decode().splitlines()
     assert {line.split()[0] for line in lines} == {"c", "v", "end"}
     rows = [line for line in lines if line[0] == "v"]
     assert rows == [f"v {row(frame, down)}" for frame in range(FRAMES) for down in range(HEIGHT)]
@@ -198,13 +199,13 @@ def decoded(tmp_path_factory):
 def test_the_decoders(program, decoded, simulator):
     """Of a capture with lanes apart, of a damaged one, and behind a slip, they decode the pixels of `recover`."""
     text = (TOP / "examples" / "bars.content").read_bytes()
-    made = program("make", "content", "--offset", 2347, "--skew", "0,70,35", "--version", 2, source=text)
-    wanted = rows_of(program("recover", "link", source=made))
-    assert len(wanted) == 24 and decoded(made, simulator) == wanted
-    hurt = program("damage", "2:5035:0ab", "0:28450:3a5", source=made)
+    sent = program("make", "content", "--offset", 2347, "--skew", "0,70,35", "--version", 2, source=text)
+    wanted = rows_of(program("recover", "link", source=sent))
+    assert len(wanted) == 24 and decoded(sent, simulator) == wanted
+    hurt = program("damage", "2:5035:0ab", "0:28450:3a5", source=sent)
     came = rows_of(program("recover", "link", source=hurt, status=1))
     assert came != wanted and decoded(hurt, simulator) == came
-    slipped = program("slip", "2:26003:3", source=made)
+    slipped = program("slip", "2:26003:3", source=sent)
     epochs = program("recover", "track", source=slipped, status=1).partition(b"! slip ")
     behind = rows_of(epochs[2])
     assert len(behind) > 8 and decoded(slipped, simulator)[-len(behind) :] == behind
