@@ -1,4 +1,4 @@
-"""Waveforms of files, piece by piece: NumPy arrays, CSV, raw samples, VCD and sigrok's sessions."""
+"""Waveforms of files, piece by piece: NumPy arrays, CSV, raw samples, VCD, FST and sigrok's sessions."""
 
 import configparser
 import re
@@ -12,11 +12,13 @@ from typing import Iterator, NamedTuple, Optional
 
 import numpy as np
 
+from dump import PREFIXES as UNITS
+from dump import Dump
 from listing import Refused
 
 PIECE = 1 << 20
 RAW = {"int8": "i1", "int16": "<i2", "float32": "<f4"}
-PREFIXES = {"": 1, "m": 1e-3, "u": 1e-6, "µ": 1e-6, "n": 1e-9, "p": 1e-12, "f": 1e-15}
+PREFIXES = {**UNITS, "µ": 1e-6}
 LARGER = {"": 1, "k": 1e3, "m": 1e6, "g": 1e9}
 MOST_HEADER_LINES = 64
 
@@ -219,55 +221,21 @@ class Vcd:
     """The wires of a value change dump; a bus NAME gives NAME[0] and so on."""
 
     def __init__(self, path, piece):
-        self.path, self.piece = path, piece
-        self.file = open(path, encoding="ascii", errors="replace")
-        self.names, self.places, self.scale = [], {}, None
-        self.read_header()
-
-    def read_header(self):
-        words = (word for line in self.file for word in line.split())
-        for word in words:
-            if word == "$enddefinitions":
-                break
-            if not word.startswith("$"):
-                continue
-            body = []
-            for part in words:
-                if part == "$end":
-                    break
-                body.append(part)
-            self.take(word, body)
-        else:
-            raise Refused(f"{self.path}: no value change dump: it has no $enddefinitions")
-
-    def take(self, word, body):
-        text = "".join(body)
-        if word == "$timescale":
-            scale = re.fullmatch(r"(\d+)([munpf]?)s", text)
-            self.scale = int(scale[1]) * PREFIXES[scale[2]] if scale else None
-        elif word == "$var" and len(body) >= 4 and body[1].isdecimal():
-            width, name = int(body[1]), body[3]
-            if body[2] not in self.places:
-                self.places[body[2]] = range(len(self.names), len(self.names) + width)
-                self.names += [name] if width == 1 else [f"{name}[{bit}]" for bit in range(width)]
+        self.dump, self.piece = Dump(path), piece
+        self.names, self.places = [], {}
+        for it in self.dump.variables:
+            if it.code not in self.places:
+                self.places[it.code] = range(len(self.names), len(self.names) + it.width)
+                self.names += [it.name] if it.width == 1 else [f"{it.name}[{bit}]" for bit in range(it.width)]
 
     def changes(self):
         """The time, the channel and the new level of each change; None for both with each new time."""
-        now = 0
-        for line in self.file:
-            line = line.strip()
-            if line[:1] == "#":
-                if not line[1:].isdecimal() or int(line[1:]) < now:
-                    raise Refused(f"{self.path}: `{line[:20]}` is no time behind {now}")
-                now = int(line[1:])
-                yield now, None, None
-            elif line[:1] in ("0", "1"):
-                for place in self.places.get(line[1:], ())[:1]:
-                    yield now, place, int(line[0])
-            elif line[:1] in ("b", "B"):
-                levels, _, name = line[1:].partition(" ")
-                for place, level in zip(self.places.get(name, ()), reversed(levels.rjust(64, "0"))):
-                    yield now, place, int(level == "1")
+        for time, code, digits in self.dump.changes(self.places):
+            if code is None:
+                yield time, None, None
+            elif len(self.places[code]) > 1 or digits in "01":
+                for place, level in zip(self.places[code], reversed(digits.rjust(64, "0"))):
+                    yield time, place, int(level == "1")
 
     def pieces(self):
         """Pieces of at most so many times at which something changed."""
@@ -290,11 +258,11 @@ class Vcd:
 
 
 def of_vcd(path, piece):
-    dump = Vcd(path, piece)
-    return Wave(dump.names, 1 / dump.scale if dump.scale else None, dump.pieces(), None)
+    wires = Vcd(path, piece)
+    return Wave(wires.names, 1 / wires.dump.scale if wires.dump.scale else None, wires.pieces(), None)
 
 
-READERS = {".npy": of_npy, ".npz": of_npz, ".csv": of_csv, ".vcd": of_vcd, ".sr": of_sigrok}
+READERS = {".npy": of_npy, ".npz": of_npz, ".csv": of_csv, ".vcd": of_vcd, ".fst": of_vcd, ".sr": of_sigrok}
 
 
 # What reading a broken file ends with: numpy's headers are Python's text, the others have faults of their own.

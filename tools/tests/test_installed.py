@@ -86,6 +86,15 @@ def test_each_tool_on_a_capture(shell, prefix, tmp_path):
     assert came.stderr.startswith("3 captures, 3 judged now: 1 clean, ")
 
 
+@pytest.mark.skipif(not (shutil.which("iverilog") and shutil.which("make")), reason="iverilog or make is missing")
+def test_the_cores(shell, prefix, tmp_path):
+    """They are simulated with what is installed, into a folder of one's own."""
+    cores = prefix / "share/doc/vabgrot/examples/verilog"
+    came = shell(f"make -s -C {cores} OUT=$PWD/out SMALL=1 check report")
+    assert came.stdout.endswith("clean\n") and (tmp_path / "out" / "hdmi.small.html").is_file()
+    assert not (cores / "out").exists()
+
+
 def test_the_program_that_is_used(shell, prefix):
     """It stands beside the tools; the script of the PATH is none of theirs."""
     assert (prefix / "lib/vabgrot/vabgrot").read_bytes() == built().read_bytes()

@@ -160,10 +160,31 @@ def test_words_there_and_back(tool, files, count):
         lane = lane[:-1] + bytes([lane[-1] & (1 << count % 8) - 1])
     paths = files([lane, b"", b""])
     sent = tool("lanes", "pack", "--bits", f"{count},0,0", *paths).stdout
-    for words in (["--words", 16], ["--words", 32, "--msb"]):
+    for words, size in ((["--words", 16], 2), (["--words", 32, "--msb"], 4), (["--words", 10], 4)):
         bits = tool("lanes", "unpack", *words, *paths, source=sent).stdout.decode().strip()
-        assert paths[0].stat().st_size == (count + 9) // 10 * words[1] // 8
+        assert paths[0].stat().st_size == (count + 9) // 10 * size
         assert tool("lanes", "pack", *words, "--bits", bits, *paths).stdout == sent
+
+
+def test_words_as_text(tool, files):
+    """A word a line, as $readmemh reads it; what $writememh and $fwrite write is read too."""
+    paths = files([b"", b"", b""])
+    tool("lanes", "unpack", "--words", 10, *paths, source=CAPTURE)
+    lines = [path.read_text().splitlines() for path in paths]
+    assert [lane[11:16] for lane in lines] == [
+        ["354", "2cc", "2cc", "100", "354"],
+        ["0ab", "133", "133", "100", "354"],
+        ["354", "2cc", "2cc", "200", "354"],
+    ]
+    assert [len(lane) for lane in lines] == [27] * 3
+    paths[0].write_text("// 0x00000000\n" + " ".join(lines[0]).upper() + " // the end")
+    assert tool("lanes", "pack", "--words", 10, *paths).stdout == CAPTURE
+    tool("lanes", "unpack", "--words", 10, "--msb", *paths, source=CAPTURE)
+    assert paths[2].read_text().splitlines()[11:16] == ["0ab", "0cd", "0cd", "001", "0ab"]
+    assert tool("lanes", "pack", "--words", 10, "--msb", *paths).stdout == CAPTURE
+    for text, says in (("354\n0xx", b"its word 1, `0xx`"), ("400", b"its word 0, `400`"), ("-1", b"its word 0, `-1`")):
+        paths[1].write_text(text)
+        assert says in tool("lanes", "pack", "--words", 10, *paths, status=3).stderr
 
 
 def test_a_file_that_is_named_twice(tool, files, tmp_path):
