@@ -1,5 +1,5 @@
 -- How a capture is heard block by block.
-use Rattle.std.proofs.Common.{arith, ◌≡◌, ◌≤◌, ◌+◌, ◌⊎◌, ◌<◌, ◌++◌, ◌∷◌, [], ℕ, List, Bool, sym, subst, refl, ap, ◌∙◌, inl, inr, length, take, append-nil, append_assoc, length-append, Option, Some}
+use Rattle.std.proofs.Common.{arith, ◌≡◌, ◌≤◌, ◌+◌, ◌⊎◌, ◌++◌, ◌∷◌, [], ℕ, List, Bool, sym, subst, refl, ap, ◌∙◌, inl, inr, length, take, append-nil, append_assoc, length-append, Option, Some}
 use Rattle.std.specs.Prelude.{slice_index}
 use Rattle.std.specs.Io.KnownBytes.{Consumes, IsAtEnd}
 use Rattle.std.proofs.KnownBytes.{Consumes-trans}

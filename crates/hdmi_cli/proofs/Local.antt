@@ -1,9 +1,9 @@
 -- What a command lists of a capture of which anything may have been received after the alignment.
-use Rattle.std.proofs.Common.{◌≡◌, ℕ, ◌+◌, ◌-◌, ◌<◌, ◌≤◌, List, ◌∷◌, ◌++◌, length, map, take, drop, refl, ap, sym, ◌∙◌, subst, append_assoc, arith, length-take, length-drop}
-use Rattle.std.specs.Prelude.{Option, Some}
+use Rattle.std.proofs.Common.{◌≡◌, ℕ, ◌+◌, ◌-◌, List, ◌++◌, length, map, take, drop, refl, ap, sym, ◌∙◌, subst, append_assoc, arith, length-take, length-drop}
+use Rattle.std.specs.Prelude.{Some}
 use Rattle.std.specs.Io.KnownBytes.{Appends}
 use Rattle.tmds_word.specs.Column.{Column}
-use Rattle.island_pack.specs.Periods.{Period, period_columns, columns_of}
+use Rattle.island_pack.specs.Periods.{columns_of}
 use Rattle.island_pack.specs.Spelling.{SpellsBy, freely}
 use Rattle.period_grammar.specs.Events.{Event, event_of}
 use Rattle.period_grammar.specs.Heard.{heard_so_far, heard}
@@ -17,7 +17,7 @@ use Rattle.hdmi_cli.specs.Listers.{IsText}
 use Rattle.hdmi_cli.specs.Outcome.{RunOutcome, ListsCapture, Does}
 use Rattle.hdmi_cli.specs.Headline.{TappedStream, AlignsBy, aligned_of}
 use Rattle.hdmi_cli.specs.Endings.{Devices, RunEnds, Unless, status_of}
-use Rattle.hdmi_cli.specs.Local.{IsTappedUntil, HasRow, HasRows, IsHeardFrom, IsHeardBy, row_of, reported_to}
+use Rattle.hdmi_cli.specs.Local.{IsTappedUntil, HasRows, IsHeardBy, row_of, reported_to}
 use Rattle.hdmi_cli.specs.declared.ending.Ending.{Ending}
 use Rattle.hdmi_cli.proofs.Headline.{capture_listing, run_ended}
 

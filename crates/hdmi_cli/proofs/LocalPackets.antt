@@ -1,14 +1,11 @@
 -- The packets that `recover content` reports of the islands that stand alone, of a capture of which anything may have been
 -- received after the alignment.
-use Rattle.std.proofs.Common.{◌≡◌, ℕ, ◌+◌, ◌-◌, ◌*◌, ◌<◌, ◌≤◌, true, List, ◌∷◌, ◌++◌, length, map, take, drop, refl, ap, ap₂, sym, ◌∙◌, subst, append_assoc, arith}
+use Rattle.std.proofs.Common.{◌≡◌, ℕ, ◌+◌, ◌-◌, ◌≤◌, List, ◌∷◌, ◌++◌, map, take, drop, ap, sym, ◌∙◌, subst, arith}
 use Rattle.std.proofs.lemmas.List.{take-append-drop}
 use Rattle.std.specs.Prelude.{Option, Some}
-use Rattle.tmds_word.specs.Column.{Column}
-use Rattle.island_pack.specs.Conforming.{is_data_island}
 use Rattle.island_pack.specs.Periods.{DataIsland, Period, island, period_columns, columns_of}
 use Rattle.island_pack.specs.Spelling.{SpellsBy, freely}
 use Rattle.period_grammar.specs.Events.{event_of}
-use Rattle.period_grammar.specs.Heard.{heard}
 use Rattle.link_laws.specs.Literal.{island_placed, period_placed}
 use Rattle.link_laws.specs.Local.{StandsAlone, part_at, twelve_before}
 use Rattle.link_laws.proofs.Conformed.{HasValues}
@@ -16,7 +13,7 @@ use Rattle.link_laws.proofs.Joining.{ArrivesPeriod}
 use Rattle.link_laws.proofs.LocalStream.{spelled_at}
 use Rattle.link_laws.proofs.PeriodLaws.{received_one}
 use Rattle.listing_writer.specs.ContentText.{content_text}
-use Rattle.listing_laws.specs.PacketLaws.{ReportedPacket, reported_packets, received_packet, each_at}
+use Rattle.listing_laws.specs.PacketLaws.{reported_packets, received_packet, each_at}
 use Rattle.listing_laws.proofs.Accounted.{island_size}
 use Rattle.listing_laws.proofs.LocalPackets.{island_packets, island_lines}
 use Rattle.listing_laws.proofs.Reported.{reported_both}
@@ -26,7 +23,7 @@ use Rattle.hdmi_cli.specs.Listings.{content_listing}
 use Rattle.hdmi_cli.specs.Listers.{after_content, last_link, content_is_text}
 use Rattle.hdmi_cli.specs.Headline.{TappedStream, AlignsBy, aligned_of}
 use Rattle.hdmi_cli.specs.Endings.{Devices, RunEnds, Unless, status_of}
-use Rattle.hdmi_cli.specs.Local.{IsTappedUntil, HasRow, IsHeardFrom, IsHeardBy, HasPackets, ArePacketsFrom, ArePacketsBy, row_of, reported_to}
+use Rattle.hdmi_cli.specs.Local.{IsTappedUntil, IsHeardFrom, IsHeardBy, ArePacketsFrom, ArePacketsBy, row_of, reported_to}
 use Rattle.hdmi_cli.specs.declared.ending.Ending.{Ending}
 use Rattle.hdmi_cli.proofs.Headline.{unless_so}
 use Rattle.hdmi_cli.proofs.Local.{headlined_locally}

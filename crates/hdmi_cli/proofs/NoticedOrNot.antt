@@ -1,12 +1,12 @@
 -- A slip within a line is noticed, or it is not.
-use Rattle.std.proofs.Common.{◌≡◌, ◌⊎◌, ℕ, ◌+◌, ◌-◌, ◌*◌, ◌<◌, ◌≤◌, Bool, true, arith, inl, inr}
+use Rattle.std.proofs.Common.{◌≡◌, ◌⊎◌, ℕ, ◌+◌, ◌-◌, ◌*◌, ◌<◌, ◌≤◌, true, arith, inl, inr}
 use Rattle.std.specs.Prelude.{slice_index}
 use mathlib.Core.Logic.Dec.{and as both}
 use native.Mathlib.Decide.{dec_le}
 use Rattle.std.proofs.Math.Bool.{Bool-discrete}
 use Rattle.std.proofs.lemmas.Bool.{cases_lt}
 use Rattle.terc4.specs.Tables.{is_control}
-use Rattle.lane_align.specs.Lanes.{IsRun, IsLock}
+use Rattle.lane_align.specs.Lanes.{IsRun}
 use Rattle.link_sink.proofs.Decided.{IsLeast, each_below, least_or_none}
 use Rattle.track_sink.specs.Epochs.{lane_of}
 use Rattle.track_sink.proofs.Reaching.{run_decided}

@@ -1,6 +1,6 @@
 -- The samples that `recover biphase K` writes of a tapped stream are those of the received packets, each that is as sent in the
 -- account with the samples that it was sent with.
-use Rattle.std.proofs.Common.{arith, ◌≡◌, ◌≤◌, ℕ, true, ◌+◌, List, [], ◌∷◌, ◌++◌, length, refl, ap, ◌∙◌, subst}
+use Rattle.std.proofs.Common.{arith, ◌≡◌, ℕ, true, List, [], ◌∷◌, ◌++◌, length, refl, ap, ◌∙◌, subst}
 use Rattle.std.specs.Prelude.{flat_map, Option, Some}
 use Rattle.std.specs.Io.KnownBytes.{Appends}
 use Rattle.tmds_word.specs.Column.{Column}

@@ -14,7 +14,6 @@ use Rattle.listing_writer.specs.Texts.{counted}
 use Rattle.track_sink.specs.Epochs.{IsTrack, IsTracked, last_epoch, more_epochs}
 use Rattle.track_sink.specs.TrackEvents.{TrackEvent, track_events_of, slip_if}
 use Rattle.track_sink.specs.Tracks.{HasTracked}
-use Rattle.track_sink.specs.Trackers.{Stops}
 use Rattle.command_line.specs.declared.command.Command.TheVariants.{RecoverTrack}
 use Rattle.hdmi_cli.specs.Blocks.{AreNext}
 use Rattle.hdmi_cli.specs.Endings.{Devices, Ends, IsAnswered, IsWrittenPast, TracksPart, heard_ending, judged_ending, note_of, seen, status_of}

@@ -1,5 +1,5 @@
 -- How a capture is followed block by block whose lanes may lose bits.
-use Rattle.std.proofs.Common.{arith, ◌≡◌, ◌≤◌, ◌+◌, ◌⊎◌, ◌<◌, ◌++◌, ◌∷◌, [], ℕ, List, Bool, sym, subst, refl, ap, ◌∙◌, inl, inr, length, append-nil, append_assoc, length-append, Option, Some}
+use Rattle.std.proofs.Common.{arith, ◌≡◌, ◌≤◌, ◌+◌, ◌++◌, ◌∷◌, [], ℕ, List, Bool, sym, subst, refl, ap, ◌∙◌, inl, inr, length, append-nil, append_assoc, length-append, Option, Some}
 use Rattle.std.specs.Io.KnownBytes.{Consumes, IsAtEnd}
 use Rattle.std.proofs.KnownBytes.{Consumes-trans}
 use Rattle.capture_file.specs.Captures.{Stands, StopsIn, SaysOf, SaysRead, IsFault, IsEarlyFault, IsHeaderPart, IsBlockPart, IsCaptureOf, place_of}

@@ -1,5 +1,5 @@
 -- What a run promises beyond its status: of which input each command writes what was sent.
-use Rattle.std.specs.Prelude.{◌≡◌, ◌⊎◌, ◌+◌, ℕ, ◌≤◌, Bool, List, [], ◌∷◌, Some, None}
+use Rattle.std.specs.Prelude.{◌≡◌, ℕ, Bool, List, Some, None}
 use Rattle.lane_deskew.specs.Aligned.{aligned_columns}
 use Rattle.island_pack.specs.Sparse.{IsSparseInPayload}
 use Rattle.link_sink.specs.Sinks.{Fed}

@@ -1,4 +1,4 @@
-use Rattle.std.proofs.Common.{rules, ◌∙◌, ap, sym, subst}
+use Rattle.std.proofs.Common.{rules, sym, subst}
 use Rattle.std.proofs.lemmas.Result.{err_from_is_err_and}
 use Rattle.hdmi_cli.specs.Hearings.{IsCausedBy}
 use Rattle.hdmi_cli.specs.Tracking.{IsTrackedWhole, IsUntakenOn, StopsOn}
