@@ -15,6 +15,7 @@ MOST_DIFFERENCES = 4  # of the numbers of a raster from those of a format that i
 HDMI_VICS = frozenset((93, 94, 95, 98))  # named by HDMI's own InfoFrame instead (HDMI 1.4, section 8.2.3)
 FIELDS = ("first field", "second field")
 SIZES = 8  # of one capture: the most that are said
+MOST_SAID = 4  # differences from the format of an InfoFrame
 
 
 class Note(NamedTuple):
@@ -170,9 +171,10 @@ def unsteady(raster: Raster) -> list[Note]:
     notes = []
     for name, unit, one in figures:
         if one.place is not None and one.other is not None:
-            times = counted(one.others, unit)
-            notes.append(Note(f"not steady: {name} {number(one.value)}, but {number(one.other)} or another in {times}, first {at(one.place)}"))
-    return [Note(one.text.replace(" or another in 1 ", " in 1 ")) for one in notes] + late_notes(raster)
+            times, other = counted(one.others, unit), number(one.other)
+            unlike = f"{other} in {times}," if one.others == 1 else f"another in {times}, first {other}"
+            notes.append(Note(f"not steady: {name} {number(one.value)}, but {unlike} {at(one.place)}"))
+    return notes + late_notes(raster)
 
 
 def at(place: Place) -> str:
@@ -207,7 +209,8 @@ def avi_note(avi: Avi, times: int, column: int, raster: Raster, clock: float | N
     if not unlike and not has_clock(wanted, clock):
         unlike = [clock_difference(wanted, clock or 0)]
     if unlike:
-        return Note(f"{says}; but {'; '.join(map(str, unlike))}")
+        more = f"; and {len(unlike) - MOST_SAID} more" if len(unlike) > MOST_SAID else ""
+        return Note(f"{says}; but {'; '.join(map(str, unlike[:MOST_SAID]))}{more}")
     if avi.repetition not in wanted.repetitions:
         right = " or ".join(map(str, wanted.repetitions))
         return Note(f"{says}; but pixel repetition {avi.repetition}, wants {right}")

@@ -266,7 +266,8 @@ def lines_of(hsync: Edges, active: int, firsts: Ints) -> Lines:
 
 def fields_of(vsync: Edges, active: int, stop: int) -> list[Field]:
     """The fields, up to the column `stop`, of a raster whose VSYNC pulses have this level."""
-    found, begin, lead, trail = [], 0, None, None
+    found: list[Field] = []
+    begin, lead, trail = int(vsync.columns[0]), None, None
     for column, level, seen in zip(vsync.columns.tolist(), vsync.levels.tolist(), vsync.seen.tolist()):
         if level == LOST:
             found.append(Field(begin, column, lead, trail, None))
@@ -332,14 +333,16 @@ class Part:
     level: int
 
     def slice(self, entries: Ints) -> Ints:
-        """The changes in these columns. What is before them is not known."""
-        columns = entries >> 2
-        inside = entries[(columns >= self.begin) & (columns < self.stop)]
-        return np.concatenate((np.array([self.begin << 2 | LOST]), inside))
+        """The changes in these columns, and before them the level at the first, where it is known."""
+        first, behind = np.searchsorted(entries >> 2, (self.begin, self.stop))
+        level = int(entries[first - 1]) & 3 if first else LOST
+        before = [self.begin << 2 | LOST] + [self.begin << 2 | level] * (level != LOST)
+        return np.concatenate((np.array(before), entries[first:behind]))
 
 
 def parts_of(meter: Meter) -> Iterator[Part]:
-    """The parts of what a meter took: a new one begins where another width or polarity holds for STABLE rows."""
+    """The parts of what a meter took: a new one begins with a row from which on another width or polarity holds for STABLE
+    rows, and the one before ends with the row before."""
     firsts, widths = ints(meter.firsts), ints(meter.widths)
     levels = np.frombuffer(meter.levels, np.int8) if meter.levels else np.zeros(0, np.int8)
     pairs = widths << 2 | levels & 3
@@ -349,7 +352,7 @@ def parts_of(meter: Meter) -> Iterator[Part]:
     for number, start in enumerate(starts):
         behind = starts[number + 1] if number + 1 < len(starts) else len(firsts)
         begin = 0 if not start else int(firsts[start])
-        stop = meter.next if behind == len(firsts) else int(firsts[behind])
+        stop = meter.next if behind == len(firsts) else int(firsts[behind - 1] + widths[behind - 1])
         values, counts = np.unique(levels[start:behind], return_counts=True)
         level = int(values[np.argmax(counts)]) if len(values) else 0
         yield Part(begin, stop, firsts[start:behind], widths[start:behind], level)
