@@ -4,6 +4,7 @@ from __future__ import annotations
 
 from bisect import bisect_right
 from dataclasses import dataclass
+from itertools import islice
 from typing import Any, NamedTuple
 
 from formats import CTA, Axis, Format, formats, of_vic
@@ -14,7 +15,7 @@ TOLERANCE = 0.005  # of a pixel clock (CTA-861-G, section 4.1: 0.5 percent)
 MOST_DIFFERENCES = 4  # of the numbers of a raster from those of a format that is called the nearest
 HDMI_VICS = frozenset((93, 94, 95, 98))  # named by HDMI's own InfoFrame instead (HDMI 1.4, section 8.2.3)
 FIELDS = ("first field", "second field")
-SIZES = 8  # of one capture: the most that are said
+SIZES = 8  # or rasters, of one capture: the most that are said
 MOST_SAID = 4  # differences from the format of an InfoFrame
 
 
@@ -313,10 +314,18 @@ def whole(value: float) -> float | int:
     return int(value) if value == int(value) else value
 
 
+def change_note(found: list[Timing]) -> Note | None:
+    """That there is more than one raster; None where there is not."""
+    if len(found) < 2:
+        return None
+    count = f"{len(found)}" if len(found) <= SIZES else f"more than {SIZES}"
+    return Note(f"not steady: {count} sizes or rasters{f', of which the first {SIZES} follow' if len(found) > SIZES else ''}")
+
+
 def timings(meter: Meter, rate: Rate) -> list[Timing]:
-    """What is said of each raster of a listing; nothing where it has no rows."""
+    """What is said of each raster of a listing, of the first SIZES and one more at most; nothing where it has no rows."""
     said = []
-    for raster in rasters(meter):
+    for raster in islice(rasters(meter), SIZES + 1):
         clock, avis = rate.clock_of(raster), avis_of(meter, raster)
         most = max(avis, key=lambda one: len(avis[one]), default=None)
         matched = match(raster, clock, most.vic if most else None)

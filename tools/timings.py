@@ -441,10 +441,11 @@ def rasters_of(part: Part, hsync: Edges, vsync: Edges) -> Iterator[Raster]:
         one.rows = slice(int(first), int(behind))
     totals = np.unique(lines.end[lines.sure] - lines.start[lines.sure], return_counts=True)
     ruler = Ruler(lines.leads, float(totals[0][np.argmax(totals[1])]) if len(totals[0]) else 0.0)
-    sizes = sized(part, found)
     number = np.searchsorted([one.begin for one in found], lines.start, "right") - 1
-    for size in dict.fromkeys(sizes):
-        chosen = [at for at, other in enumerate(sizes) if other == size]
+    groups: dict[tuple[int, int | None], list[int]] = {}
+    for place, size in enumerate(sized(part, found)):
+        groups.setdefault(size, []).append(place)
+    for size, chosen in groups.items():
         its = [found[at] for at in chosen]
         changes = [ruler.halves(at)[0] for one in its for at in (one.lead, one.trail, one.end) if at is not None]
         phases = {int(2 * at) % 2 for at in changes if at is not None}
@@ -482,14 +483,12 @@ def downs_of(its: list[Field], ruler: Ruler, firsts: Ints, interlaced: bool) -> 
     return tuple(figures)
 
 
-def rasters(meter: Meter) -> list[Raster]:
-    """The rasters of all that a meter took; none where there are no rows."""
+def rasters(meter: Meter) -> Iterator[Raster]:
+    """The rasters of all that a meter took, in the order in which they begin; none where there are no rows."""
     if not meter.firsts:
-        return []
+        return
     words = spans(ints(meter.words), ints(meter.known))
     damaged = spans(ints(meter.damaged), ints(meter.damaged) + link.PACKET)
-    found: list[Raster] = []
     for part in parts_of(meter):
         sides = (edges(part.slice(ints(side)), words, damaged) for side in (meter.hsync, meter.vsync))
-        found += rasters_of(part, *sides)
-    return found
+        yield from rasters_of(part, *sides)
