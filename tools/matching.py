@@ -8,7 +8,7 @@ from itertools import islice
 from typing import Any, NamedTuple
 
 from formats import CTA, Axis, Format, formats, of_vic
-from timings import PARTS, Avi, Figure, Meter, Place, Raster, rasters
+from timings import DEPTH, PARTS, Avi, Figure, Meter, Place, Raster, rasters
 
 PULLED = 1001 / 1000  # the rates of CTA-861 are also these times lower
 TOLERANCE = 0.005  # of a pixel clock (CTA-861-G, section 4.1: 0.5 percent)
@@ -246,7 +246,8 @@ class Timing:
         height = "rows not seen whole" if rows is None else f"{rows * (1 + bool(self.raster.interlaced)):,} rows"
         scan = {None: "", False: ", progressive", True: ", interlaced"}[self.raster.interlaced]
         unit = "field" if self.raster.interlaced else "frame"
-        return f"{width:,} pixels, {height}{scan}, {counted(self.raster.fields, f'whole {unit}')}"
+        depth = "" if self.raster.bits == DEPTH else f", {self.raster.bits} bits a pixel"
+        return f"{width:,} pixels{depth}, {height}{scan}, {counted(self.raster.fields, f'whole {unit}')}"
 
     @property
     def rate(self) -> str | None:
@@ -264,7 +265,7 @@ class Timing:
         """The rows of a table: a name, a number for each of PARTS, and the polarity of the sync."""
         raster = self.raster
         names = [f"{one}, lines" for one in FIELDS] if raster.interlaced else ["down, lines"]
-        rows = [("across, columns", raster.across, raster.wide)]
+        rows = [("across, columns" if raster.bits == DEPTH else "across, pixels", raster.across, raster.wide)]
         rows += [(name, kind, raster.tall) for name, kind in zip(names, raster.down)]
         return [
             (name, [number(kind[part].value) if part in kind else "-" for part in PARTS], "-" if positive is None else sign(positive))
@@ -288,6 +289,7 @@ class Timing:
             "fields": raster.fields,
             "column": raster.spans[0][0],
             "interlaced": raster.interlaced,
+            "bits": raster.bits,
             "horizontal": figures(raster.across),
             "vertical": [figures(kind) for kind in raster.down],
             "hsync_positive": raster.wide,

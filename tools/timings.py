@@ -14,7 +14,9 @@ import packets
 
 Ints = npt.NDArray[np.int64]
 PARTS = ("active", "front porch", "sync", "back porch", "total")
-AVI = "82"  # the first two digits of the header
+AVI, CONTROL = "82", "03"  # the first two digits of the header: of an AVI InfoFrame, of general control
+BITS = {4: 24, 5: 30, 6: 36, 7: 48}  # of a pixel, by the depth that general control says (HDMI 1.4, section 6.5.3)
+DEPTH = 24  # bits of a pixel that takes one column
 LOST = 2  # in place of a level: what follows is not known to follow at once
 STABLE = 16  # neighbouring rows of one width and one level of both syncs, from which on the two hold
 ALIKE = ("0" * link.PACKET, "1" * link.PACKET, "2" * link.PACKET, "3" * link.PACKET)
@@ -46,7 +48,8 @@ class Raster:
     is whole. `down` has one item, or where the fields are interlaced two: of those that begin with HSYNC, and of those that
     begin half a line later. What was not seen is missing. `late` says how many columns after an edge of HSYNC, or the middle
     between two, VSYNC changes; `wide` and `tall` whether HSYNC and VSYNC are positive, None where they do not change; `absent`
-    names the one that should have, since there are rows, or blank lines between rows. `spans` are the first column of each field
+    names the one that should have, since there are rows, or blank lines between rows. `bits` are those of a pixel: where they are
+    more than 24, `size`, `across` and `columns` are in pixels, and not in columns of the listing. `spans` are the first column of each field
     and the one after its last."""
 
     size: tuple[int, int | None]
@@ -58,6 +61,7 @@ class Raster:
     tall: bool | None
     late: Figure | None
     absent: tuple[str, ...]
+    bits: int
     spans: tuple[tuple[int, int], ...]
 
     @property
@@ -103,6 +107,7 @@ class Meter:
         self.words, self.known = array("q"), array("q")  # damaged columns, and from where on the syncs are known again
         self.damaged = array("q")  # packets with a fault, by their first columns
         self.avis: list[tuple[int, Avi]] = []
+        self.depths: list[tuple[int, int]] = []  # columns, and the bits of a pixel from there on
         self.next, self.value = 0, LOST
         self.lose(0)
 
@@ -136,6 +141,8 @@ class Meter:
                 self.syncs(at, thing.fields[5])
             if thing.fields[0].startswith(AVI):
                 self.avi(thing)
+            elif thing.fields[0].startswith(CONTROL):
+                self.depth(thing)
         elif kind == "slip":
             self.lose(at)
         elif kind != "cut":
@@ -169,6 +176,13 @@ class Meter:
             self.lose(max(self.next, thing.at + columns))
         elif columns:
             self.next = thing.at + columns
+
+    def depth(self, thing: link.Thing) -> None:
+        """Keeps the depth of colour of a general control packet that says one."""
+        packet = packets.packet_of(thing.fields, thing.line)  # type: ignore[no-untyped-call]
+        depth = packet.bytes[1] & 15
+        if depth in BITS:
+            self.depths.append((thing.at, BITS[depth]))
 
     def avi(self, thing: link.Thing) -> None:
         """Keeps what an AVI InfoFrame says; one with a wrong checksum says nothing."""
@@ -324,13 +338,22 @@ def whole_place(column: int) -> Place:
 
 @dataclass
 class Part:
-    """Columns of a listing in which rows have one width and the syncs one polarity, for the most part."""
+    """Columns of a listing in which rows have one width and the syncs one polarity, for the most part. `bits` are those of a
+    pixel: in deep colour 24 of them are sent a column (HDMI 1.4, section 6.5)."""
 
     begin: int
     stop: int
     firsts: Ints
     widths: Ints
     level: int
+    bits: int
+
+    def pixels(self, columns: Ints) -> Ints:
+        """How many pixels take so many columns, to the nearest."""
+        if self.bits == DEPTH:
+            return columns
+        pixels: Ints = np.rint(columns * (DEPTH / self.bits)).astype(np.int64)
+        return pixels
 
     def slice(self, entries: Ints) -> Ints:
         """The changes in these columns, and before them the level at the first, where it is known."""
@@ -355,7 +378,9 @@ def parts_of(meter: Meter) -> Iterator[Part]:
         stop = meter.next if behind == len(firsts) else int(firsts[behind - 1] + widths[behind - 1])
         values, counts = np.unique(levels[start:behind], return_counts=True)
         level = int(values[np.argmax(counts)]) if len(values) else 0
-        yield Part(begin, stop, firsts[start:behind], widths[start:behind], level)
+        depths = [bits for column, bits in meter.depths if begin <= column < stop]
+        bits = max(set(depths), key=depths.count, default=DEPTH)
+        yield Part(begin, stop, firsts[start:behind], widths[start:behind], level, bits)
 
 
 def down_of(one: Field, ruler: Ruler, firsts: Ints) -> dict[str, float]:
@@ -391,10 +416,10 @@ def sized(part: Part, found: list[Field]) -> list[tuple[int, int | None]]:
     """The size of each field: pixels of a row, and rows. One that is not whole has that of its neighbour."""
     sizes: list[tuple[int, int | None] | None] = []
     for one in found:
-        widths, counts = np.unique(part.widths[one.rows], return_counts=True)
+        widths, counts = np.unique(part.pixels(part.widths[one.rows]), return_counts=True)
         sizes.append((int(widths[np.argmax(counts)]), one.rows.stop - one.rows.start) if one.is_whole else None)
     every = [size for size in sizes if size is not None]
-    last = every[0] if every else (int(np.bincount(part.widths).argmax()), None)
+    last = every[0] if every else (int(np.bincount(part.pixels(part.widths)).argmax()), None)
     return [last := size if size is not None else last for size in sizes]
 
 
@@ -419,7 +444,7 @@ def across_of(part: Part, lines: Lines, mask: npt.NDArray[np.bool_], ruler: Rule
         "back porch": (first - lines.trail[rows], lines.start[rows]),
         "total": ((lines.end - lines.start)[sure], lines.start[sure]),
     }
-    made = {name: figure(*pair, place) for name, pair in values.items()}
+    made = {name: figure(part.pixels(columns), starts, place) for name, (columns, starts) in values.items()}
     return {name: one for name, one in made.items() if one is not None}
 
 
@@ -456,7 +481,7 @@ def rasters_of(part: Part, hsync: Edges, vsync: Edges) -> Iterator[Raster]:
         whole = sum(one.is_whole for one in its)
         polarities = (bool(1 - wide) if hsync.seen.any() else None, bool(1 - tall) if vsync.seen.any() else None)
         where = tuple((one.begin, one.stop) for one in its)
-        yield Raster(size, whole, interlaced, across, down, *polarities, late, absent_of(part, hsync, vsync), where)
+        yield Raster(size, whole, interlaced, across, down, *polarities, late, absent_of(part, hsync, vsync), part.bits, where)
 
 
 def absent_of(part: Part, hsync: Edges, vsync: Edges) -> tuple[str, ...]:

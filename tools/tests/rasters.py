@@ -23,6 +23,7 @@ class Sent:
     more: dict = None
     wider: dict = None
     guards: int = 2  # columns before a row; 0 of DVI
+    depth: int = None  # of colour, as a general control packet behind the InfoFrame says it
 
     def fields(self, count):
         """The first line of each field with its offset in half lines, the first of its rows, and the lines of all."""
@@ -70,11 +71,14 @@ class Sent:
             first = sync + 12
             yield from runs(cuts, first, level)
             yield ("c", f"{level(first) | BEFORE_ISLAND:02x}", "8")
-            digits = [str(level(first + 8 + column)) for column in range(36)]
-            yield ("i", "".join(digits[:2]))
-            yield ("p", *avi(self.vic, self.repetition), "".join(digits[2:34]))
-            yield ("e", "".join(digits[34:]))
-            yield from runs({first + 44, *changes}, wide, level, first + 44)
+            packets = [avi(self.vic, self.repetition)] + ([] if self.depth is None else [control(self.depth)])
+            digits = "".join(str(level(first + 8 + column)) for column in range(4 + 32 * len(packets)))
+            yield ("i", digits[:2])
+            for number, packet in enumerate(packets):
+                yield ("p", *packet, digits[2 + 32 * number :][:32])
+            yield ("e", digits[-2:])
+            behind = first + 8 + len(digits)
+            yield from runs({behind, *changes}, wide, level, behind)
         else:
             yield from runs(cuts, wide, level)
 
@@ -93,6 +97,11 @@ def avi(vic, repetition):
     data = [0, 0x10, 0x08, 0, vic, repetition] + [0] * 22
     data[0] = -(0x82 + 2 + 13 + sum(data)) % 256
     return ["82020d", *(bytes(data[at : at + 7]).hex() for at in range(0, 28, 7))]
+
+
+def control(depth):
+    """Header and bodies of a general control packet that says a depth of colour."""
+    return ["030000", *[bytes((0, depth, 0, 0, 0, 0, 0)).hex()] * 4]
 
 
 def text(lines):

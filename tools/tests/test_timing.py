@@ -121,22 +121,26 @@ def test_planted_infoframe(timing):
 
 
 def test_planted_unsteady(timing):
-    """One line of 803 columns; one frame of 526 lines; VSYNC three columns behind HSYNC."""
+    """One line of 803 columns; one frame of 526 lines; VSYNC three columns behind HSYNC. Columns are counted from the first of
+    twelve before the guards of the first row: of line 35, whose pixels begin in column 144."""
     _, said = timing(VGA(wider={600: 3}), status=1)
-    at = said["rasters"][0]["column"]
-    (note,) = [one for one in notes(said) if "H total" in one]
-    assert note.startswith("not steady: H total 800, but 803 in 1 line, first at column ")
+    at = f"at column {800 * 600 - (800 * 35 + 144 - 2 - 12):,} (line 76 of its field)"
+    assert notes(said) == [
+        f"not steady: H front porch 16, but 19 in 1 line, {at}", f"not steady: H total 800, but 803 in 1 line, {at}"
+    ]
     total = said["rasters"][0]["horizontal"]["total"]
     assert (total["others"], total["other"], total["line"]) == (1, 803, 600 - 525 + 1)
     front = said["rasters"][0]["horizontal"]["front_porch"]
     assert (front["others"], front["other"], front["column"]) == (1, 19, total["column"])
     _, said = timing(VGA(more={1: 1}), fields=4, status=1)
-    assert [one.split(", first")[0] for one in notes(said)] == [
-        "not steady: V front porch 10, but 11 in 1 frame", "not steady: V total 525, but 526 in 1 frame"
+    at = f"at column {800 * 525 - (800 * 35 + 144 - 2 - 12):,}"
+    assert notes(said) == [
+        f"not steady: V front porch 10, but 11 in 1 frame, {at}", f"not steady: V total 525, but 526 in 1 frame, {at}"
     ]
+    _, said = timing(VGA(wider={600: 3, 700: 4, 900: 4}), status=1)
+    assert notes(said)[1].startswith("not steady: H total 800, but another in 3 lines, first 803 at column 451,870 ")
     _, said = timing(VGA(late=3), status=1)
     assert notes(said) == ["VSYNC changes 3 columns after HSYNC, wants 0"]
-    assert at == 0
 
 
 def test_the_place_of_an_unsteady_line():
@@ -169,9 +173,27 @@ def test_interlaced_without_half_lines(timing):
     assert "VIC 8" in note and "; but scan interlaced, wants progressive" in note
 
 
+@pytest.mark.parametrize("depth, bits, across", [
+    (5, 30, (2400, 110, 55, 185)), (6, 36, (2880, 132, 66, 222)), (7, 48, (3840, 176, 88, 296)),
+])
+def test_deep_colour(depth, bits, across):
+    """VIC 16, of which a line has 5/4, 3/2 or twice as many columns (HDMI 1.4, section 6.5.2)."""
+    (one,) = measured(Sent(across, (1080, 4, 5, 36), vic=16, depth=depth), 2, Rate(148.5e6))
+    assert (one.matched.wanted.name, one.matched.differences, one.is_faulty) == ("VIC 16", (), False)
+    assert one.size == f"1,920 pixels, {bits} bits a pixel, 1,080 rows, progressive, 2 whole frames"
+    assert one.rate == "pixel clock 148,500,000 Hz, 60.00 frames a second"
+    assert one.table[0] == ("across, pixels", ["1,920", "88", "44", "148", "2,200"], "positive")
+
+
+def test_deep_colour_whose_parts_are_no_whole_columns():
+    """VIC 2 of 30 bits: 62 pixels of sync take 77.5 columns, and 60 of back porch 75."""
+    (one,) = measured(Sent((900, 20, 78, 75), (480, 9, 6, 30), (False, False), vic=2, depth=5), 2)
+    assert (one.matched.wanted.name, one.is_faulty) == ("VIC 2", False)
+
+
 def test_two_rasters(timing):
     """A source that changes its format: each is measured, and both are said."""
-    lines = [*VGA().lines(2), *HD().lines(2)]
+    lines = [*VGA().lines(3), *HD().lines(2)]
     came, said = timing(text(lines), status=1)
     assert came.startswith("not steady: 2 sizes or rasters\n640 pixels, 480 rows")
     assert [one["nearest"] for one in said["rasters"]] == ["VIC 1", "VIC 4"]
