@@ -20,7 +20,7 @@ MOST_SAID = 4  # differences from the format of an InfoFrame
 
 
 class Note(NamedTuple):
-    """A line on what was measured, and whether it tells a fault."""
+    """A line on what was measured, and whether it is a fault."""
 
     text: str
     is_fault: bool = True
@@ -40,7 +40,7 @@ class Difference(NamedTuple):
 
 @dataclass(frozen=True)
 class Rate:
-    """What was told beforehand of a capture's rate: its pixel clock in Hz, or its frames (interlaced: fields) a second."""
+    """What is given of a capture's rate: its pixel clock in Hz, or its frames (interlaced: fields) a second."""
 
     clock: float | None = None
     fields: float | None = None
@@ -122,32 +122,32 @@ class Match:
 
 def match(raster: Raster, clock: float | None, vic: int | None) -> Match:
     """The format of a raster with this pixel clock (in Hz, if known). Of several that fit as well, the VIC's goes first."""
-    told = {one: differences(raster, one) for one in formats()}
-    equal = tuple(one for one, unlike in told.items() if not unlike)
+    unlike_of = {one: differences(raster, one) for one in formats()}
+    equal = tuple(one for one, unlike in unlike_of.items() if not unlike)
     timed = tuple(one for one in equal if has_clock(one, clock))
 
-    def is_told(one: Format) -> bool:
+    def is_named(one: Format) -> bool:
         return one.source == CTA and one.code == vic
 
     if timed:
-        return Match(timed, next((one for one in timed if is_told(one)), timed[0]), ())
+        return Match(timed, next((one for one in timed if is_named(one)), timed[0]), ())
     if equal:
-        wanted = min(equal, key=lambda one: (not is_told(one), abs(one.clock - (clock or 0))))
+        wanted = min(equal, key=lambda one: (not is_named(one), abs(one.clock - (clock or 0))))
         return Match((), wanted, (clock_difference(wanted, clock or 0),))
-    near = [one for one, unlike in told.items() if len(unlike) <= MOST_DIFFERENCES * max(1, len(raster.down))]
+    near = [one for one, unlike in unlike_of.items() if len(unlike) <= MOST_DIFFERENCES * max(1, len(raster.down))]
     if not near:
         return Match((), None, ())
     wanted = min(
         near,
         key=lambda one: (
-            any(part.name.endswith("active") for part in told[one]),
-            len(told[one]),
+            any(part.name.endswith("active") for part in unlike_of[one]),
+            len(unlike_of[one]),
             not has_clock(one, clock),
-            not is_told(one),
-            sum(part.part for part in told[one]),
+            not is_named(one),
+            sum(part.part for part in unlike_of[one]),
         ),
     )
-    return Match((), wanted, tuple(told[wanted]))
+    return Match((), wanted, tuple(unlike_of[wanted]))
 
 
 def headline(raster: Raster, matched: Match) -> Note:

@@ -49,8 +49,8 @@ class Raster:
     begin half a line later. What was not seen is missing. `late` says how many columns after an edge of HSYNC, or the middle
     between two, VSYNC changes; `wide` and `tall` whether HSYNC and VSYNC are positive, None where they do not change; `absent`
     names the one that should have, since there are rows, or blank lines between rows. `bits` are those of a pixel: where they are
-    more than 24, `size`, `across` and `columns` are in pixels, and not in columns of the listing. `spans` are the first column of each field
-    and the one after its last."""
+    more than 24, `size`, `across` and `columns` are in pixels, and not in columns of the listing. `spans` are the first column
+    of each field and the one after its last."""
 
     size: tuple[int, int | None]
     fields: int
@@ -112,7 +112,7 @@ class Meter:
         self.lose(0)
 
     def lose(self, column: int) -> None:
-        """What comes from this column on is not known to follow what came."""
+        """What begins with this column is not known to follow what was before it."""
         self.hsync.append(column << 2 | LOST)
         self.vsync.append(column << 2 | LOST)
         self.next, self.value = column, -1

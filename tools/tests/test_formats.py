@@ -16,7 +16,7 @@ HAS_DECODER = pytest.mark.skipif(shutil.which("edid-decode") is None, reason="ed
 PART = re.compile(r"([HV])front +(\d+) .sync +(\d+) .back +(\d+) .pol ([PN])(?: .border (\d+))?")
 
 
-def told(*words):
+def decoded(*words):
     """What edid-decode says: size and scan, clock in Hz, aspect, parts across and down with polarity, half lines."""
     text = subprocess.run(["edid-decode", *words], capture_output=True, text=True, check=True).stdout
     head, parts = HEAD.search(text), {}
@@ -43,7 +43,7 @@ def test_every_code():
 def test_the_vics_of_edid_decode():
     for found in formats():
         if found.source == CTA:
-            assert ours(found) == told("--vic", str(found.code)), found.name
+            assert ours(found) == decoded("--vic", str(found.code)), found.name
 
 
 @HAS_DECODER
@@ -55,7 +55,7 @@ def test_the_dmts_of_edid_decode():
         if found.source != DMT:
             continue
         words = ("--cvt", formula[found.code]) if found.code in formula else ("--dmt", str(found.code))
-        theirs, own = told(*words), ours(found)
+        theirs, own = decoded(*words), ours(found)
         assert (own[:2], own[3:]) == (theirs[:2], theirs[3:]), found.name
 
 

@@ -3,7 +3,6 @@ out here, from CTA-861-G, or are those of edid-decode."""
 
 import json
 import random
-import re
 import shutil
 import sys
 from functools import partial
@@ -16,7 +15,7 @@ sys.path.insert(0, str(TOP / "tools"))
 import link  # noqa: E402
 from formats import CTA, DMT, of_vic  # noqa: E402
 from matching import Rate, timings  # noqa: E402
-from test_formats import told as decoded  # noqa: E402
+from test_formats import decoded  # noqa: E402
 from timings import Meter  # noqa: E402
 
 # CTA-861-G, table 1: VIC 1, 4, 5, 6 and 16.
@@ -46,18 +45,18 @@ def timing(tool, program, tmp_path):
             capture = program("damage", *damage, source=capture)
         (tmp_path / "a.tmc").write_bytes(capture)
         words += ("--dvi",) * (kind == "dvi")
-        came = tool("timing", tmp_path / "a.tmc", *words, status=status).stdout.decode()
+        shown = tool("timing", tmp_path / "a.tmc", *words, status=status).stdout.decode()
         said = json.loads(tool("timing", tmp_path / "a.tmc", "--json", *words, status=status).stdout)
         assert said["faulty"] == (status == 1)
-        return came, said
+        return shown, said
 
     return run
 
 
 def test_what_is_written(timing):
     """Columns are counted from the first of the twelve before the first opening on, which is the InfoFrame's island."""
-    came, said = timing(VGA(vic=1), "--clock", 25175000)
-    assert came == (
+    shown, said = timing(VGA(vic=1), "--clock", 25175000)
+    assert shown == (
         "640 pixels, 480 rows, progressive, 3 whole frames\n"
         "  format: VIC 1 (640x480p, 59.94 Hz, 4:3); with the same timing DMT 04h\n"
         "                            active front porch        sync  back porch       total  polarity\n"
@@ -78,7 +77,7 @@ def test_what_is_written(timing):
 
 
 def notes(said):
-    """The texts that tell a fault."""
+    """The texts of the faults."""
     found = [note["text"] for one in said["rasters"] for note in one["notes"] if note["fault"]]
     return said["notes"] + found
 
@@ -109,15 +108,18 @@ def test_planted_infoframe(timing):
     """Another VIC, a pixel repetition that the format has not, and no VIC where there is one."""
     fault = partial(timing, status=1)
     (said,) = notes(fault(VGA(vic=4))[1])
-    assert re.match(r"AVI InfoFrame: VIC 4 \(1280x720p, 60 Hz, 16:9\), \d times, first at column [\d,]+; but H active 640, wants 1,280; ", said)
+    assert said == (
+        "AVI InfoFrame: VIC 4 (1280x720p, 60 Hz, 16:9), 3 times, first at column 14; but H active 640, wants 1,280; "
+        "H front porch 16, wants 110; H sync 96, wants 40; H back porch 48, wants 220; and 6 more"
+    )
     (said,) = notes(fault(VGA(vic=1, repetition=1))[1])
     assert said.endswith("; but pixel repetition 1, wants 0")
     (said,) = notes(fault(VGA(vic=0))[1])
     assert said.startswith("AVI InfoFrame: no VIC, ") and said.endswith("; wants VIC 1")
     (said,) = notes(fault(I480(vic=6))[1])
     assert said.endswith("; but pixel repetition 0, wants 1")
-    came, said = timing(VGA(vic=120))
-    assert "VIC 120" in came and "no timing of it is known here" in came
+    shown, said = timing(VGA(vic=120))
+    assert "VIC 120" in shown and "no timing of it is known here" in shown
 
 
 def test_planted_unsteady(timing):
@@ -154,8 +156,8 @@ def test_the_place_of_an_unsteady_line():
 @pytest.mark.parametrize("sent, name", [(I1080(vic=5), "VIC 5 "), (I480(vic=6, repetition=1), "VIC 6 ")])
 def test_interlaced(timing, sent, name):
     """Both fields, of whose porches one has half a line more (CTA-861-G, figures 3 and 5)."""
-    came, said = timing(sent, fields=5 if name == "VIC 6 " else 3)
-    assert f"  format: {name}" in came and ", interlaced, " in came
+    shown, said = timing(sent, fields=5 if name == "VIC 6 " else 3)
+    assert f"  format: {name}" in shown and ", interlaced, " in shown
     first, second = said["rasters"][0]["vertical"]
     _, front, sync, back = sent.down
     values = [{part: one["value"] for part, one in kind.items()} for kind in (first, second)]
@@ -194,13 +196,13 @@ def test_deep_colour_whose_parts_are_no_whole_columns():
 def test_two_rasters(timing):
     """A source that changes its format: each is measured, and both are said."""
     lines = [*VGA().lines(3), *HD().lines(2)]
-    came, said = timing(text(lines), status=1)
-    assert came.startswith("not steady: 2 sizes or rasters\n640 pixels, 480 rows")
+    shown, said = timing(text(lines), status=1)
+    assert shown.startswith("not steady: 2 sizes or rasters\n640 pixels, 480 rows")
     assert [one["nearest"] for one in said["rasters"]] == ["VIC 1", "VIC 4"]
 
 
 def test_rates(timing):
-    """The rate tells formats of one raster apart: 1,920 x 1,080 at 30, 60 and 120 frames a second."""
+    """The rate parts formats of one raster: 1,920 x 1,080 at 30, 60 and 120 frames a second."""
     def names(*words):
         return [one.code for one in measured(HD(), 3, Rate(*words))[0].matched.equal if one.source == CTA]
 
@@ -209,9 +211,9 @@ def test_rates(timing):
     assert names(148.5e6) == names(None, 119.88) == [47, 71]
     (one,) = measured(HD(), 3, Rate(None, 50))
     assert str(one.head.text) == "VIC 4 (1280x720p, 60 Hz, 16:9), but pixel clock 61,875,000 Hz, wants 74,250,000 Hz"
-    came, said = timing(HD(vic=4), "--rate", 120, status=1)
+    shown, said = timing(HD(vic=4), "--rate", 120, status=1)
     assert notes(said) == [notes(said)[0]] and notes(said)[0].endswith("; but pixel clock 148,500,000 Hz, wants 74,250,000 Hz")
-    assert "pixel clock 148,500,000 Hz, 120.00 frames a second" in came
+    assert "pixel clock 148,500,000 Hz, 120.00 frames a second" in shown
 
 
 @pytest.mark.skipif(shutil.which("edid-decode") is None, reason="edid-decode of Debian's package edid-decode is missing")
@@ -244,9 +246,9 @@ def test_no_false_alarm_on_the_modes_of_make_content(tool, timing, tmp_path, vic
     found = of_vic(vic)
     pictures = images(tmp_path, (found.across.active, found.rows))
     content = tool("content", "--vic", vic, *pictures).stdout
-    came, said = timing(content, kind="content")
+    shown, said = timing(content, kind="content")
     (raster,) = said["rasters"]
-    assert f"VIC {vic}" in raster["equal"] and f"  AVI InfoFrame: VIC {vic} " in came and f"  format: VIC {vic} " in came
+    assert f"VIC {vic}" in raster["equal"] and f"  AVI InfoFrame: VIC {vic} " in shown and f"  format: VIC {vic} " in shown
 
 
 def test_no_false_alarm_on_random_taps(tool, timing, tmp_path):
@@ -256,7 +258,7 @@ def test_no_false_alarm_on_random_taps(tool, timing, tmp_path):
     for _ in range(20):
         skew = ",".join(str(chance.randrange(71)) for _ in range(3))
         words = ("--offset", chance.randrange(4_200_000), "--skew", skew, "--bits", chance.randrange(400_000, 9_000_000))
-        came, said = timing(content, kind="content", make=words)
+        shown, said = timing(content, kind="content", make=words)
         (raster,) = said["rasters"]
         assert raster["equal"][:1] == ["VIC 1"] and raster["differences"] == []
 
@@ -280,8 +282,8 @@ def test_no_rows(timing, tool, program, tmp_path):
     """No raster, no alignment, and what is no capture or breaks off."""
     null = ("p", "000000", *["0" * 14] * 4, "0" * 32)
     lines = [("c", "00", "24"), ("c", "14", "8"), ("i", "00"), null, ("e", "00"), ("c", "00", "40")]
-    came, said = timing(text(lines), status=1)
-    assert came == "no row of pixels was received, so there is no raster\n" and said["rasters"] == []
+    shown, said = timing(text(lines), status=1)
+    assert shown == "no row of pixels was received, so there is no raster\n" and said["rasters"] == []
     (tmp_path / "zeros.tmc").write_bytes(b"TMC1" + (80).to_bytes(4, "big") + bytes(30))
     assert tool("timing", tmp_path / "zeros.tmc", status=1).stdout.startswith(b"no alignment: `tools/lanes look`")
     (tmp_path / "text.tmc").write_bytes(b"no capture at all")
@@ -289,14 +291,14 @@ def test_no_rows(timing, tool, program, tmp_path):
     assert b"No such file" in tool("timing", tmp_path / "none.tmc", status=3).stderr
     capture = program("make", "link", source=text(VGA().lines(2)))
     (tmp_path / "short.tmc").write_bytes(capture[: len(capture) // 2])
-    came = tool("timing", tmp_path / "short.tmc", status=3)
-    assert b"640 pixels" in came.stdout and b"no whole capture" in came.stderr
+    shown = tool("timing", tmp_path / "short.tmc", status=3)
+    assert b"640 pixels" in shown.stdout and b"no whole capture" in shown.stderr
 
 
 @pytest.mark.parametrize("words", [("--clock", "0"), ("--rate", "-1"), ("--clock", "nan"), ("--clock", "1", "--rate", "1"), ()])
 def test_wrong_words(tool, words):
-    came = tool("timing", *words, *["a.tmc"] * bool(words), status=2)
-    assert came.stderr.startswith(b"usage: timing")
+    shown = tool("timing", *words, *["a.tmc"] * bool(words), status=2)
+    assert shown.stderr.startswith(b"usage: timing")
 
 
 @pytest.mark.parametrize("has_hsync", [True, False])
