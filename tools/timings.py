@@ -472,16 +472,25 @@ def rasters_of(part: Part, hsync: Edges, vsync: Edges) -> Iterator[Raster]:
         groups.setdefault(size, []).append(place)
     for size, chosen in groups.items():
         its = [found[at] for at in chosen]
-        changes = [ruler.halves(at)[0] for one in its for at in (one.lead, one.trail, one.end) if at is not None]
-        phases = {int(2 * at) % 2 for at in changes if at is not None}
-        interlaced = 1 in phases if phases else None
-        down = downs_of(its, ruler, part.firsts, bool(interlaced)) if phases else ()
+        interlaced = is_interlaced(its, ruler)
+        down = downs_of(its, ruler, part.firsts, bool(interlaced)) if ruler.total else ()
         across = across_of(part, lines, np.isin(number, chosen), ruler, its)
-        late = late_of(its, vsync, ruler) if phases else None
+        late = late_of(its, vsync, ruler)
         whole = sum(one.is_whole for one in its)
         polarities = (bool(1 - wide) if hsync.seen.any() else None, bool(1 - tall) if vsync.seen.any() else None)
         where = tuple((one.begin, one.stop) for one in its)
         yield Raster(size, whole, interlaced, across, down, *polarities, late, absent_of(part, hsync, vsync), part.bits, where)
+
+
+def is_interlaced(its: list[Field], ruler: Ruler) -> bool | None:
+    """Whether VSYNC begins or ends in the middle of a line in some field. Where it does not, both ends of a field must have
+    been seen: of the fields of an interlaced raster every second one begins with HSYNC."""
+    ends = [(one.trail if one.lead is None else one.lead, one.end) for one in its]
+    lines = [[ruler.halves(at)[0] for at in pair if at is not None] for pair in ends]
+    seen = [[at for at in one if at is not None] for one in lines]
+    if any(at % 1 for one in seen for at in one):
+        return True
+    return False if any(len(one) == 2 for one in seen) else None
 
 
 def absent_of(part: Part, hsync: Edges, vsync: Edges) -> tuple[str, ...]:

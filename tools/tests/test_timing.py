@@ -167,6 +167,14 @@ def test_interlaced(timing, sent, name):
     assert values[0]["active"] == values[1]["active"] == sent.down[0]
 
 
+def test_part_of_an_interlaced_field(timing):
+    """Without a change of VSYNC, or with one at the beginning of a line, it is not known whether fields are interlaced. The
+    second field begins at bit 262.5 * 17,160, the third at twice that."""
+    for offset, bits, interlaced in ((1_300_000, 2_000_000, None), (1_300_000, 4_000_000, True), (8_000_000, 2_000_000, None)):
+        _, said = timing(I480(vic=7, repetition=1), fields=4, make=("--offset", offset, "--bits", bits))
+        assert "VIC 7" in said["rasters"][0]["equal"] and said["rasters"][0]["interlaced"] is interlaced
+
+
 def test_interlaced_without_half_lines(timing):
     """Fields of whole lines are no format of CTA-861 but VIC 39."""
     _, said = timing(Sent((1440, 38, 124, 114), (240, 4, 3, 15), (False, False), vic=8, repetition=1))
