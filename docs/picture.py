@@ -31,11 +31,11 @@ TOP = Path(__file__).resolve().parents[1]
 BUILT = TOP / "crates" / "hdmi_cli" / "out" / "hdmi_cli"
 PICTURE, TEXT = TOP / "docs" / "report.png", TOP / "docs" / "report.txt"
 HEADING, PAGE = "## A picture there and back", "walk/damaged.html"
-WIDTH, HEIGHT = 1280, 1830
+WIDTH, HEIGHT = 1280, 2110
 WAITS = 300  # seconds for the page, also on a slow machine
 COLOURS = 256
 FAULT, ZOOMS = 197, 4  # which fault is shown, and how often the timeline is enlarged about it
-PARTS = ("header", "section[aria-labelledby=h-counts]", "#pictures", "#timeline")
+PARTS = ("header", "#timing", "section[aria-labelledby=h-counts]", "#pictures", "#timeline")
 WORDS = ("headless=new", "no-sandbox", "disable-gpu", "disable-dev-shm-usage", "hide-scrollbars", "force-device-scale-factor=1")
 
 

@@ -7,6 +7,7 @@ from dataclasses import dataclass, field
 import link
 import packets
 import pcm
+from timings import Meter
 
 FAULTS = {  # each kind: on which row of the timeline it stands, and what it says
     "word": ("lane", "a character of a control column is no control character"),
@@ -149,6 +150,7 @@ class Findings:
 
     def __init__(self, show, is_dvi=None):
         self.show, self.frames_of, self.text, self.sound = show, link.Frames(is_dvi), Text(), Sound()
+        self.meter = Meter()
         self.periods = {"kind": [], "at": [], "columns": [], "line": [], "value": []}
         self.faults = {
             "kind": [],
@@ -184,6 +186,7 @@ class Findings:
         if not (thing.kind == "fault" and thing.fields[0] in link.OF_PACKET):
             self.settle()
         self.text.add(name, fields)
+        self.meter.take(thing)
         self.shift(self.frames_of.columns.missed)
         self.epochs[-1].is_aligned |= thing.kind != "slip"
         ended = self.frames_of.take(thing)

@@ -2,7 +2,6 @@
 
 import argparse
 import errno
-import io
 import os
 import signal
 import sys
@@ -89,21 +88,25 @@ VICS = {
 }
 
 
-def lines(source, names=CONTENT, is_whole=True):
+def lines(source, names=CONTENT, is_whole=True, raw_rows=False):
     """The number, the name and the fields of each line of a listing, up to the line `end`; one that is not to be whole
-    may break off after any line."""
+    may break off after any line. With `raw_rows` the rows of a link listing (lines `v`) have one field, of bytes: that is
+    quicker where only their lengths matter."""
     number = 0
-    text = io.TextIOWrapper(source, "ascii", "replace", "\n")
-    for number, line in enumerate(text, 1):
-        if not line.endswith("\n"):
+    for number, line in enumerate(source, 1):
+        if not line.endswith(b"\n"):
             raise Refused(f"line {number}: the listing breaks off in it")
-        name, *fields = line[:-1].split(" ")
+        if raw_rows and line.startswith(b"v "):
+            yield number, "v", [line[2:-1]]
+            continue
+        text = line[:-1].decode("ascii", "replace")
+        name, *fields = text.split(" ")
         if name == "end":
-            if text.read(1):
+            if source.read(1):
                 raise Refused(f"line {number + 1}: something follows the line `end`")
             return
         if name not in names or not fields:
-            raise Refused(f"line {number}: `{line[:20].strip()}` begins no line of a {KINDS[names]}")
+            raise Refused(f"line {number}: `{text[:20].strip()}` begins no line of a {KINDS[names]}")
         yield number, name, fields
     if not is_whole:
         return

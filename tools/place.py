@@ -10,7 +10,7 @@ PROGRAM = HERE / "vabgrot"  # where it is installed
 IS_INSTALLED = PROGRAM.is_file()
 DOCUMENTS = HERE.parent.parent / "share" / "doc" / "vabgrot"
 FILE = re.compile(r"(?<![\w./])(docs|examples)/(?=\w)")
-TOOL = re.compile(r"(?<![\w./])tools/(?=(content|lanes|pictures|report|slice|sound|survey)\b)")
+TOOL = re.compile(r"(?<![\w./])tools/(?=(content|lanes|pictures|report|slice|sound|survey|timing)\b)")
 
 
 def named(text, has_files=False):

@@ -6,7 +6,7 @@ import pytest
 
 from conftest import HANGS, TOP, built
 
-TOOLS = ["content", "lanes", "pictures", "report", "slice", "sound", "survey"]
+TOOLS = ["content", "lanes", "pictures", "report", "slice", "sound", "survey", "timing"]
 
 
 def commands(text):

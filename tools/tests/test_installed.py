@@ -82,6 +82,7 @@ def test_each_tool_on_a_capture(shell, prefix, tmp_path):
     shell("vabgrot-lanes unpack b.bin g.bin r.bin < again.tmc > bits && vabgrot-lanes pack --order 2,1,0 b.bin g.bin r.bin > swapped.tmc")
     came = shell("vabgrot-lanes look swapped.tmc", 1).stdout
     assert "lanes pack" in came and "tools/lanes" not in came
+    assert "no format of CTA-861" in shell("vabgrot-timing again.tmc", 1).stdout
     came = shell("vabgrot-survey bars.tmc again.tmc swapped.tmc -o survey.csv", 1)
     assert came.stderr.startswith("3 captures, 3 judged now: 1 clean, ")
 
@@ -107,7 +108,7 @@ CLEAN = """set -eu
 export LC_ALL=C.UTF-8 HOME=$(mktemp -d)
 ! command -v rt
 cd "$HOME"
-for tool in content lanes pictures report slice sound survey; do
+for tool in content lanes pictures report slice sound survey timing; do
   mkdir "$HOME/$tool" && cd "$HOME/$tool"
   vabgrot-$tool --help | sed '1,/^Examples/d; s/--eye eye.png//' > examples && bash -eu -o pipefail examples
 done

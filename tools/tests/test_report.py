@@ -9,6 +9,7 @@ from collections import Counter
 import pytest
 from conftest import BUILT, HANGS, TOP, ran
 from PIL import Image
+from rasters import Sent, text
 
 webdriver = pytest.importorskip("selenium.webdriver", reason="Debian's package python3-selenium is missing")
 from selenium.webdriver.chrome.service import Service  # noqa: E402
@@ -136,6 +137,24 @@ def report(tool, program, driver, tmp_path):
 def has_track():
     path = os.environ.get("VABGROT_PROGRAM", BUILT)
     return ran([path, "recover", "track"], b"").returncode != 2
+
+
+def test_timing(report, program):
+    """What tools/timing says, in amber where it is a fault: a raster of VIC 1 with a back porch of 40 and the InfoFrame of VIC 4."""
+    right = dict(across=(640, 16, 96, 48), down=(480, 10, 2, 33), positive=(False, False))
+    wrong = right | {"across": (640, 16, 96, 40)}
+    for raster, vic, amber in ((right, 1, 0), (wrong, 4, 2)):
+        shown = report(program("make", "link", source=text(Sent(**raster, vic=vic).lines(2))), int(amber > 0))
+        block = shown.text("timing")
+        assert "640 pixels, 480 rows, progressive, 2 whole frames" in block
+        assert ("VIC 1 (640x480p, 59.94 Hz, 4:3), but H back porch 40, wants 48" in block) == (amber > 0)
+        cells = shown.run("return [...document.querySelectorAll('#timing tbody tr')].map((row) => [...row.cells].map((one) => one.textContent))")
+        back = str(raster["across"][3])
+        assert cells[0] == ["across, columns", "640", "16", "96", back, str(752 + int(back)), "negative"]
+        assert cells[1] == ["down, lines", "480", "10", "2", "33", "525", "negative"]
+        assert shown.run("return document.querySelectorAll('#timing .amber').length") == amber
+        assert shown.run("return document.querySelector('main section').id") == "timing"
+
 
 
 def texts(data):
