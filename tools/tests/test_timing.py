@@ -232,7 +232,6 @@ def test_each_format(option, source, codes):
         if (source, code) in ((DMT, 0x43), (DMT, 0x4B)):
             continue
         (width, rows, interlaced), clock, _, across, down, halves = decoded(option, str(code))
-        # Every twelfth row of pixels is enough to see all.
         sent = Sent((width, *across[:3]), (rows // (1 + interlaced), *down[:3]), (across[3], down[3]), halves)
         (one,) = measured(sent, 2, Rate(clock))
         assert (source, code) in [(equal.source, equal.code) for equal in one.matched.equal], (code, one.head)
