@@ -73,10 +73,10 @@ class Format:
         return f"{self.name} ({self.across.active}x{self.rows}{scan}, {self.rate:.4g} Hz, {self.aspect})"
 
 
-# CTA-861-G, tables 1 and 2. Of each raster: the VICs with an aspect ratio of 4:3, 16:9, 64:27 and 256:135; the pixel clock in
-# kHz; active, front porch, sync and back porch of a line; the same of a field or frame; the polarities of HSYNC and VSYNC;
-# and then i: interlaced, and "whole" where its fields are whole lines; xN: how many times each pixel is sent; front+N: so many
-# lines more of the front porch are of the format too. The repetition is that of CTA-861-G, table 18.
+# CTA-861, section 4 (detailed timings, VICs). Of each raster: the VICs with an aspect ratio of 4:3, 16:9, 64:27 and 256:135;
+# the pixel clock in kHz; active, front porch, sync and back porch of a line; the same of a field or frame; the polarities of
+# HSYNC and VSYNC; and then i: interlaced, and "whole" where its fields are whole lines; xN: how many times each pixel is sent;
+# front+N: so many lines more of the front porch are of the format too.
 CTA_TABLE = """
  1  -   -   -  25175  640   16   96   48  480   10    2   33 --
  2  3   -   -  27000  720   16   62   60  480    9    6   30 --

@@ -11,7 +11,7 @@ from formats import CTA, Axis, Format, formats, of_vic
 from timings import DEPTH, PARTS, Avi, Figure, Meter, Place, Raster, rasters
 
 PULLED = 1001 / 1000  # the rates of CTA-861 are also these times lower
-TOLERANCE = 0.005  # of a pixel clock (CTA-861-G, section 4.1: 0.5 percent)
+TOLERANCE = 0.005  # of a pixel clock (CTA-861, section 4: 0.5 percent)
 MOST_DIFFERENCES = 4  # of the numbers of a raster from those of a format that is called the nearest
 HDMI_VICS = frozenset((93, 94, 95, 98))  # named by HDMI's own InfoFrame instead (HDMI 1.4, section 8.2.3)
 FIELDS = ("first field", "second field")

@@ -70,7 +70,7 @@ def test_the_lists_of_edid_decode():
 
 @pytest.mark.parametrize(
     "vic, rate, total, repetitions",
-    [  # CTA-861-G, tables 1 and 18
+    [  # CTA-861, section 4, and its pixel repetitions
         (1, 59.940, (800, 525), (0,)),
         (4, 60.0, (1650, 750), (0,)),
         (5, 60.0, (2200, 562), (0,)),

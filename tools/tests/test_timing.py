@@ -1,5 +1,5 @@
 """tools/timing: right formats are found and planted faults are named with their place. The numbers of formats are written
-out here, from CTA-861-G, or are those of edid-decode."""
+out here, from CTA-861, or are those of edid-decode."""
 
 import json
 import random
@@ -18,7 +18,7 @@ from matching import Rate, timings  # noqa: E402
 from test_formats import decoded  # noqa: E402
 from timings import Meter  # noqa: E402
 
-# CTA-861-G, table 1: VIC 1, 4, 5, 6 and 16.
+# CTA-861, section 4: VIC 1, 4, 5, 6 and 16.
 VGA = partial(Sent, across=(640, 16, 96, 48), down=(480, 10, 2, 33), positive=(False, False))
 HD = partial(Sent, across=(1280, 110, 40, 220), down=(720, 5, 5, 20))
 I1080 = partial(Sent, across=(1920, 88, 44, 148), down=(540, 2, 5, 15), halves=True)
@@ -83,7 +83,7 @@ def notes(said):
 
 
 def test_planted_porch_lines_and_polarity(timing):
-    """A source as of the issue that asks for this tool: back porch 40 for 48, two lines too many, HSYNC of the other sign."""
+    """Each alone, and all in one source: back porch 40 for 48, two lines too many, the other polarity."""
     fault = partial(timing, status=1)
     head = "VIC 1 (640x480p, 59.94 Hz, 4:3), but "
     assert notes(fault(VGA(across=(640, 16, 96, 40)))[1]) == [head + "H back porch 40, wants 48"]
@@ -155,7 +155,7 @@ def test_the_place_of_an_unsteady_line():
 
 @pytest.mark.parametrize("sent, name", [(I1080(vic=5), "VIC 5 "), (I480(vic=6, repetition=1), "VIC 6 ")])
 def test_interlaced(timing, sent, name):
-    """Both fields, of whose porches one has half a line more (CTA-861-G, figures 3 and 5)."""
+    """Both fields, of whose porches one has half a line more (CTA-861, section 4)."""
     shown, said = timing(sent, fields=5 if name == "VIC 6 " else 3)
     assert f"  format: {name}" in shown and ", interlaced, " in shown
     first, second = said["rasters"][0]["vertical"]
@@ -232,7 +232,6 @@ def test_each_format(option, source, codes):
         if (source, code) in ((DMT, 0x43), (DMT, 0x4B)):
             continue
         (width, rows, interlaced), clock, _, across, down, halves = decoded(option, str(code))
-        # Every twelfth row of pixels is enough to see all.
         sent = Sent((width, *across[:3]), (rows // (1 + interlaced), *down[:3]), (across[3], down[3]), halves)
         (one,) = measured(sent, 2, Rate(clock))
         assert (source, code) in [(equal.source, equal.code) for equal in one.matched.equal], (code, one.head)
