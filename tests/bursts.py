@@ -6,7 +6,7 @@ damaged characters of its own, after twelve control columns and before one, has 
 
 PROGRAM is crates/hdmi_cli/out/hdmi_cli by default, which `rt ci` and `./vabgrot` build. The tables, all where none is named:
 
-    places      a small stream with a burst of each length up to forty columns, at each of its places, of each kind, on one, two and three lanes
+    places      a small stream with a burst of each length up to forty columns, at each of its places, of each kind, on one to three lanes
     captures    COUNT random captures with bursts (200 by default), from SEED on
     packets     2,000 packets of which up to three characters of lane 0 and three of lanes 1 and 2 are other TERC4 characters
 
@@ -97,30 +97,42 @@ class Stream:
 # ---- what is captured
 
 @dataclass(frozen=True)
-class Capture:
-    """A tap of columns: from a bit on, with a skew of each lane."""
+class Tap:
+    """What is captured of columns: each lane from a bit on that is later by its skew, without some of its last bits."""
 
     version: int
     offset: int
     skews: tuple[int, int, int]
+    missing: tuple[int, int, int]
+
+    def sizes(self, count: int) -> list[int]:
+        """The bits of each lane of so many columns; in version 1 all have as many."""
+        sizes = [10 * count - self.offset - skew - missing for skew, missing in zip(self.skews, self.missing)]
+        return [min(sizes)] * 3 if self.version == 1 else sizes
 
     def lanes(self, columns: list[Column]) -> list[str]:
-        rows = ["".join([SENT[column[lane]] for column in columns])[self.offset + skew :] for lane, skew in enumerate(self.skews)]
-        return [row[: min(map(len, rows))] for row in rows] if self.version == 1 else rows
+        """The bits of the three lanes."""
+        rows = ("".join([SENT[column[lane]] for column in columns])[self.offset + skew :] for lane, skew in enumerate(self.skews))
+        return [row[:size] for row, size in zip(rows, self.sizes(len(columns)))]
 
-    def whole(self, count: int) -> int:
-        """How many columns each lane has to its end, of so many."""
-        return count - (max(self.skews) - min(self.skews) + 9) // 10 if self.version == 1 else count
+    def end(self, count: int) -> int:
+        """The column before which a lane of so many columns ends, with a whole character or with some bits more."""
+        return min((self.offset + skew + size) // 10 for skew, size in zip(self.skews, self.sizes(count)))
 
     def aligned_by(self, stream: Stream) -> int:
-        """The first column after a control period of which each lane has twelve characters."""
+        """The first column after a control period of which each lane has twelve characters; one past the last where there is none."""
         ends = (first for it, first in zip(stream.periods, stream.firsts) if it.kind != "control")
-        return next(first for first in ends if self.offset + max(self.skews) + 120 <= 10 * first)
+        return next((first for first in ends if self.offset + max(self.skews) + 120 <= 10 * first), len(stream.received))
 
 
-def random_tap(rng: random.Random, most: int) -> Capture:
-    skews = tuple(rng.choice((0, 1, 35, 70, rng.randrange(71))) for _ in range(3))
-    return Capture(rng.choice((1, 2)), rng.choice((0, 3, 7, rng.randrange(most))), skews)
+def random_tap(rng: random.Random, stream: Stream, most: int) -> Tap:
+    """A tap, from a bit below so many on, that has a first full alignment."""
+    while True:
+        skews = tuple(rng.choice((0, 1, 35, 70, rng.randrange(71))) for _ in range(3))
+        missing = tuple(rng.choice((0, 0, rng.randrange(most))) for _ in range(3))
+        tap = Tap(rng.choice((1, 2)), rng.choice((0, 3, 7, rng.randrange(most))), skews, missing)
+        if tap.aligned_by(stream) < tap.end(len(stream.received)):
+            return tap
 
 
 # ---- the rule
@@ -137,6 +149,15 @@ def is_sparse(it: Period, received: tuple[Column, ...]) -> bool:
     counts = [unlike(*pair) for pair in zip(it.columns, received)]
     pairs = [0] if it.kind == "video" else [0, len(counts) - 2]
     return max(counts) <= 1 and all(counts[at] + counts[at + 1] <= 1 for at in pairs)
+
+
+def amount(it: Period, received: tuple[Column, ...]) -> str:
+    """How much of a period that stands alone was damaged, in a word."""
+    if received == it.columns:
+        return "undamaged"
+    hurt = [[one != other for one, other in zip(*pair)] for pair in zip(it.columns, received)]
+    most = max(sum(column[lane] for column in hurt[at : at + 11]) for at in range(len(hurt)) for lane in range(3))
+    return "dense" if most > 2 else "sparse"
 
 
 def alone(stream: Stream, start: int, end: int) -> Iterator[tuple[int, Period]]:
@@ -261,18 +282,19 @@ def is_run(text: bytes, before: list[Column]) -> bool:
     return name == b"c %02x" % value_of(before[-1]) and wanted
 
 
-def compared(program: str, name: str, stream: Stream, tap: Capture, data: bytes, counted: collections.Counter) -> Iterator[Case]:
+def compared(program: str, name: str, stream: Stream, tap: Tap, counted: collections.Counter) -> Iterator[Case]:
     """Each period that stands alone, in what each command writes of the capture."""
-    start = tap.aligned_by(stream) - 12
+    start, lanes = tap.aligned_by(stream) - 12, tap.lanes(stream.received)
+    data = model.capture_of(tap.version, lanes)
     outputs = [run(program, words, data)[1] for words in (READERS[0], READERS[1], READERS[2], FURTHER[3])]
     link, content, check, relay = map(Found, [*outputs[:3], run(program, READERS[0], outputs[3])[1]])
     change = heard_change(stream.received, start)
-    for first, it in alone(stream, start, tap.whole(len(stream.received))):
+    for first, it in alone(stream, start, tap.end(len(stream.received))):
         received = tuple(stream.received[first : first + len(it.columns)])
         before = stream.received[first - 12 : first]
         row = row_of(it, before, received, first - start)
         place = f"{it.kind} at column {first} of {name}"
-        counted["damaged" if received != it.columns else "undamaged"] += 1
+        counted[amount(it, received)] += 1
         is_there = link.has(row)
         yield f"recover link, {place}", is_there or row, True
         if is_there:
@@ -323,9 +345,7 @@ def places(program: str, given: argparse.Namespace) -> Iterator[Case]:
             stream.replace(first + place, burst(rng, kind, length), hit)
             counted["bursts"] += 1
         stream.add(control(0, 24))
-        tap = random_tap(rng, 200)
-        data = model.capture_of(tap.version, tap.lanes(stream.received))
-        yield from compared(program, f"the bursts of {length} columns, seed {given.seed}", stream, tap, data, counted)
+        yield from compared(program, f"the bursts of {length} columns, seed {given.seed}", stream, random_tap(rng, stream, 200), counted)
     print(f"places: {dict(counted)}")
 
 
@@ -334,18 +354,19 @@ def captures(program: str, given: argparse.Namespace) -> Iterator[Case]:
     counted = collections.Counter()
     for case in range(given.count):
         rng = random.Random(f"bursts {given.seed} {case}")
-        name, stream, tap = f"capture {case} of seed {given.seed}", random_stream(rng), random_tap(rng, 700)
-        harm(rng, stream, tap.aligned_by(stream))
+        name, stream = f"capture {case} of seed {given.seed}", random_stream(rng)
+        tap = random_tap(rng, stream, 900)
+        damage(rng, stream, tap.aligned_by(stream))
         lanes = tap.lanes(stream.received)
         columns, start = model.aligned(lanes), tap.aligned_by(stream) - 12
-        yield f"the first alignment of {name}", columns == stream.received[start : tap.whole(len(stream.received))], True
+        yield f"the first alignment of {name}", columns == stream.received[start : tap.end(len(stream.received))], True
         data = model.capture_of(tap.version, lanes)
         listing = hearing.link_text(columns)
         again = hearing.capture_of_columns(hearing.sent_columns(model.relayed(listing[1])))
         wanted = [listing, hearing.content_text(columns), hearing.check_text(listing[1]), (listing[0], again)]
         for words, answer in zip((*READERS[:3], FURTHER[3]), wanted):
             yield f"{words} of {name}", run(program, words, data)[:2], answer
-        yield from compared(program, name, stream, tap, data, counted)
+        yield from compared(program, name, stream, tap, counted)
     print(f"captures: {dict(counted)}")
 
 
@@ -361,7 +382,7 @@ def random_stream(rng: random.Random) -> Stream:
     return stream
 
 
-def harm(rng: random.Random, stream: Stream, until: int) -> None:
+def damage(rng: random.Random, stream: Stream, until: int) -> None:
     """Few damaged pixels and packet characters before a column; after it single damaged characters and bursts, also of whole periods."""
     rate = rng.choice((0, 0.02, 0.1, 0.4))
     for it, first in zip(stream.periods, stream.firsts):
@@ -399,8 +420,8 @@ def packets(program: str, given: argparse.Namespace) -> Iterator[Case]:
                 firsts.append(stream.firsts[-1] + 2 + 32 * at)
                 sent.append(text.split(b" ")[1:6])
                 counted["characters"] += change_few(rng, stream, firsts[-1])
-        stream.add(control(0, 24))
-        tap = random_tap(rng, 200)
+        stream.add(control(0, 40))
+        tap = random_tap(rng, stream, 200)
         start = tap.aligned_by(stream) - 12
         status, output, _ = run(program, READERS[0], model.capture_of(tap.version, tap.lanes(stream.received)))
         lines = output.split(b"\n")
@@ -418,7 +439,7 @@ def packets(program: str, given: argparse.Namespace) -> Iterator[Case]:
 
 
 def change_few(rng: random.Random, stream: Stream, first: int) -> int:
-    """Up to three characters of lane 0, and up to three of lanes 1 and 2, become other TERC4 characters, mostly in one bit of their value."""
+    """Up to three characters of lane 0, and up to three of lanes 1 and 2, become other TERC4 characters, mostly by one bit."""
     plane, hits = rng.randrange(4), [(at, 0) for at in rng.sample(range(32), rng.randrange(4))]
     hits += [(at // 2, 1 + at % 2) for at in rng.sample(range(64), rng.randrange(4))]
     for at, lane in hits:
