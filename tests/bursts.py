@@ -456,8 +456,10 @@ def main(arguments: list[str]) -> int:
     reader.add_argument("--program", default=f"{TOP}/crates/hdmi_cli/out/hdmi_cli")
     reader.add_argument("--seed", type=int, default=1)
     reader.add_argument("--count", type=int, default=200)
-    reader.add_argument("tables", nargs="*", metavar="TABLE", choices=[[], *tables], help=", ".join(tables))
+    reader.add_argument("tables", nargs="*", metavar="TABLE", help=", ".join(tables))
     given = reader.parse_args(arguments)
+    if not set(given.tables) <= set(tables):
+        reader.error(f"the tables are {', '.join(tables)}")
     program = os.path.abspath(given.program)
     if not os.path.isfile(program):
         sys.exit(f"{program}: there is no such program; `rt ci` and `./vabgrot` build it")

@@ -4,7 +4,9 @@ from bisect import bisect_left
 from collections.abc import Iterator
 from typing import NamedTuple
 
-CONTROL, VIDEO, PACKET, OPEN, CLOSE = range(5)  # periods, as findings.PERIODS counts them
+from findings import PERIODS
+
+CONTROL, VIDEO, PACKET, OPEN, CLOSE = map(PERIODS.index, ("control", "video", "packet", "open", "close"))
 NEAR = 64  # columns between two neighbouring faults of a burst at most
 LEAST, PLACES = 6, 3  # the fault lines that a burst has at least, and the columns at which they are
 SHOWN_BY = frozenset(("noise", "broken", "code"))
