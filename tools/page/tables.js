@@ -24,14 +24,14 @@ class Paged {
     this.go(0);
   }
 
-  /* A field for a text that the rows are to have, and a button that saves these rows. */
+  /* A field for a text that the rows are to have, and a button that saves these rows: `lines` gives those of one. */
   addSearch(change) {
     const input = made("input", { type: "search", oninput: () => change(input.value.trim().toLowerCase()) });
     this.bar.prepend(made("label", {}, "text ", input));
   }
 
-  addSave(name, heads, fields) {
-    const write = () => save(`${data.name}-${name}.csv`, csvOf([heads, ...this.rows.map(fields)]));
+  addSave(name, heads, lines) {
+    const write = () => save(`${data.name}-${name}.csv`, csvOf([heads, ...this.rows.flatMap(lines)]));
     this.bar.append(made("button", { type: "button", className: "save", onclick: write }, "Save as CSV"));
   }
 
@@ -118,20 +118,52 @@ function faultPlace(fault) {
   return made("button", { type: "button", className: "count", onclick: show }, text);
 }
 
+/* The faults, with each burst in place of its first fault and of all its others. */
+function foldedFaults() {
+  const burstOf = new Map(data.bursts.flatMap((burst) => burst.faults.map((fault) => [fault, burst])));
+  return data.faults.kind.flatMap((_, fault) => {
+    const burst = burstOf.get(fault);
+    return burst ? (burst.faults[0] === fault ? [burst] : []) : [fault];
+  });
+}
+
+function faultTable(caption, rows) {
+  return table(caption, ["fault", "column", "picture", "listing"], rows.map((row) => (row.faults ? burstCells(row) : faultCells(row))));
+}
+
+function columnButton(at) {
+  const to = () => { pointTo(at); by("timeline").scrollIntoView(); by("time").focus({ preventScroll: true }); };
+  return made("button", { type: "button", className: "count", onclick: to }, columnText(at));
+}
+
+function faultCells(fault) {
+  return [faultText(fault), columnButton(data.faults.at[fault]), faultPlace(fault), lineLink(data.faults.line[fault])];
+}
+
+/* A burst in a row, under which its faults are folded; they are drawn when they are first opened. */
+function burstCells(burst) {
+  const says = `a burst of ${count(burst.columns)} columns at ${columnText(burst.at)}: ${count(burst.faults.length)} faults`;
+  const details = made("details", {}, made("summary", {}, says));
+  details.addEventListener("toggle", () => {
+    const paged = new Paged(details, "the burst", 20, (faults) => faultTable("The faults of the burst", faults));
+    paged.set(burst.faults);
+  }, { once: true });
+  return [made("td", {}, details), columnButton(burst.at), "", lineLink(data.faults.line[burst.faults[0]])];
+}
+
 function startFaults() {
   const place = by("fault-table");
   if (!place) return;
   const wanted = { kind: "", lane: "", text: "" };
-  const paged = new Paged(place, "faults", 20, (faults) => table("The faults in the order of the listing", ["fault", "column", "picture", "listing"], faults.map((fault) => {
-    const to = () => { pointTo(data.faults.at[fault]); by("timeline").scrollIntoView(); by("time").focus({ preventScroll: true }); };
-    return [faultText(fault), made("button", { type: "button", className: "count", onclick: to }, columnText(data.faults.at[fault])), faultPlace(fault), lineLink(data.faults.line[fault])];
-  })));
+  const paged = new Paged(place, "faults", 20, (rows) => faultTable("The faults in the order of the listing", rows));
   const textOf = (fault) => `${faultText(fault)} ${columnText(data.faults.at[fault])} ${placeText(fault)} line ${data.faults.line[fault]}`.toLowerCase();
-  const fill = () => paged.set(data.faults.kind.map((_, fault) => fault).filter((fault) =>
+  const isWanted = (fault) =>
     (!wanted.kind || data.faults.kind[fault] === wanted.kind) && (wanted.lane === "" || data.faults.lane[fault] === Number(wanted.lane))
-    && (!wanted.text || textOf(fault).includes(wanted.text))));
+    && (!wanted.text || textOf(fault).includes(wanted.text));
+  const isAll = () => !wanted.kind && wanted.lane === "" && !wanted.text;
+  const fill = () => paged.set(isAll() ? foldedFaults() : data.faults.kind.map((_, fault) => fault).filter(isWanted));
   paged.addSearch((text) => { wanted.text = text; fill(); });
-  paged.addSave("faults", FAULT_HEADS, faultFields);
+  paged.addSave("faults", FAULT_HEADS, (row) => (row.faults || [row]).map(faultFields));
   const kinds = [...new Set(data.faults.kind)];
   const [kindLabel, kind] = choice("kind", [["", "all"], ...kinds.map((one) => [one, one])], (value) => { wanted.kind = value; fill(); });
   const [laneLabel, lane] = choice("lane", [["", "all"], ...LANES.map((one, number) => [String(number), one]), ["-1", "of no lane"]], (value) => { wanted.lane = value; fill(); });
@@ -201,7 +233,7 @@ function startPackets() {
     wanted.digits = /^[0-9a-f ]+$/.test(text) ? text.replaceAll(" ", "") : "";
     fill();
   });
-  paged.addSave("packets", PACKET_HEADS(), packetFields);
+  paged.addSave("packets", PACKET_HEADS(), (number) => [packetFields(number)]);
   const [kind] = choice("kind", [["", "all"], ...[...new Set(packets.names)].map((one) => [one, one])], (value) => { wanted.name = value; fill(); });
   const [state] = choice("blocks", [["", "all"], ["hurt", "not all clean"]], (value) => { wanted.hurt = value; fill(); });
   paged.bar.prepend(kind, state);

@@ -2,6 +2,7 @@
 
 import csv
 import os
+import random
 import re
 import wave
 from collections import Counter
@@ -551,23 +552,57 @@ def test_text_is_found(report, program, sent):
     assert f"3 of {len(wanted)}" in page.text("lines")
 
 
+def saved(page, folder, name):
+    """The rows of a table's CSV file."""
+    page.driver.execute_cdp_cmd("Browser.setDownloadBehavior", {"behavior": "allow", "downloadPath": str(folder)})
+    path = folder / f"a-{name}.csv"
+    page.run("document.querySelector(arguments[0]).click()", f"#{name[:-1]}-table .save")
+    WebDriverWait(page.driver, HANGS).until(lambda _: path.exists() and path.stat().st_size)
+    with open(path, newline="") as file:
+        rows = list(csv.DictReader(file))
+    path.unlink()
+    return rows
+
+
+def test_a_burst(report, program, sent, tmp_path):
+    """A hundred columns of control characters and noise are one row, with their faults folded; a damaged pixel is another."""
+    rng, first = random.Random(5), (2 * DOWN + 10) * ACROSS + 30
+    draw = lambda: rng.choice((0x354, 0x0AB, 0x154, 0x2AB)) if rng.random() < 0.5 else rng.randrange(1024)  # noqa: E731
+    words = [f"{lane}:{10 * (first + at)}:{draw():03x}" for at in range(100) for lane in range(3)]
+    words.append(f"1:{10 * ((3 * DOWN + FIRST_ROW) * ACROSS + FIRST_PIXEL + 4)}:0ab")
+    capture = program("damage", *words, source=program("make", "content", source=sent))
+    link = program("recover", "link", source=capture, status=1)
+    faults = [(number, line.split(" ")) for number, line in enumerate(texts(link), 1) if line.startswith("! ")]
+    *folded, (last, pixel) = [(line, int(words[-1])) for line, words in faults]
+    columns = [column for _, column in folded]
+    assert pixel - max(columns) > ACROSS and len(columns) > 20
+
+    page = report(capture, 1)
+    said = f"a burst of {max(columns) - min(columns) + 1:,} columns at column {min(columns):,}: {len(columns):,} faults"
+    rows = page.rows("fault-table")
+    assert [(row[0], row[1], row[3]) for row in rows] == [
+        (said, f"column {min(columns):,}", f"line {folded[0][0]}"),
+        ("code on lane 1 (green)", f"column {pixel:,}", f"line {last}"),
+    ]
+    assert page.count("faults") == len(faults) and page.count("rows") == link.count(b"\nv ")
+    page.run("document.querySelector('#fault-table summary').click()")
+    inside = "return [...document.querySelectorAll('#fault-table details tbody tr')].map((row) => row.cells[3].textContent)"
+    WebDriverWait(page.driver, HANGS).until(lambda _: page.run(inside))
+    assert page.run(inside) == [f"line {line}" for line, _ in folded[:20]]
+    assert f"1 to 20 of {len(folded)}" in page.run("return document.querySelector('#fault-table details').textContent")
+    assert [int(row["line"]) for row in saved(page, tmp_path, "faults")] == [line for line, _ in faults]
+    Select(page.driver.find_element(By.CSS_SELECTOR, "#fault-table select")).select_by_value("noise")
+    noise = [line for line, words in faults if words[1] == "noise"]
+    assert [row[3] for row in page.rows("fault-table")] == [f"line {line}" for line in noise]
+    page.check()
+
+
 def test_faults_and_packets_are_saved(report, program, sent, tmp_path):
     """As they are chosen, a line each, with what the listing says."""
     capture = program("damage", *hits(), source=program("make", "content", "--skew", "0,70,35", source=sent))
     lines = texts(program("recover", "link", source=capture, status=1))
     page = report(capture, 1)
-    page.driver.execute_cdp_cmd("Browser.setDownloadBehavior", {"behavior": "allow", "downloadPath": str(tmp_path)})
-
-    def saved(name):
-        path = tmp_path / f"a-{name}.csv"
-        page.run("document.querySelector(arguments[0]).click()", f"#{name[:-1]}-table .save")
-        WebDriverWait(page.driver, HANGS).until(lambda _: path.exists() and path.stat().st_size)
-        with open(path, newline="") as file:
-            rows = list(csv.DictReader(file))
-        path.unlink()
-        return rows
-
-    faults = saved("faults")
+    faults = saved(page, tmp_path, "faults")
     assert [(int(row["line"]), row["fault"]) for row in faults] == [
         (number, line.split(" ")[1]) for number, line in enumerate(lines, 1) if line.startswith("! ")
     ]
@@ -577,7 +612,7 @@ def test_faults_and_packets_are_saved(report, program, sent, tmp_path):
     assert [(row["row"], row["pixel"]) for row in faults if row["pixel"]] == [
         (str(row), str(3 * row % 32)) for row in range(0, 24, 5)
     ]
-    packets = saved("packets")
+    packets = saved(page, tmp_path, "packets")
     assert [[row[name] for name in ("header", "body 0", "body 1", "body 2", "body 3")] for row in packets] == [
         line.split(" ")[1:6] for line in lines if line.startswith("p ")
     ]
@@ -585,7 +620,7 @@ def test_faults_and_packets_are_saved(report, program, sent, tmp_path):
         line.startswith("! lost") and line.endswith(" 0") for line in lines
     )
     typed(page, "#packet-table", "N 6144")
-    assert {row["text"] for row in saved("packets")} == {"N 6144, CTS 3600"}
+    assert {row["text"] for row in saved(page, tmp_path, "packets")} == {"N 6144, CTS 3600"}
 
 
 def test_narrow_and_wide(report, program, sent):
