@@ -123,11 +123,11 @@ def test_in_a_clean_debian(tmp_path):
     root = tmp_path / "root"
     subprocess.run(["cp", "-a", os.environ["VABGROT_DEBIAN"], root], check=True)
     shutil.copy("/etc/resolv.conf", root / "etc")
-    subprocess.run([copied(tmp_path / "top") / "vabgrot", "package", root / "tmp"], check=True)
-    (root / "tmp" / "clean").write_text(CLEAN)
+    subprocess.run([copied(tmp_path / "top") / "vabgrot", "package", root / "srv"], check=True)
+    (root / "srv" / "clean").write_text(CLEAN)
     get = "DEBIAN_FRONTEND=noninteractive apt-get -qq"
-    within = f"{get} update && {get} install -y --no-install-recommends /tmp/vabgrot_*.deb"
-    words = f"mount -t proc proc {root}/proc && chroot {root} sh -c '{within}' && chroot --userspec=nobody:nogroup {root} bash /tmp/clean"
+    within = f"{get} update && {get} install -y --no-install-recommends /srv/vabgrot_*.deb"
+    words = f"mount -t proc proc {root}/proc && chroot {root} sh -c '{within}' && chroot --userspec=nobody:nogroup {root} bash /srv/clean"
     came = subprocess.run(["unshare", "--mount", "sh", "-c", words], capture_output=True, text=True, timeout=HANGS)
     assert came.returncode == 0, came.stderr
     assert came.stdout.splitlines()[-1].startswith("vabgrot 1.0.0, built with ")
