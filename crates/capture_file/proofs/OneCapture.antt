@@ -60,9 +60,9 @@ chunk_more j a =
 
 -- three lanes of bytes that are as long as three others
 pub record AreAsLong (a b c p q r : List ℕ) : Type 0 where
-  pub first : length a ≡ length p
-  pub second : length b ≡ length q
-  pub third : length c ≡ length r
+  pub blue : length a ≡ length p
+  pub green : length b ≡ length q
+  pub red : length c ≡ length r
 
 length-blocks : (j : ℕ) (a b c p q r : List ℕ) → AreAsLong a b c p q r → length (blocks_below j a b c) ≡ length (blocks_below j p q r)
 unfolding blocks_below block
@@ -71,19 +71,19 @@ length-blocks (suc j) a b c p q r long = grind (arith, length-append, length-chu
 
 -- the same chunks
 record AreSameChunks (j : ℕ) (a b c p q r : List ℕ) : Type 0 where
-  first : chunk j a ≡ chunk j p
-  second : chunk j b ≡ chunk j q
-  third : chunk j c ≡ chunk j r
+  blue : chunk j a ≡ chunk j p
+  green : chunk j b ≡ chunk j q
+  red : chunk j c ≡ chunk j r
 
 -- the same bytes as far as a chunk
 pub record AreSameBelow (j : ℕ) (a b c p q r : List ℕ) : Type 0 where
-  pub first : take (4096 * j) a ≡ take (4096 * j) p
-  pub second : take (4096 * j) b ≡ take (4096 * j) q
-  pub third : take (4096 * j) c ≡ take (4096 * j) r
+  pub blue : take (4096 * j) a ≡ take (4096 * j) p
+  pub green : take (4096 * j) b ≡ take (4096 * j) q
+  pub red : take (4096 * j) c ≡ take (4096 * j) r
 
 pub same_below : (j : ℕ) (a b c p q r : List ℕ) → AreAsLong a b c p q r → blocks_below j a b c ≡ blocks_below j p q r → AreSameBelow j a b c p q r
 unfolding blocks_below block
-same_below zero a b c p q r long is = record { first = refl; second = refl; third = refl }
+same_below zero a b c p q r long is = record { blue = refl; green = refl; red = refl }
 same_below (suc j) a b c p q r long is = grind (arith, length-blocks, same_front, same_rest, chunk_more, length-chunk, length-append, same_below j a b c p q r long)
 
 -- lanes whose blocks are the same, each as long as the other
@@ -96,11 +96,11 @@ same_blocks x y z u v w first second third is =
     let k = blocks_of (max (length (packed x)) (max (length (packed y)) (length (packed z)))) in
     let count : k ≡ blocks_of (max (length (packed u)) (max (length (packed v)) (length (packed w)))) = omega (arith, lx, ly, lz) in
     let below : blocks_below k (packed x) (packed y) (packed z) ≡ blocks_below k (packed u) (packed v) (packed w) = is ∙ ap (λ n. blocks_below n (packed u) (packed v) (packed w)) (sym count) in
-    let same = same_below k (packed x) (packed y) (packed z) (packed u) (packed v) (packed w) (record { first = lx; second = ly; third = lz }) below in
+    let same = same_below k (packed x) (packed y) (packed z) (packed u) (packed v) (packed w) (record { blue = lx; green = ly; red = lz }) below in
     record {
-      blue = same_lane x u (sym first) (sym (take_all (4096 * k) (packed x) (omega arith)) ∙ same.first ∙ take_all (4096 * k) (packed u) (omega (arith, lx)));
-      green = same_lane y v (sym second) (sym (take_all (4096 * k) (packed y) (omega arith)) ∙ same.second ∙ take_all (4096 * k) (packed v) (omega (arith, ly)));
-      red = same_lane z w (sym third) (sym (take_all (4096 * k) (packed z) (omega arith)) ∙ same.third ∙ take_all (4096 * k) (packed w) (omega (arith, lz)));
+      blue = same_lane x u (sym first) (sym (take_all (4096 * k) (packed x) (omega arith)) ∙ same.blue ∙ take_all (4096 * k) (packed u) (omega (arith, lx)));
+      green = same_lane y v (sym second) (sym (take_all (4096 * k) (packed y) (omega arith)) ∙ same.green ∙ take_all (4096 * k) (packed v) (omega (arith, ly)));
+      red = same_lane z w (sym third) (sym (take_all (4096 * k) (packed z) (omega arith)) ∙ same.red ∙ take_all (4096 * k) (packed w) (omega (arith, lz)));
     }
 
 -- bytes are the capture of one triple of lanes at most

@@ -175,9 +175,9 @@ begin_below : (j k : ℕ) (a b c p q r : List ℕ) → j ≤ k → AreAsLong a b
 begin_below j k a b c p q r le long is = elim (cases_lt j k) [
   | inl less ↦
       let after = blocks_after j k p q r less in
-      let first = long.first in
-      let second = long.second in
-      let third = long.third in
+      let first = long.blue in
+      let second = long.green in
+      let third = long.red in
       same_front (blocks_below j a b c) [] (blocks_below j p q r) (block j p q r ++ after.0)
       (append-nil (blocks_below j a b c) ∙ is ∙ after.1 ∙ append_assoc (blocks_below j p q r) (block j p q r) after.0)
       (omega (arith, length-below j a b c, length-below j p q r, first, second, third))
@@ -235,9 +235,9 @@ one_way bytes place taken took x y z u v w a b le =
     let green = long.green in
     let red = long.red in
     let lanes : AreAsLong (packed x) (packed y) (packed z) (packed u) (packed v) (packed w) = record {
-      first = omega (arith, blue, length-packed x, length-packed u);
-      second = omega (arith, green, length-packed y, length-packed v);
-      third = omega (arith, red, length-packed z, length-packed w);
+      blue = omega (arith, blue, length-packed x, length-packed u);
+      green = omega (arith, green, length-packed y, length-packed v);
+      red = omega (arith, red, length-packed z, length-packed w);
     } in
     let below = same_below j (packed x) (packed y) (packed z) (packed u) (packed v) (packed w) lanes
     (begin_below j k (packed x) (packed y) (packed z) (packed u) (packed v) (packed w) le lanes rests) in
@@ -246,9 +246,9 @@ one_way bytes place taken took x y z u v w a b le =
     let nz = a.read.count_z in (
       same,
       record {
-        blue = lane_same x u j (omega (arith, nx)) blue below.first;
-        green = lane_same y v j (omega (arith, ny)) green below.second;
-        red = lane_same z w j (omega (arith, nz)) red below.third;
+        blue = lane_same x u j (omega (arith, nx)) blue below.blue;
+        green = lane_same y v j (omega (arith, ny)) green below.green;
+        red = lane_same z w j (omega (arith, nz)) red below.red;
       },
     )
 

@@ -259,7 +259,7 @@ tapped =
     }
 
 small : HasSmallSkew skews
-small = record { first_second = (omega arith, omega arith); second_third = (omega arith, omega arith); first_third = (omega arith, omega arith) }
+small = record { blue_green = (omega arith, omega arith); green_red = (omega arith, omega arith); blue_red = (omega arith, omega arith) }
 
 -- The edges.
 
@@ -355,14 +355,14 @@ edge_late e h =
 first : IsFirst blue green red 233 163 198
 first = record {
   triple = record {
-    first = is_edge blue 3 233 0x1f0 blue_run blue_none blue_before blue_word pixel_test (omega arith) refl;
-    second = is_edge green 3 163 0x100 green_run green_none green_before green_word other_test (omega arith) refl;
-    third = is_edge red 8 198 0x1f0 red_run red_none red_before red_word pixel_test (omega arith) refl;
-    first_second = (omega arith, omega arith);
-    second_third = (omega arith, omega arith);
-    first_third = (omega arith, omega arith);
+    blue = is_edge blue 3 233 0x1f0 blue_run blue_none blue_before blue_word pixel_test (omega arith) refl;
+    green = is_edge green 3 163 0x100 green_run green_none green_before green_word other_test (omega arith) refl;
+    red = is_edge red 8 198 0x1f0 red_run red_none red_before red_word pixel_test (omega arith) refl;
+    blue_green = (omega arith, omega arith);
+    green_red = (omega arith, omega arith);
+    blue_red = (omega arith, omega arith);
   };
-  least = λ p q r t. let late = edge_late p t.first in omega arith;
+  least = λ p q r t. let late = edge_late p t.blue in omega arith;
 }
 
 pub example : HasDviExample

@@ -41,7 +41,7 @@ tap_accounted ps sent received c t spells h offset skews counts x y z tapped sma
     let end =
     first_is_end ps sent received c t spells h (offset + k1) (offset + k2) (offset + k3)
     (slice_index counts 0) (slice_index counts 1) (slice_index counts 2) d e f
-    (near_from offset k1 k2 small.first_second) (near_from offset k2 k3 small.second_third) (near_from offset k1 k3 small.first_third)
+    (near_from offset k1 k2 small.blue_green) (near_from offset k2 k3 small.green_red) (near_from offset k1 k3 small.blue_red)
     (first_of x y z _ _ _ d e f tapped.blue_part.bits_are tapped.green_part.bits_are tapped.red_part.bits_are first) in
     let i = end.0 in
     let far = ends_late (dvi_kinds ps) (alternating ps c t) i end.1 in
@@ -50,12 +50,12 @@ tap_accounted ps sent received c t spells h offset skews counts x y z tapped sma
     let same : i ≡ a + 11 = omega arith in
     let ends_a = subst (λ k. EndsAt (dvi_kinds ps) k) same end.1 in
     let triple = first.triple in
-    let p1 = triple.first.past in
-    let p2 = triple.second.past in
-    let p3 = triple.third.past in
-    let w1 = edge_within x d triple.first in
-    let w2 = edge_within y e triple.second in
-    let w3 = edge_within z f triple.third in
+    let p1 = triple.blue.past in
+    let p2 = triple.green.past in
+    let p3 = triple.red.past in
+    let w1 = edge_within x d triple.blue in
+    let w2 = edge_within y e triple.green in
+    let w3 = edge_within z f triple.red in
     let at : BeginAt received (offset + k1) (offset + k2) (offset + k3) (slice_index counts 0) (slice_index counts 1) (slice_index counts 2) a x y z d e f = grind (arith, begins) in
     let columns : cs ≡ take (length cs) (drop a received) =
     columns_taken received (offset + k1) (offset + k2) (offset + k3) (slice_index counts 0) (slice_index counts 1) (slice_index counts 2) a x y z d e f at

@@ -48,7 +48,7 @@ pub own_captured : (columns : List Column) → length columns ≤ 20000000 → I
 own_captured columns few = tap_is_captured columns whole_tap (omega arith) (omega (arith, few))
 
 small_skews : HasSmallSkew no_skews
-small_skews = record { first_second = (omega arith, omega arith); second_third = (omega arith, omega arith); first_third = (omega arith, omega arith) }
+small_skews = record { blue_green = (omega arith, omega arith); green_red = (omega arith, omega arith); blue_red = (omega arith, omega arith) }
 
 lane_long : (g : Column → ℕ) (columns : List Column) → length (part_of (map g columns) 0 (10 * length columns - 0 - 0)) ≡ 10 * length columns
 lane_long g columns = grind (arith, length-row_bits, length-map, length-take-le)
@@ -175,10 +175,10 @@ own_nowhere runs columns good spelled d e f triple =
     let all = control runs ∷ [] in
     let reception = own_received all columns good spelled in
     let m = 10 * length columns - 0 - 0 in
-    let end = (edges_end all columns columns reception (own_payload all columns reception)).0.edges 0 m d triple.first in
+    let end = (edges_end all columns columns reception (own_payload all columns reception)).0.edges 0 m d triple.blue in
     let n = length (values_of runs) in
     let there = alone_end n end.0 (kinds_of all) (alone_kinds runs) end.1.here end.1.then in
-    let within = edge_within (blue_of columns) d triple.first in
+    let within = edge_within (blue_of columns) d triple.blue in
     let long = lane_long (λ c. c.blue) columns in
     let many = Spells-length all columns spelled in
     let size = alone_size runs in

@@ -92,7 +92,7 @@ slips : (place : ℕ) (x : Fed) → Slipped x 0 place 3 (left place x)
 slips place x = grind arith
 
 after : HasSmallSkew later
-after = record { first_second = (omega arith, omega arith); second_third = (omega arith, omega arith); first_third = (omega arith, omega arith) }
+after = record { blue_green = (omega arith, omega arith); green_red = (omega arith, omega arith); blue_red = (omega arith, omega arith) }
 
 no_pixel : control_column ≡ pixel_column → ⊥
 no_pixel e = cc
@@ -176,7 +176,7 @@ unfolding short_blue
 short_lock = is_lock short_blue 3 run_test before_test
 
 small : HasSmallSkew skews
-small = record { first_second = (omega arith, omega arith); second_third = (omega arith, omega arith); first_third = (omega arith, omega arith) }
+small = record { blue_green = (omega arith, omega arith); green_red = (omega arith, omega arith); blue_red = (omega arith, omega arith) }
 
 abbrev short_x : Fed
 short_x = lanes 7 600 833 868

@@ -203,7 +203,7 @@ passed_reported ps sent received offset skews counts x y zero place dropped firs
     let here = first_same (IsEdge y.blue) (IsEdge y.green) (IsEdge y.red) (IsEdge (drop dropped x.blue)) (IsEdge x.green) (IsEdge x.red)
     like.edges (same_edges x.green y.green green) (same_edges x.red y.red red) d e f alignment in
     let columns = alike_columns y.blue y.green y.red (drop dropped x.blue) x.green x.red d e f
-    (like.characters d alignment.triple.first) (ap (λ us. words_from us (e - 120)) green) (ap (λ us. words_from us (f - 120)) red) in
+    (like.characters d alignment.triple.blue) (ap (λ us. words_from us (e - 120)) green) (ap (λ us. words_from us (f - 120)) red) in
     subst (λ cs. (a : ℕ) × IsAccounted ps sent received cs a × BeginColumn offset (later_skews skews zero dropped) (a + 12) d e f) (sym columns)
     (payload_accounted ps sent received reception.reception s.alone offset (later_skews skews zero dropped)
     ((slice_index counts 0 - dropped) ∷ (slice_index counts 1 ∷ (slice_index counts 2 ∷ []))) (drop dropped x.blue) x.green x.red
@@ -215,7 +215,7 @@ passed_reported ps sent received offset skews counts x y (suc zero) place droppe
     let here = first_same (IsEdge y.blue) (IsEdge y.green) (IsEdge y.red) (IsEdge x.blue) (IsEdge (drop dropped x.green)) (IsEdge x.red)
     (same_edges x.blue y.blue blue) like.edges (same_edges x.red y.red red) d e f alignment in
     let columns = alike_columns y.blue y.green y.red x.blue (drop dropped x.green) x.red d e f
-    (ap (λ us. words_from us (d - 120)) blue) (like.characters e alignment.triple.second) (ap (λ us. words_from us (f - 120)) red) in
+    (ap (λ us. words_from us (d - 120)) blue) (like.characters e alignment.triple.green) (ap (λ us. words_from us (f - 120)) red) in
     subst (λ cs. (a : ℕ) × IsAccounted ps sent received cs a × BeginColumn offset (later_skews skews (suc zero) dropped) (a + 12) d e f) (sym columns)
     (payload_accounted ps sent received reception.reception s.alone offset (later_skews skews (suc zero) dropped)
     (slice_index counts 0 ∷ ((slice_index counts 1 - dropped) ∷ (slice_index counts 2 ∷ []))) x.blue (drop dropped x.green) x.red
@@ -227,7 +227,7 @@ passed_reported ps sent received offset skews counts x y (suc (suc zero)) place 
     let here = first_same (IsEdge y.blue) (IsEdge y.green) (IsEdge y.red) (IsEdge x.blue) (IsEdge x.green) (IsEdge (drop dropped x.red))
     (same_edges x.blue y.blue blue) (same_edges x.green y.green green) like.edges d e f alignment in
     let columns = alike_columns y.blue y.green y.red x.blue x.green (drop dropped x.red) d e f
-    (ap (λ us. words_from us (d - 120)) blue) (ap (λ us. words_from us (e - 120)) green) (like.characters f alignment.triple.third) in
+    (ap (λ us. words_from us (d - 120)) blue) (ap (λ us. words_from us (e - 120)) green) (like.characters f alignment.triple.red) in
     subst (λ cs. (a : ℕ) × IsAccounted ps sent received cs a × BeginColumn offset (later_skews skews (suc (suc zero)) dropped) (a + 12) d e f) (sym columns)
     (payload_accounted ps sent received reception.reception s.alone offset (later_skews skews (suc (suc zero)) dropped)
     (slice_index counts 0 ∷ (slice_index counts 1 ∷ ((slice_index counts 2 - dropped) ∷ []))) x.blue x.green (drop dropped x.red)

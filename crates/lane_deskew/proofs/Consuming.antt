@@ -45,26 +45,26 @@ awaited None A B e h = h
 awaited (Some at) A B e h = cc
 
 -- one lane has ended: before the alignment
-module _ (d after : Deskew) (p : History) (a : after.first.kept ≡ d.first.kept) (b : after.second.kept ≡ d.second.kept) (c : after.third.kept ≡ d.third.kept) where
+module _ (d after : Deskew) (p : History) (a : after.blue.kept ≡ d.blue.kept) (b : after.green.kept ≡ d.green.kept) (c : after.red.kept ≡ d.red.kept) where
   pub awaits_ended : (lane : ℕ) → Awaits d p → Awaits after (ended lane p)
   awaits_ended zero awaits = record {
-    first = waits_same d.first after.first p.first a awaits.first;
-    second = waits_same d.second after.second p.second b awaits.second;
-    third = waits_same d.third after.third p.third c awaits.third;
+    blue = waits_same d.blue after.blue p.blue a awaits.blue;
+    green = waits_same d.green after.green p.green b awaits.green;
+    red = waits_same d.red after.red p.red c awaits.red;
     none = awaits.none;
     fresh = awaits.fresh;
   }
   awaits_ended (suc zero) awaits = record {
-    first = waits_same d.first after.first p.first a awaits.first;
-    second = waits_same d.second after.second p.second b awaits.second;
-    third = waits_same d.third after.third p.third c awaits.third;
+    blue = waits_same d.blue after.blue p.blue a awaits.blue;
+    green = waits_same d.green after.green p.green b awaits.green;
+    red = waits_same d.red after.red p.red c awaits.red;
     none = awaits.none;
     fresh = awaits.fresh;
   }
   awaits_ended (suc (suc n)) awaits = record {
-    first = waits_same d.first after.first p.first a awaits.first;
-    second = waits_same d.second after.second p.second b awaits.second;
-    third = waits_same d.third after.third p.third c awaits.third;
+    blue = waits_same d.blue after.blue p.blue a awaits.blue;
+    green = waits_same d.green after.green p.green b awaits.green;
+    red = waits_same d.red after.red p.red c awaits.red;
     none = awaits.none;
     fresh = awaits.fresh;
   }
@@ -72,50 +72,50 @@ module _ (d after : Deskew) (p : History) (a : after.first.kept ≡ d.first.kept
 -- after it, with what was reachable before
 pub record IsAlignedTo (deskew : Deskew) (p : History) (edges : List ℕ) (r : ℕ) : Type 0 where
   pub alignment : IsPastAlignment p edges
-  pub first : Lends deskew.first p.first p.taken (slice_index edges 0) r
-  pub second : Lends deskew.second p.second p.taken (slice_index edges 1) r
-  pub third : Lends deskew.third p.third p.taken (slice_index edges 2) r
+  pub blue : Lends deskew.blue p.blue p.taken (slice_index edges 0) r
+  pub green : Lends deskew.green p.green p.taken (slice_index edges 1) r
+  pub red : Lends deskew.red p.red p.taken (slice_index edges 2) r
 
 limit_over : (b : Bool) (n : ℕ) → n < 2 ^ 63 → limit true n ≤ limit b n
 limit_over true n h = omega arith
 limit_over false n h = omega arith
 
 module _ (d after : Deskew) (p : History) (edges : List ℕ) (known : AreKnown d p) (al : IsAligned d p edges)
-    (a : after.first.kept ≡ d.first.kept) (b : after.second.kept ≡ d.second.kept) (c : after.third.kept ≡ d.third.kept)
+    (a : after.blue.kept ≡ d.blue.kept) (b : after.green.kept ≡ d.green.kept) (c : after.red.kept ≡ d.red.kept)
   where
-    one : Lends after.first p.first p.taken (slice_index edges 0) (reach p edges)
-    one = lends_same d.first after.first p.first p.taken _ _ a al.first
+    one : Lends after.blue p.blue p.taken (slice_index edges 0) (reach p edges)
+    one = lends_same d.blue after.blue p.blue p.taken _ _ a al.blue
 
-    two : Lends after.second p.second p.taken (slice_index edges 1) (reach p edges)
-    two = lends_same d.second after.second p.second p.taken _ _ b al.second
+    two : Lends after.green p.green p.taken (slice_index edges 1) (reach p edges)
+    two = lends_same d.green after.green p.green p.taken _ _ b al.green
 
-    three_is : Lends after.third p.third p.taken (slice_index edges 2) (reach p edges)
-    three_is = lends_same d.third after.third p.third p.taken _ _ c al.third
+    three_is : Lends after.red p.red p.taken (slice_index edges 2) (reach p edges)
+    three_is = lends_same d.red after.red p.red p.taken _ _ c al.red
 
     pub aligned_ended : (lane : ℕ) → IsAlignedTo after (ended lane p) edges (reach p edges)
     aligned_ended zero = record {
       alignment = al.alignment;
-      first = record { ring = one.ring; row = one.row; within = one.within };
-      second = two;
-      third = three_is;
+      blue = record { ring = one.ring; row = one.row; within = one.within };
+      green = two;
+      red = three_is;
     }
     aligned_ended (suc zero) = record {
       alignment = al.alignment;
-      first = one;
-      second = record { ring = two.ring; row = two.row; within = two.within };
-      third = three_is;
+      blue = one;
+      green = record { ring = two.ring; row = two.row; within = two.within };
+      red = three_is;
     }
     aligned_ended (suc (suc n)) = record {
       alignment = al.alignment;
-      first = one;
-      second = two;
-      third = record { ring = three_is.ring; row = three_is.row; within = three_is.within };
+      blue = one;
+      green = two;
+      red = record { ring = three_is.ring; row = three_is.row; within = three_is.within };
     }
 
     pub reach_ended : (lane : ℕ) → reach (ended lane p) edges ≤ reach p edges
-    reach_ended zero = let h = limit_over p.first.ended _ (few_words d.first p.first p.taken (slice_index edges 0) known.first) in omega arith
-    reach_ended (suc zero) = let h = limit_over p.second.ended _ (few_words d.second p.second p.taken (slice_index edges 1) known.second) in omega arith
-    reach_ended (suc (suc n)) = let h = limit_over p.third.ended _ (few_words d.third p.third p.taken (slice_index edges 2) known.third) in omega arith
+    reach_ended zero = let h = limit_over p.blue.ended _ (few_words d.blue p.blue p.taken (slice_index edges 0) known.blue) in omega arith
+    reach_ended (suc zero) = let h = limit_over p.green.ended _ (few_words d.green p.green p.taken (slice_index edges 1) known.green) in omega arith
+    reach_ended (suc (suc n)) = let h = limit_over p.red.ended _ (few_words d.red p.red p.taken (slice_index edges 2) known.red) in omega arith
 
 cut_lane : (old new : Held) (past : Pushed) (taken e r s n : ℕ) → Lends old past taken e r → s ≤ r → n ≡ s → IsCut n old new → Lends new past taken e s
 cut_lane old new past taken e r s n lends le same cut = record {
@@ -126,19 +126,19 @@ cut_lane old new past taken e r s n lends le same cut = record {
 
 -- what no column can reach any more is cut
 pub aligned_cut : (d after : Deskew) (p : History) (edges : List ℕ) (r : ℕ) → AreKnown d p → IsAlignedTo d p edges r → reach p edges ≤ r
-    → IsCut (reach_of d) d.first after.first → IsCut (reach_of d) d.second after.second → IsCut (reach_of d) d.third after.third → IsAligned after p edges
+    → IsCut (reach_of d) d.blue after.blue → IsCut (reach_of d) d.green after.green → IsCut (reach_of d) d.red after.red → IsAligned after p edges
 aligned_cut d after p edges r known al le a b c =
-    let x = row_length d.first p.first p.taken (slice_index edges 0) r al.first in
-    let y = row_length d.second p.second p.taken (slice_index edges 1) r al.second in
-    let z = row_length d.third p.third p.taken (slice_index edges 2) r al.third in
+    let x = row_length d.blue p.blue p.taken (slice_index edges 0) r al.blue in
+    let y = row_length d.green p.green p.taken (slice_index edges 1) r al.green in
+    let z = row_length d.red p.red p.taken (slice_index edges 2) r al.red in
     let same : reach_of d ≡ reach p edges =
-    (λ i. three (known.first.ended i) (x i) (known.second.ended i) (y i) (known.third.ended i) (z i))
-    ∙ reach_cut p.first.ended p.second.ended p.third.ended _ _ _ r le in
+    (λ i. three (known.blue.ended i) (x i) (known.green.ended i) (y i) (known.red.ended i) (z i))
+    ∙ reach_cut p.blue.ended p.green.ended p.red.ended _ _ _ r le in
     record {
       alignment = al.alignment;
-      first = cut_lane d.first after.first p.first p.taken _ r _ _ al.first le same a;
-      second = cut_lane d.second after.second p.second p.taken _ r _ _ al.second le same b;
-      third = cut_lane d.third after.third p.third p.taken _ r _ _ al.third le same c;
+      blue = cut_lane d.blue after.blue p.blue p.taken _ r _ _ al.blue le same a;
+      green = cut_lane d.green after.green p.green p.taken _ r _ _ al.green le same b;
+      red = cut_lane d.red after.red p.red p.taken _ r _ _ al.red le same c;
     }
 
 -- numbers stay known where they are the same
@@ -181,48 +181,48 @@ lends_consumed n old new past taken e r s gone lends le same =
 
 -- columns were consumed
 module _ (d after : Deskew) (p : History) (n : ℕ) (known : AreKnown d p)
-    (a : HasConsumed n d.first after.first) (b : HasConsumed n d.second after.second) (c : HasConsumed n d.third after.third)
+    (a : HasConsumed n d.blue after.blue) (b : HasConsumed n d.green after.green) (c : HasConsumed n d.red after.red)
   where
     pub known_consumed : AreKnown after (consumed n p)
     known_consumed = record {
-      first = known_same d.first after.first p.first a.same known.first;
-      second = known_same d.second after.second p.second b.same known.second;
-      third = known_same d.third after.third p.third c.same known.third;
+      blue = known_same d.blue after.blue p.blue a.same known.blue;
+      green = known_same d.green after.green p.green b.same known.green;
+      red = known_same d.red after.red p.red c.same known.red;
     }
 
     pub awaits_consumed : n ≡ 0 → Awaits d p → Awaits after (consumed n p)
     awaits_consumed none awaits =
         let fresh = awaits.fresh in
         record {
-          first = waits_consumed n d.first after.first p.first none a awaits.first;
-          second = waits_consumed n d.second after.second p.second none b awaits.second;
-          third = waits_consumed n d.third after.third p.third none c awaits.third;
+          blue = waits_consumed n d.blue after.blue p.blue none a awaits.blue;
+          green = waits_consumed n d.green after.green p.green none b awaits.green;
+          red = waits_consumed n d.red after.red p.red none c awaits.red;
           none = awaits.none;
           fresh = omega arith;
         }
 
-    pub aligned_consumed : (edges : List ℕ) → n ≤ length d.first.kept.row → n ≤ length d.second.kept.row → n ≤ length d.third.kept.row → IsAligned d p edges → IsAligned after (consumed n p) edges
+    pub aligned_consumed : (edges : List ℕ) → n ≤ length d.blue.kept.row → n ≤ length d.green.kept.row → n ≤ length d.red.kept.row → IsAligned d p edges → IsAligned after (consumed n p) edges
     aligned_consumed edges le1 le2 le3 al =
-        let x = length (unconsumed p.taken p.first (slice_index edges 0)) in
-        let y = length (unconsumed p.taken p.second (slice_index edges 1)) in
-        let z = length (unconsumed p.taken p.third (slice_index edges 2)) in
-        let len1 : length d.first.kept.row ≡ min (reach p edges) x = row_length d.first p.first p.taken (slice_index edges 0) (reach p edges) al.first in
-        let len2 : length d.second.kept.row ≡ min (reach p edges) y = row_length d.second p.second p.taken (slice_index edges 1) (reach p edges) al.second in
-        let len3 : length d.third.kept.row ≡ min (reach p edges) z = row_length d.third p.third p.taken (slice_index edges 2) (reach p edges) al.third in
-        let few1 : x < 2 ^ 63 = few_words d.first p.first p.taken (slice_index edges 0) known.first in
-        let few2 : y < 2 ^ 63 = few_words d.second p.second p.taken (slice_index edges 1) known.second in
-        let few3 : z < 2 ^ 63 = few_words d.third p.third p.taken (slice_index edges 2) known.third in
-        let in1 : n ≤ x = within_of n (length d.first.kept.row) (reach p edges) x le1 len1 in
-        let in2 : n ≤ y = within_of n (length d.second.kept.row) (reach p edges) y le2 len2 in
-        let in3 : n ≤ z = within_of n (length d.third.kept.row) (reach p edges) z le3 len3 in
+        let x = length (unconsumed p.taken p.blue (slice_index edges 0)) in
+        let y = length (unconsumed p.taken p.green (slice_index edges 1)) in
+        let z = length (unconsumed p.taken p.red (slice_index edges 2)) in
+        let len1 : length d.blue.kept.row ≡ min (reach p edges) x = row_length d.blue p.blue p.taken (slice_index edges 0) (reach p edges) al.blue in
+        let len2 : length d.green.kept.row ≡ min (reach p edges) y = row_length d.green p.green p.taken (slice_index edges 1) (reach p edges) al.green in
+        let len3 : length d.red.kept.row ≡ min (reach p edges) z = row_length d.red p.red p.taken (slice_index edges 2) (reach p edges) al.red in
+        let few1 : x < 2 ^ 63 = few_words d.blue p.blue p.taken (slice_index edges 0) known.blue in
+        let few2 : y < 2 ^ 63 = few_words d.green p.green p.taken (slice_index edges 1) known.green in
+        let few3 : z < 2 ^ 63 = few_words d.red p.red p.taken (slice_index edges 2) known.red in
+        let in1 : n ≤ x = within_of n (length d.blue.kept.row) (reach p edges) x le1 len1 in
+        let in2 : n ≤ y = within_of n (length d.green.kept.row) (reach p edges) y le2 len2 in
+        let in3 : n ≤ z = within_of n (length d.red.kept.row) (reach p edges) z le3 len3 in
         let same : (k m : ℕ) → k ≡ m - n → n ≤ m → m < 2 ^ 63 → min (reach p edges - n) k ≡ min (reach (consumed n p) edges) k =
-        λ k m is within few. reach_consumed p.first.ended p.second.ended p.third.ended x y z n k (omega arith) in1 in2 in3
+        λ k m is within few. reach_consumed p.blue.ended p.green.ended p.red.ended x y z n k (omega arith) in1 in2 in3
         ∙ sym (reach_moved edges k) in
         record {
           alignment = al.alignment;
-          first = lends_consumed n d.first after.first p.first p.taken _ _ _ a al.first le1 (same (x - n) x refl in1 few1);
-          second = lends_consumed n d.second after.second p.second p.taken _ _ _ b al.second le2 (same (y - n) y refl in2 few2);
-          third = lends_consumed n d.third after.third p.third p.taken _ _ _ c al.third le3 (same (z - n) z refl in3 few3);
+          blue = lends_consumed n d.blue after.blue p.blue p.taken _ _ _ a al.blue le1 (same (x - n) x refl in1 few1);
+          green = lends_consumed n d.green after.green p.green p.taken _ _ _ b al.green le2 (same (y - n) y refl in2 few2);
+          red = lends_consumed n d.red after.red p.red p.taken _ _ _ c al.red le3 (same (z - n) z refl in3 few3);
         }
       where
         within_of : (n k r x : ℕ) → n ≤ k → k ≡ min r x → n ≤ x
@@ -232,20 +232,20 @@ module _ (d after : Deskew) (p : History) (n : ℕ) (known : AreKnown d p)
         left past e = ap length (sym (drop-drop n p.taken (from_edge past e))) ∙ length-drop n (unconsumed p.taken past e)
 
         reach_moved : (edges : List ℕ) (k : ℕ) → min (reach (consumed n p) edges) k
-            ≡ min (three p.first.ended (length (unconsumed p.taken p.first (slice_index edges 0)) - n) p.second.ended (length (unconsumed p.taken p.second (slice_index edges 1)) - n) p.third.ended (length (unconsumed p.taken p.third (slice_index edges 2)) - n)) k
-        reach_moved edges k = λ i. min (three p.first.ended (left p.first (slice_index edges 0) i) p.second.ended (left p.second (slice_index edges 1) i) p.third.ended (left p.third (slice_index edges 2) i)) k
+            ≡ min (three p.blue.ended (length (unconsumed p.taken p.blue (slice_index edges 0)) - n) p.green.ended (length (unconsumed p.taken p.green (slice_index edges 1)) - n) p.red.ended (length (unconsumed p.taken p.red (slice_index edges 2)) - n)) k
+        reach_moved edges k = λ i. min (three p.blue.ended (left p.blue (slice_index edges 0) i) p.green.ended (left p.green (slice_index edges 1) i) p.red.ended (left p.red (slice_index edges 2) i)) k
 
 -- what a settling answers of all that was pushed
 pub answer_of : (d : Deskew) (p : History) (o : Option Aligned) → MatchOption o (Awaits d (settled p)) (λ at. IsAligned d (settled p) at.edges)
     → MatchOption o ((x y z : ℕ) → IsPastTriple p x y z → ⊥) (λ at. IsPastAlignment p at.edges)
 answer_of d p (Some at) al = al.alignment
 answer_of d p None awaits = λ x y z t. awaits.none x y z (record {
-  first = same_edge _ _ _ _ x refl (sym (take-length p.first.words)) t.first;
-  second = same_edge _ _ _ _ y refl (sym (take-length p.second.words)) t.second;
-  third = same_edge _ _ _ _ z refl (sym (take-length p.third.words)) t.third;
-  first_second = t.first_second;
-  second_third = t.second_third;
-  first_third = t.first_third;
+  blue = same_edge _ _ _ _ x refl (sym (take-length p.blue.words)) t.blue;
+  green = same_edge _ _ _ _ y refl (sym (take-length p.green.words)) t.green;
+  red = same_edge _ _ _ _ z refl (sym (take-length p.red.words)) t.red;
+  blue_green = t.blue_green;
+  green_red = t.green_red;
+  blue_red = t.blue_red;
 })
 
 -- as many of each as the shortest has give all columns
@@ -285,23 +285,23 @@ reach_enough false false false x y z h = omega arith
 
 -- the rows' columns are those that are not consumed
 pub columns_lent : (d : Deskew) (p : History) (edges : List ℕ) (n : ℕ) → AreKnown d p → IsAligned d p edges
-    → n ≡ min (length d.first.kept.row) (min (length d.second.kept.row) (length d.third.kept.row))
-    → columns_of (take n d.first.kept.row) (take n d.second.kept.row) (take n d.third.kept.row) ≡ drop p.taken (past_columns p edges)
+    → n ≡ min (length d.blue.kept.row) (min (length d.green.kept.row) (length d.red.kept.row))
+    → columns_of (take n d.blue.kept.row) (take n d.green.kept.row) (take n d.red.kept.row) ≡ drop p.taken (past_columns p edges)
 columns_lent d p edges n known al is =
     let r = reach p edges in
-    let xs = unconsumed p.taken p.first (slice_index edges 0) in
-    let ys = unconsumed p.taken p.second (slice_index edges 1) in
-    let zs = unconsumed p.taken p.third (slice_index edges 2) in
-    let len1 = row_length d.first p.first p.taken (slice_index edges 0) r al.first in
-    let len2 = row_length d.second p.second p.taken (slice_index edges 1) r al.second in
-    let len3 = row_length d.third p.third p.taken (slice_index edges 2) r al.third in
-    let enough : min (length xs) (min (length ys) (length zs)) ≤ r = reach_enough p.first.ended p.second.ended p.third.ended (length xs) (length ys) (length zs) (few_words d.first p.first p.taken (slice_index edges 0) known.first) in
+    let xs = unconsumed p.taken p.blue (slice_index edges 0) in
+    let ys = unconsumed p.taken p.green (slice_index edges 1) in
+    let zs = unconsumed p.taken p.red (slice_index edges 2) in
+    let len1 = row_length d.blue p.blue p.taken (slice_index edges 0) r al.blue in
+    let len2 = row_length d.green p.green p.taken (slice_index edges 1) r al.green in
+    let len3 = row_length d.red p.red p.taken (slice_index edges 2) r al.red in
+    let enough : min (length xs) (min (length ys) (length zs)) ≤ r = reach_enough p.blue.ended p.green.ended p.red.ended (length xs) (length ys) (length zs) (few_words d.blue p.blue p.taken (slice_index edges 0) known.blue) in
     let le : n ≤ r = at_most n r _ _ _ _ is len1 in
     let all : min (length xs) (min (length ys) (length zs)) ≤ n = at_least n r _ _ _ _ _ _ is len1 len2 len3 enough in
-    (λ i. columns_of (take n (al.first.row i)) (take n (al.second.row i)) (take n (al.third.row i)))
+    (λ i. columns_of (take n (al.blue.row i)) (take n (al.green.row i)) (take n (al.red.row i)))
     ∙ (λ i. columns_of (take-take n r xs le i) (take-take n r ys le i) (take-take n r zs le i))
     ∙ columns_take n xs ys zs all
-    ∙ sym (columns_drop p.taken (from_edge p.first (slice_index edges 0)) (from_edge p.second (slice_index edges 1)) (from_edge p.third (slice_index edges 2)))
+    ∙ sym (columns_drop p.taken (from_edge p.blue (slice_index edges 0)) (from_edge p.green (slice_index edges 1)) (from_edge p.red (slice_index edges 2)))
   where
     at_most : (n r u v w x : ℕ) → n ≡ min u (min v w) → u ≡ min r x → n ≤ r
     at_most n r u v w x is a = omega arith

@@ -38,12 +38,12 @@ edge_cut xs lane e cut = edges_cut xs lane e cut.found cut.lock cut.words
 
 triple_moved : (A B C X Y Z : ℕ → Type 0) (d e f : ℕ) → (A d → X d) → (B e → Y e) → (C f → Z f) → AreTriple A B C d e f → AreTriple X Y Z d e f
 triple_moved A B C X Y Z d e f a b c t = record {
-  first = a t.first;
-  second = b t.second;
-  third = c t.third;
-  first_second = t.first_second;
-  second_third = t.second_third;
-  first_third = t.first_third;
+  blue = a t.blue;
+  green = b t.green;
+  red = c t.red;
+  blue_green = t.blue_green;
+  green_red = t.green_red;
+  blue_red = t.blue_red;
 }
 
 first_moved : (A B C X Y Z : ℕ → Type 0) (d e f : ℕ) → ((n : ℕ) → A n ↔ X n) → ((n : ℕ) → B n ↔ Y n) → ((n : ℕ) → C n ↔ Z n) → AreFirst A B C d e f → AreFirst X Y Z d e f
@@ -53,14 +53,14 @@ first_moved A B C X Y Z d e f a b c first = record {
 }
 
 module _ (xs ys zs : List Bool) (p : History) (cut : AreCutFrom xs ys zs p) where
-  one : (n : ℕ) → edge_of p.first n ↔ IsEdge xs n
-  one n = edge_cut xs p.first n cut.first
+  one : (n : ℕ) → edge_of p.blue n ↔ IsEdge xs n
+  one n = edge_cut xs p.blue n cut.blue
 
-  two : (n : ℕ) → edge_of p.second n ↔ IsEdge ys n
-  two n = edge_cut ys p.second n cut.second
+  two : (n : ℕ) → edge_of p.green n ↔ IsEdge ys n
+  two n = edge_cut ys p.green n cut.green
 
-  three : (n : ℕ) → edge_of p.third n ↔ IsEdge zs n
-  three n = edge_cut zs p.third n cut.third
+  three : (n : ℕ) → edge_of p.red n ↔ IsEdge zs n
+  three n = edge_cut zs p.red n cut.red
 
   back : {A B : Type 0} → A ↔ B → B ↔ A
   back h = (h.1, h.0)
@@ -73,8 +73,8 @@ module _ (xs ys zs : List Bool) (p : History) (cut : AreCutFrom xs ys zs p) wher
 
   pub past_alignments : (edges : List ℕ) → IsPastAlignment p edges ↔ IsAlignment xs ys zs edges
   past_alignments edges = (
-    first_moved (edge_of p.first) (edge_of p.second) (edge_of p.third) (IsEdge xs) (IsEdge ys) (IsEdge zs) _ _ _ one two three,
-    first_moved (IsEdge xs) (IsEdge ys) (IsEdge zs) (edge_of p.first) (edge_of p.second) (edge_of p.third) _ _ _ (λ n. back (one n)) (λ n. back (two n)) (λ n. back (three n)),
+    first_moved (edge_of p.blue) (edge_of p.green) (edge_of p.red) (IsEdge xs) (IsEdge ys) (IsEdge zs) _ _ _ one two three,
+    first_moved (IsEdge xs) (IsEdge ys) (IsEdge zs) (edge_of p.blue) (edge_of p.green) (edge_of p.red) _ _ _ (λ n. back (one n)) (λ n. back (two n)) (λ n. back (three n)),
   )
 
 pub from_cut : (xs : List Bool) (lane : Pushed) (e : ℕ) (o : Option ℕ) → MatchOption o ((p : ℕ) → IsRun xs p → ⊥) (λ p. IsLock xs p × (lane.lock ≡ p)) → lane.words ≡ lane_words o xs
@@ -88,9 +88,9 @@ pub past_columns_are : (xs ys zs : List Bool) (p : History) (edges : List ℕ) �
     → past_columns p edges ≡ aligned_columns xs ys zs (slice_index edges 0) (slice_index edges 1) (slice_index edges 2)
 unfolding aligned_columns
 past_columns_are xs ys zs p edges cut first =
-    let a = from_cut xs p.first (slice_index edges 0) cut.first.found cut.first.lock cut.first.words first.triple.first in
-    let b = from_cut ys p.second (slice_index edges 1) cut.second.found cut.second.lock cut.second.words first.triple.second in
-    let c = from_cut zs p.third (slice_index edges 2) cut.third.found cut.third.lock cut.third.words first.triple.third in
+    let a = from_cut xs p.blue (slice_index edges 0) cut.blue.found cut.blue.lock cut.blue.words first.triple.blue in
+    let b = from_cut ys p.green (slice_index edges 1) cut.green.found cut.green.lock cut.green.words first.triple.green in
+    let c = from_cut zs p.red (slice_index edges 2) cut.red.found cut.red.lock cut.red.words first.triple.red in
     λ i. columns_of (a i) (b i) (c i)
 
 -- evenly fed lanes

@@ -46,7 +46,7 @@ lane_cut : IsCutFrom [] no_words
 lane_cut = record { found = None; lock = λ p run. let within = run_within [] p run in absurd (omega arith); words = sym no_bits }
 
 pub nothing_cut : AreCutFrom [] [] [] no_history
-nothing_cut = record { first = lane_cut; second = lane_cut; third = lane_cut }
+nothing_cut = record { blue = lane_cut; green = lane_cut; red = lane_cut }
 
 pub none_gained : (xs us : List Bool) (lane : Pushed) → HasGrown xs us → ((p : ℕ) → IsRun us p → ⊥) → IsCutFrom xs lane → IsCutFrom us lane
 none_gained xs us lane grown none cut = record {
@@ -144,22 +144,22 @@ kept_short : (lane : Held) → lane.kept.ring ≡ [] → length lane.kept.row �
 kept_short lane ring few = let e = ap length (stored_row lane.kept ring) in omega arith
 
 pub room_left : (d : Deskew) (p : History) (at : Aligned) (n : ℕ) (xs ys zs : List Bool) → DeskewRepresents d p → d.found ≡ Some at → AreCutFrom xs ys zs p
-    → IsFedTo n xs p.first → IsFedTo n ys p.second → IsFedTo n zs p.third → ready_of d ≡ 0 → (lane : ℕ) → length (kept_of d lane) ≤ 7
+    → IsFedTo n xs p.blue → IsFedTo n ys p.green → IsFedTo n zs p.red → ready_of d ≡ 0 → (lane : ℕ) → length (kept_of d lane) ≤ 7
 room_left d p at n xs ys zs stands found cut a b c none lane =
     let edges = at.edges in
     let al : IsAligned d p edges = subst (λ (o : Option Aligned). MatchOption o (Awaits d p) (λ found_at. IsAligned d p found_at.edges)) found stands.alignment in
     let r = reach p edges in
     let t = al.alignment.triple in
-    let one = lane_short d.first p.first p.taken (slice_index edges 0) r n xs al.first t.first cut.first a (omega arith) (far_edge p.first (slice_index edges 0) t.first) in
-    let two = lane_short d.second p.second p.taken (slice_index edges 1) r n ys al.second t.second cut.second b (omega arith) (far_edge p.second (slice_index edges 1) t.second) in
-    let three = lane_short d.third p.third p.taken (slice_index edges 2) r n zs al.third t.third cut.third c (omega arith) (far_edge p.third (slice_index edges 2) t.third) in
-    let k = length d.first.kept.row in
-    let l = length d.second.kept.row in
-    let m = length d.third.kept.row in
+    let one = lane_short d.blue p.blue p.taken (slice_index edges 0) r n xs al.blue t.blue cut.blue a (omega arith) (far_edge p.blue (slice_index edges 0) t.blue) in
+    let two = lane_short d.green p.green p.taken (slice_index edges 1) r n ys al.green t.green cut.green b (omega arith) (far_edge p.green (slice_index edges 1) t.green) in
+    let three = lane_short d.red p.red p.taken (slice_index edges 2) r n zs al.red t.red cut.red c (omega arith) (far_edge p.red (slice_index edges 2) t.red) in
+    let k = length d.blue.kept.row in
+    let l = length d.green.kept.row in
+    let m = length d.red.kept.row in
     let least : min k (min l m) ≡ 0 = sym (ap (λ (o : Option Aligned). cond (is_some o) (min k (min l m)) 0) found) ∙ none in
-    by_lane al (all_few r n p.taken _ _ _ _ _ _ _ _ _ _ _ _ k l m one two three t.first_second t.second_third t.first_third (one_empty k l m least)) lane
+    by_lane al (all_few r n p.taken _ _ _ _ _ _ _ _ _ _ _ _ k l m one two three t.blue_green t.green_red t.blue_red (one_empty k l m least)) lane
   where
-    by_lane : IsAligned d p at.edges → (length d.first.kept.row ≤ 7) × (length d.second.kept.row ≤ 7) × (length d.third.kept.row ≤ 7) → (i : ℕ) → length (kept_of d i) ≤ 7
-    by_lane al short zero = kept_short d.first al.first.ring short.0
-    by_lane al short (suc zero) = kept_short d.second al.second.ring short.1
-    by_lane al short (suc (suc i)) = kept_short d.third al.third.ring short.2
+    by_lane : IsAligned d p at.edges → (length d.blue.kept.row ≤ 7) × (length d.green.kept.row ≤ 7) × (length d.red.kept.row ≤ 7) → (i : ℕ) → length (kept_of d i) ≤ 7
+    by_lane al short zero = kept_short d.blue al.blue.ring short.0
+    by_lane al short (suc zero) = kept_short d.green al.green.ring short.1
+    by_lane al short (suc (suc i)) = kept_short d.red al.red.ring short.2

@@ -42,12 +42,12 @@ on_third A B C d e f n reached far le_d le_e here least = grind (arith, past_thi
 -- where its lane has no next, there is no triple
 pub no_first : (A B C : ℕ → Type 0) (d e f : ℕ) → HaveReached A B C d e f → (AreAllNear d e f → ⊥) → d ≤ e → d ≤ f
     → ((p : ℕ) → d + 1 ≤ p → A p → ⊥) → (p q r : ℕ) → AreTriple A B C p q r → ⊥
-no_first A B C d e f reached far le_e le_f none p q r t = none p (past_first A B C d e f p q r reached far le_e le_f t) t.first
+no_first A B C d e f reached far le_e le_f none p q r t = none p (past_first A B C d e f p q r reached far le_e le_f t) t.blue
 
 pub no_second : (A B C : ℕ → Type 0) (d e f : ℕ) → HaveReached A B C d e f → (AreAllNear d e f → ⊥) → e ≤ d → e ≤ f
     → ((q : ℕ) → e + 1 ≤ q → B q → ⊥) → (p q r : ℕ) → AreTriple A B C p q r → ⊥
-no_second A B C d e f reached far le_d le_f none p q r t = none q (past_second A B C d e f p q r reached far le_d le_f t) t.second
+no_second A B C d e f reached far le_d le_f none p q r t = none q (past_second A B C d e f p q r reached far le_d le_f t) t.green
 
 pub no_third : (A B C : ℕ → Type 0) (d e f : ℕ) → HaveReached A B C d e f → (AreAllNear d e f → ⊥) → f ≤ d → f ≤ e
     → ((r : ℕ) → f + 1 ≤ r → C r → ⊥) → (p q r : ℕ) → AreTriple A B C p q r → ⊥
-no_third A B C d e f reached far le_d le_e none p q r t = none r (past_third A B C d e f p q r reached far le_d le_e t) t.third
+no_third A B C d e f reached far le_d le_e none p q r t = none r (past_third A B C d e f p q r reached far le_d le_e t) t.red

@@ -31,11 +31,11 @@ next_least xs from n p next after edge = elim (cases_lt p n) [
 -- the first edges of three lanes
 pub first_reached : (xs ys zs : List Bool) (d e f : ℕ) → IsNextEdge xs 0 d → IsNextEdge ys 0 e → IsNextEdge zs 0 f → AreReached xs ys zs d e f
 first_reached xs ys zs d e f first second third = record {
-  first = first.edge;
-  second = second.edge;
-  third = third.edge;
+  blue = first.edge;
+  green = second.edge;
+  red = third.edge;
   before = λ p q r t.
-      (next_least xs 0 d p first (omega arith) t.first, next_least ys 0 e q second (omega arith) t.second, next_least zs 0 f r third (omega arith) t.third);
+      (next_least xs 0 d p first (omega arith) t.blue, next_least ys 0 e q second (omega arith) t.green, next_least zs 0 f r third (omega arith) t.red);
 }
 
 -- equal edges are first too

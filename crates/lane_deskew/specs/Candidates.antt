@@ -10,9 +10,9 @@ AreAllNear d e f = AreNear d e × AreNear e f × AreNear d f
 
 -- edges before which no triple has one
 pub record HaveReached (A B C : ℕ → Type 0) (d e f : ℕ) : Type 0 where
-  pub first : A d
-  pub second : B e
-  pub third : C f
+  pub blue : A d
+  pub green : B e
+  pub red : C f
   pub before : (p q r : ℕ) → AreTriple A B C p q r → (d ≤ p) × (e ≤ q) × (f ≤ r)
 
 abbrev pub AreReached : List Bool → List Bool → List Bool → ℕ → ℕ → ℕ → Type 0

@@ -20,9 +20,9 @@ pub record Pushed : Type 0 where
 
 -- three of them, and how many columns were consumed
 pub record History : Type 0 where
-  pub first : Pushed
-  pub second : Pushed
-  pub third : Pushed
+  pub blue : Pushed
+  pub green : Pushed
+  pub red : Pushed
   pub taken : ℕ
 
 -- before anything is pushed
@@ -30,7 +30,7 @@ abbrev pub no_words : Pushed
 no_words = record { lock = 0; words = []; settled = 0; ended = false }
 
 abbrev pub no_history : History
-no_history = record { first = no_words; second = no_words; third = no_words; taken = 0 }
+no_history = record { blue = no_words; green = no_words; red = no_words; taken = 0 }
 
 -- after a call on a lane
 abbrev pub more : ℕ → List ℕ → Pushed → Pushed
@@ -44,9 +44,9 @@ rested lane = record { lock = lane.lock; words = lane.words; settled = length la
 
 -- with one lane changed
 abbrev pub change : (Pushed → Pushed) → ℕ → History → History
-change f zero p = record { first = f p.first; second = p.second; third = p.third; taken = p.taken }
-change f (suc zero) p = record { first = p.first; second = f p.second; third = p.third; taken = p.taken }
-change f (suc (suc n)) p = record { first = p.first; second = p.second; third = f p.third; taken = p.taken }
+change f zero p = record { blue = f p.blue; green = p.green; red = p.red; taken = p.taken }
+change f (suc zero) p = record { blue = p.blue; green = f p.green; red = p.red; taken = p.taken }
+change f (suc (suc n)) p = record { blue = p.blue; green = p.green; red = f p.red; taken = p.taken }
 
 -- after each call
 abbrev pub pushed : ℕ → ℕ → List ℕ → History → History
@@ -56,10 +56,10 @@ abbrev pub ended : ℕ → History → History
 ended lane = change over lane
 
 abbrev pub settled : History → History
-settled p = record { first = rested p.first; second = rested p.second; third = rested p.third; taken = p.taken }
+settled p = record { blue = rested p.blue; green = rested p.green; red = rested p.red; taken = p.taken }
 
 abbrev pub consumed : ℕ → History → History
-consumed n p = record { first = p.first; second = p.second; third = p.third; taken = p.taken + n }
+consumed n p = record { blue = p.blue; green = p.green; red = p.red; taken = p.taken + n }
 
 -- the lanes were pushed evenly: at the last settling no lane had passed a place; a lane that has pushed since had been
 -- near it, or began its run so near
@@ -68,7 +68,7 @@ pub record IsEven (place : ℕ) (lane : Pushed) : Type 0 where
   pub whole : lane.settled < length lane.words → place < lane.lock + 10 * lane.settled + 120
 
 abbrev pub AreEven : History → Type 0
-AreEven p = (place : ℕ) × IsEven place p.first × IsEven place p.second × IsEven place p.third
+AreEven p = (place : ℕ) × IsEven place p.blue × IsEven place p.green × IsEven place p.red
 
 -- the edges of a lane: of all its characters, and of those that it had at the last settling
 abbrev pub edge_of : Pushed → ℕ → Type 0
@@ -79,10 +79,10 @@ settled_edge lane = IsWordEdge lane.lock (take lane.settled lane.words)
 
 -- the full alignments of all that was pushed, and the first of them
 abbrev pub IsPastTriple : History → ℕ → ℕ → ℕ → Type 0
-IsPastTriple p = AreTriple (edge_of p.first) (edge_of p.second) (edge_of p.third)
+IsPastTriple p = AreTriple (edge_of p.blue) (edge_of p.green) (edge_of p.red)
 
 abbrev pub IsPastAlignment : History → List ℕ → Type 0
-IsPastAlignment p edges = AreFirst (edge_of p.first) (edge_of p.second) (edge_of p.third) (slice_index edges 0) (slice_index edges 1) (slice_index edges 2)
+IsPastAlignment p edges = AreFirst (edge_of p.blue) (edge_of p.green) (edge_of p.red) (slice_index edges 0) (slice_index edges 1) (slice_index edges 2)
 
 -- the characters of a lane from the run before an edge on, but for those that were consumed
 abbrev pub from_edge : Pushed → ℕ → List ℕ
@@ -94,13 +94,13 @@ unconsumed taken lane e = drop taken (from_edge lane e)
 -- how many of them a column can reach: those that each lane has that has ended
 abbrev pub reach : History → List ℕ → ℕ
 reach p edges =
-    min (limit p.first.ended (length (unconsumed p.taken p.first (slice_index edges 0))))
-    (min (limit p.second.ended (length (unconsumed p.taken p.second (slice_index edges 1))))
-    (limit p.third.ended (length (unconsumed p.taken p.third (slice_index edges 2)))))
+    min (limit p.blue.ended (length (unconsumed p.taken p.blue (slice_index edges 0))))
+    (min (limit p.green.ended (length (unconsumed p.taken p.green (slice_index edges 1))))
+    (limit p.red.ended (length (unconsumed p.taken p.red (slice_index edges 2)))))
 
 -- the columns of all that was pushed, from an alignment's runs on
 abbrev pub past_columns : History → List ℕ → List Column
-past_columns p edges = columns_of (from_edge p.first (slice_index edges 0)) (from_edge p.second (slice_index edges 1)) (from_edge p.third (slice_index edges 2))
+past_columns p edges = columns_of (from_edge p.blue (slice_index edges 0)) (from_edge p.green (slice_index edges 1)) (from_edge p.red (slice_index edges 2))
 
 -- what is kept of a lane in numbers
 pub record Knows (lane : Held) (past : Pushed) : Type 0 where
@@ -121,24 +121,24 @@ pub record Lends (lane : Held) (past : Pushed) (taken e reach : ℕ) : Type 0 wh
 
 -- no alignment was found at the last settling
 pub record Awaits (deskew : Deskew) (p : History) : Type 0 where
-  pub first : Waits deskew.first p.first
-  pub second : Waits deskew.second p.second
-  pub third : Waits deskew.third p.third
-  pub none : (d e f : ℕ) → AreTriple (settled_edge p.first) (settled_edge p.second) (settled_edge p.third) d e f → ⊥
+  pub blue : Waits deskew.blue p.blue
+  pub green : Waits deskew.green p.green
+  pub red : Waits deskew.red p.red
+  pub none : (d e f : ℕ) → AreTriple (settled_edge p.blue) (settled_edge p.green) (settled_edge p.red) d e f → ⊥
   pub fresh : p.taken ≡ 0
 
 -- one was found
 pub record IsAligned (deskew : Deskew) (p : History) (edges : List ℕ) : Type 0 where
   pub alignment : IsPastAlignment p edges
-  pub first : Lends deskew.first p.first p.taken (slice_index edges 0) (reach p edges)
-  pub second : Lends deskew.second p.second p.taken (slice_index edges 1) (reach p edges)
-  pub third : Lends deskew.third p.third p.taken (slice_index edges 2) (reach p edges)
+  pub blue : Lends deskew.blue p.blue p.taken (slice_index edges 0) (reach p edges)
+  pub green : Lends deskew.green p.green p.taken (slice_index edges 1) (reach p edges)
+  pub red : Lends deskew.red p.red p.taken (slice_index edges 2) (reach p edges)
 
 -- what is kept in numbers
 pub record AreKnown (deskew : Deskew) (p : History) : Type 0 where
-  pub first : Knows deskew.first p.first
-  pub second : Knows deskew.second p.second
-  pub third : Knows deskew.third p.third
+  pub blue : Knows deskew.blue p.blue
+  pub green : Knows deskew.green p.green
+  pub red : Knows deskew.red p.red
 
 -- what a deskew keeps of all that was pushed
 pub record DeskewRepresents (deskew : Deskew) (p : History) : Type 0 where
@@ -147,9 +147,9 @@ pub record DeskewRepresents (deskew : Deskew) (p : History) : Type 0 where
 
 -- one of the lanes
 abbrev pub lane_at : Deskew → ℕ → Held
-lane_at deskew zero = deskew.first
-lane_at deskew (suc zero) = deskew.second
-lane_at deskew (suc (suc n)) = deskew.third
+lane_at deskew zero = deskew.blue
+lane_at deskew (suc zero) = deskew.green
+lane_at deskew (suc (suc n)) = deskew.red
 
 -- a lane of which the first n characters in the row are kept
 pub record IsCut (n : ℕ) (old new : Held) : Type 0 where
@@ -161,11 +161,11 @@ pub record IsCut (n : ℕ) (old new : Held) : Type 0 where
 
 -- how many characters of each lane may stand in a column
 abbrev pub reach_of : Deskew → ℕ
-reach_of d = min (limit d.first.ended (length d.first.kept.row)) (min (limit d.second.ended (length d.second.kept.row)) (limit d.third.ended (length d.third.kept.row)))
+reach_of d = min (limit d.blue.ended (length d.blue.kept.row)) (min (limit d.green.ended (length d.green.kept.row)) (limit d.red.ended (length d.red.kept.row)))
 
 -- how many columns can be lent
 abbrev pub ready_of : Deskew → ℕ
-ready_of d = cond (is_some d.found) (min (length d.first.kept.row) (min (length d.second.kept.row) (length d.third.kept.row))) 0
+ready_of d = cond (is_some d.found) (min (length d.blue.kept.row) (min (length d.green.kept.row) (length d.red.kept.row))) 0
 
 -- what is kept of a lane
 abbrev pub kept_of : Deskew → ℕ → List ℕ

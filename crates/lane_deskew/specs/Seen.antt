@@ -15,9 +15,9 @@ pub record Held : Type 0 where
 
 -- three of them, and the edges of their first full alignment, once it is found
 pub record Seen : Type 0 where
-  pub first : Held
-  pub second : Held
-  pub third : Held
+  pub blue : Held
+  pub green : Held
+  pub red : Held
   pub found : Option Aligned
 
 -- what is shown of a lane

@@ -8,12 +8,12 @@ use Rattle.lane_align.specs.Lanes.{IsEdge}
 -- edges of three lanes, any two near each other. What is an edge of each lane is an argument: a place of its bits, or
 -- of the characters that were cut from them
 pub record AreTriple (A B C : ℕ → Type 0) (d e f : ℕ) : Type 0 where
-  pub first : A d
-  pub second : B e
-  pub third : C f
-  pub first_second : AreNear d e
-  pub second_third : AreNear e f
-  pub first_third : AreNear d f
+  pub blue : A d
+  pub green : B e
+  pub red : C f
+  pub blue_green : AreNear d e
+  pub green_red : AreNear e f
+  pub blue_red : AreNear d f
 
 -- the triple whose largest edge is least
 pub record AreFirst (A B C : ℕ → Type 0) (d e f : ℕ) : Type 0 where

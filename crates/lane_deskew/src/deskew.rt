@@ -20,9 +20,9 @@ use tmds_word::Columns;
 /// Lines three lanes up. It is seen as where they are aligned and what is kept of each.
 #[derive(Drop)]
 pub struct Deskew {
-    pub(crate) first: Lane,
-    pub(crate) second: Lane,
-    pub(crate) third: Lane,
+    pub(crate) blue: Lane,
+    pub(crate) green: Lane,
+    pub(crate) red: Lane,
     found: Option<Aligned>,
 }
 
@@ -32,9 +32,9 @@ impl Model for Deskew {
     ghost Value = { Seen };
 
     ghost view = { λ d. record {
-      first = held_of d.first;
-      second = held_of d.second;
-      third = held_of d.third;
+      blue = held_of d.blue;
+      green = held_of d.green;
+      red = held_of d.red;
       found = d.found;
     } };
 }
@@ -46,9 +46,9 @@ impl Deskew {
         ensures found { IfOk result (λ deskew. deskew.found ≡ None) }
     {
         Ok(Deskew {
-            first: Lane::open(alloc)?,
-            second: Lane::open(alloc)?,
-            third: Lane::open(alloc)?,
+            blue: Lane::open(alloc)?,
+            green: Lane::open(alloc)?,
+            red: Lane::open(alloc)?,
             found: None,
         })
     }
@@ -58,9 +58,9 @@ impl Deskew {
         ensures stands { DeskewRepresents self.new no_history }
         ensures found { self.new.found ≡ None }
     {
-        self.first.clear();
-        self.second.clear();
-        self.third.clear();
+        self.blue.clear();
+        self.green.clear();
+        self.red.clear();
         self.found = None;
     }
 
@@ -76,9 +76,9 @@ impl Deskew {
     {
         let reach = self.room();
         match lane {
-            0 => self.first.push(lock, words, reach),
-            1 => self.second.push(lock, words, reach),
-            _ => self.third.push(lock, words, reach),
+            0 => self.blue.push(lock, words, reach),
+            1 => self.green.push(lock, words, reach),
+            _ => self.red.push(lock, words, reach),
         }
     }
 
@@ -98,15 +98,15 @@ impl Deskew {
     fn mark(&mut self, lane: u8)
         requires { lane < 3 }
         ensures known { (p : History) → AreKnown self.old p → AreKnown self.new (ended lane p) }
-        ensures first { self.new.first.kept ≡ self.old.first.kept }
-        ensures second { self.new.second.kept ≡ self.old.second.kept }
-        ensures third { self.new.third.kept ≡ self.old.third.kept }
+        ensures blue { self.new.blue.kept ≡ self.old.blue.kept }
+        ensures green { self.new.green.kept ≡ self.old.green.kept }
+        ensures red { self.new.red.kept ≡ self.old.red.kept }
         ensures found { self.new.found ≡ self.old.found }
     {
         match lane {
-            0 => self.first.end(),
-            1 => self.second.end(),
-            _ => self.third.end(),
+            0 => self.blue.end(),
+            1 => self.green.end(),
+            _ => self.red.end(),
         }
     }
 
@@ -117,9 +117,9 @@ impl Deskew {
         ensures within { result ≤ ROW_WORDS }
     {
         match lane {
-            0 => self.first.held(),
-            1 => self.second.held(),
-            _ => self.third.held(),
+            0 => self.blue.held(),
+            1 => self.green.held(),
+            _ => self.red.held(),
         }
     }
 
@@ -145,10 +145,10 @@ impl Deskew {
         ensures few { result ≡ None → (lane : ℕ) → length (kept_of self.new lane) ≤ 32 }
         ensures found { (p : History) → AreKnown self.old p → Awaits self.old p → AreEven p → MatchOption result (Awaits self.new (settled p)) (λ at. IsAligned self.new (settled p) at.edges) }
     {
-        self.first.gather();
-        self.second.gather();
-        self.third.gather();
-        let places = [self.first.place(), self.second.place(), self.third.place()];
+        self.blue.gather();
+        self.green.gather();
+        self.red.gather();
+        let places = [self.blue.place(), self.green.place(), self.red.place()];
         match self.look(places) {
             Some(at) => {
                 let [i, j, k] = at;
@@ -157,16 +157,16 @@ impl Deskew {
                     places[1] + 10 * j as u64,
                     places[2] + 10 * k as u64,
                 ];
-                self.first.consume(i - RUN);
-                self.second.consume(j - RUN);
-                self.third.consume(k - RUN);
+                self.blue.consume(i - RUN);
+                self.green.consume(j - RUN);
+                self.red.consume(k - RUN);
                 self.cut();
                 Some(Aligned { edges })
             }
             None => {
-                self.first.rest();
-                self.second.rest();
-                self.third.rest();
+                self.blue.rest();
+                self.green.rest();
+                self.red.rest();
                 None
             }
         }
@@ -175,16 +175,16 @@ impl Deskew {
     /// The characters at the edges of the first full alignment of the rows, whose first characters lie at
     /// three places; None exactly where they have none.
     fn look(&self, places: [u64; 3]) -> Option<[usize; 3]>
-        requires first { slice_index places 0 + 10 * length self.now.first.kept.row < 2 ^ 63 }
-        requires second { slice_index places 1 + 10 * length self.now.second.kept.row < 2 ^ 63 }
-        requires third { slice_index places 2 + 10 * length self.now.third.kept.row < 2 ^ 63 }
-        ensures { MatchOption result ((d e f : ℕ) → IsStretchTriple places self.now.first.kept.row self.now.second.kept.row self.now.third.kept.row d e f → ⊥)
-            (λ at. AreFirstAt places self.now.first.kept.row self.now.second.kept.row self.now.third.kept.row at) }
+        requires blue { slice_index places 0 + 10 * length self.now.blue.kept.row < 2 ^ 63 }
+        requires green { slice_index places 1 + 10 * length self.now.green.kept.row < 2 ^ 63 }
+        requires red { slice_index places 2 + 10 * length self.now.red.kept.row < 2 ^ 63 }
+        ensures { MatchOption result ((d e f : ℕ) → IsStretchTriple places self.now.blue.kept.row self.now.green.kept.row self.now.red.kept.row d e f → ⊥)
+            (λ at. AreFirstAt places self.now.blue.kept.row self.now.green.kept.row self.now.red.kept.row at) }
     {
-        let a = self.first.words();
-        let b = self.second.words();
-        let c = self.third.words();
-        first_triple(a, b, c, places)
+        let blue = self.blue.words();
+        let green = self.green.words();
+        let red = self.red.words();
+        first_triple(blue, green, red, places)
     }
 
     /// The columns that are aligned and not consumed; none before the alignment.
@@ -195,10 +195,10 @@ impl Deskew {
             → columns_in result ≡ drop p.taken (past_columns p at.edges) }
     {
         let n = self.ready();
-        let a = self.first.words();
-        let b = self.second.words();
-        let c = self.third.words();
-        Columns::new(&a[..n], &b[..n], &c[..n])
+        let blue = self.blue.words();
+        let green = self.green.words();
+        let red = self.red.words();
+        Columns::new(&blue[..n], &green[..n], &red[..n])
     }
 
     /// Drops the first columns.
@@ -208,31 +208,31 @@ impl Deskew {
         ensures stands { (p : History) → DeskewRepresents self.old p → DeskewRepresents self.new (consumed n p) }
         ensures found { self.new.found ≡ self.old.found }
     {
-        self.first.consume(n);
-        self.second.consume(n);
-        self.third.consume(n);
+        self.blue.consume(n);
+        self.green.consume(n);
+        self.red.consume(n);
     }
 
     /// Drops what no column can reach since a lane has ended.
     fn cut(&mut self)
-        ensures first { IsCut (reach_of self.old) self.old.first self.new.first }
-        ensures second { IsCut (reach_of self.old) self.old.second self.new.second }
-        ensures third { IsCut (reach_of self.old) self.old.third self.new.third }
+        ensures blue { IsCut (reach_of self.old) self.old.blue self.new.blue }
+        ensures green { IsCut (reach_of self.old) self.old.green self.new.green }
+        ensures red { IsCut (reach_of self.old) self.old.red self.new.red }
         ensures found { self.new.found ≡ self.old.found }
     {
         let reach = self.reach();
-        self.first.truncate(reach);
-        self.second.truncate(reach);
-        self.third.truncate(reach);
+        self.blue.truncate(reach);
+        self.green.truncate(reach);
+        self.red.truncate(reach);
     }
 
     /// How many characters of each lane a column can reach.
     fn reach(&self) -> usize
         ensures { result ≡ reach_of self.now }
     {
-        self.first
+        self.blue
             .limit()
-            .min(self.second.limit().min(self.third.limit()))
+            .min(self.green.limit().min(self.red.limit()))
     }
 
     /// How many columns can be lent.
@@ -240,10 +240,10 @@ impl Deskew {
         ensures { result ≡ ready_of self.now }
     {
         if self.found.is_some() {
-            let a = self.first.words().len();
-            let b = self.second.words().len();
-            let c = self.third.words().len();
-            a.min(b.min(c))
+            let blue = self.blue.words().len();
+            let green = self.green.words().len();
+            let red = self.red.words().len();
+            blue.min(green.min(red))
         } else {
             0
         }

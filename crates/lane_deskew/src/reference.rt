@@ -21,12 +21,12 @@ const WORD: u32 = 10;
 
 /// The first full alignment: the edges, one of each lane, any two within 70 bits of each other, whose
 /// largest is least. None exactly where there are no such edges.
-pub(crate) fn first_alignment(a: &BitRow, b: &BitRow, c: &BitRow) -> Option<Aligned>
-    ensures { MatchOption result ((d e f : ℕ) → IsTriple a.now b.now c.now d e f → ⊥) (λ at. IsAlignment a.now b.now c.now at.edges) }
+pub(crate) fn first_alignment(blue: &BitRow, green: &BitRow, red: &BitRow) -> Option<Aligned>
+    ensures { MatchOption result ((d e f : ℕ) → IsTriple blue.now green.now red.now d e f → ⊥) (λ at. IsAlignment blue.now green.now red.now at.edges) }
 {
-    let mut edges = first_edges(a, b, c)?;
+    let mut edges = first_edges(blue, green, red)?;
     while !are_near(edges) {
-        edges = later_edges(a, b, c, edges)?;
+        edges = later_edges(blue, green, red, edges)?;
     }
     let [d, e, f] = edges;
     Some(Aligned {
@@ -35,32 +35,32 @@ pub(crate) fn first_alignment(a: &BitRow, b: &BitRow, c: &BitRow) -> Option<Alig
 }
 
 /// The first edge of each lane; none where some lane has none.
-fn first_edges(a: &BitRow, b: &BitRow, c: &BitRow) -> Option<[u32; 3]>
-    ensures { MatchOption result ((d e f : ℕ) → IsTriple a.now b.now c.now d e f → ⊥)
-        (λ edges. AreReached a.now b.now c.now (slice_index edges 0) (slice_index edges 1) (slice_index edges 2)) }
+fn first_edges(blue: &BitRow, green: &BitRow, red: &BitRow) -> Option<[u32; 3]>
+    ensures { MatchOption result ((d e f : ℕ) → IsTriple blue.now green.now red.now d e f → ⊥)
+        (λ edges. AreReached blue.now green.now red.now (slice_index edges 0) (slice_index edges 1) (slice_index edges 2)) }
 {
-    let d = next_edge(a, 0)?;
-    let e = next_edge(b, 0)?;
-    let f = next_edge(c, 0)?;
+    let d = next_edge(blue, 0)?;
+    let e = next_edge(green, 0)?;
+    let f = next_edge(red, 0)?;
     Some([d, e, f])
 }
 
 /// The edges with the least of them, which is too far from another, replaced by its lane's next; none
 /// where that lane has no later edge.
-fn later_edges(a: &BitRow, b: &BitRow, c: &BitRow, edges: [u32; 3]) -> Option<[u32; 3]>
-    requires reached { AreReached a.now b.now c.now (slice_index edges 0) (slice_index edges 1) (slice_index edges 2) }
+fn later_edges(blue: &BitRow, green: &BitRow, red: &BitRow, edges: [u32; 3]) -> Option<[u32; 3]>
+    requires reached { AreReached blue.now green.now red.now (slice_index edges 0) (slice_index edges 1) (slice_index edges 2) }
     requires far { AreAllNear (slice_index edges 0) (slice_index edges 1) (slice_index edges 2) → ⊥ }
-    ensures edges { MatchOption result ((d e f : ℕ) → IsTriple a.now b.now c.now d e f → ⊥)
-        (λ later. AreReached a.now b.now c.now (slice_index later 0) (slice_index later 1) (slice_index later 2)) }
+    ensures edges { MatchOption result ((d e f : ℕ) → IsTriple blue.now green.now red.now d e f → ⊥)
+        (λ later. AreReached blue.now green.now red.now (slice_index later 0) (slice_index later 1) (slice_index later 2)) }
     ensures later { IfSome result (λ later. sum_of edges < sum_of later) }
 {
     let [d, e, f] = edges;
     if d <= e && d <= f {
-        Some([edge_after(a, d)?, e, f])
+        Some([edge_after(blue, d)?, e, f])
     } else if e <= f {
-        Some([d, edge_after(b, e)?, f])
+        Some([d, edge_after(green, e)?, f])
     } else {
-        Some([d, e, edge_after(c, f)?])
+        Some([d, e, edge_after(red, f)?])
     }
 }
 
@@ -146,12 +146,12 @@ fn has_control(row: &BitRow, p: u32) -> bool
 /// The three characters of a column, lane 0 first: the windows of the lanes at 120 bits before their
 /// edges and `10 * j` bits on, where `at` is the rows' alignment. None exactly where not all three
 /// lanes have such a window.
-pub(crate) fn column(a: &BitRow, b: &BitRow, c: &BitRow, at: &Aligned, j: u32) -> Option<[Word; 3]>
-    requires { IsAlignment a.now b.now c.now at.now.edges }
-    ensures { MatchOption result (column_at a.now b.now c.now at.now.edges j ≡ None) (λ words. column_at a.now b.now c.now at.now.edges j ≡ Some (column_of words)) }
+pub(crate) fn column(blue: &BitRow, green: &BitRow, red: &BitRow, at: &Aligned, j: u32) -> Option<[Word; 3]>
+    requires { IsAlignment blue.now green.now red.now at.now.edges }
+    ensures { MatchOption result (column_at blue.now green.now red.now at.now.edges j ≡ None) (λ words. column_at blue.now green.now red.now at.now.edges j ≡ Some (column_of words)) }
 {
     let [d, e, f] = at.edges;
-    Some([word(a, d, j)?, word(b, e, j)?, word(c, f, j)?])
+    Some([word(blue, d, j)?, word(green, e, j)?, word(red, f, j)?])
 }
 
 /// The character of a column on a lane with an edge.

@@ -13,15 +13,15 @@ pub record Side : Type 0 where
   pub words : List ℕ
 
 pub record Sides : Type 0 where
-  pub first : Side
-  pub second : Side
-  pub third : Side
+  pub blue : Side
+  pub green : Side
+  pub red : Side
 
 -- one of the lanes
 abbrev pub side_at : Sides → ℕ → Side
-side_at sides zero = sides.first
-side_at sides (suc zero) = sides.second
-side_at sides (suc (suc n)) = sides.third
+side_at sides zero = sides.blue
+side_at sides (suc zero) = sides.green
+side_at sides (suc (suc n)) = sides.red
 
 -- no bit was fed to a lane
 pub record IsFresh (side : Side) : Type 0 where
@@ -31,9 +31,9 @@ pub record IsFresh (side : Side) : Type 0 where
   pub words : side.words ≡ []
 
 pub record AreFresh (sides : Sides) : Type 0 where
-  pub first : IsFresh sides.first
-  pub second : IsFresh sides.second
-  pub third : IsFresh sides.third
+  pub blue : IsFresh sides.blue
+  pub green : IsFresh sides.green
+  pub red : IsFresh sides.red
 
 -- what an aligner asks of a feed
 pub record CanTake (side : Side) (bytes : List ℕ) (bits : ℕ) : Type 0 where

@@ -41,9 +41,9 @@ struct Side {
 /// Three lanes, each with an aligner and a row of its own.
 #[derive(Drop)]
 pub struct Team {
-    first: Side,
-    second: Side,
-    third: Side,
+    blue: Side,
+    green: Side,
+    red: Side,
 }
 
 impl Model for Side {
@@ -63,7 +63,7 @@ impl Model for Team {
 
     ghost Value = { Sides };
 
-    ghost view = { λ t. record { first = t.first; second = t.second; third = t.third } };
+    ghost view = { λ t. record { blue = t.blue; green = t.green; red = t.red } };
 }
 
 impl Side {
@@ -108,9 +108,9 @@ impl Team {
         ensures { AreFresh result }
     {
         Team {
-            first: Side::open(),
-            second: Side::open(),
-            third: Side::open(),
+            blue: Side::open(),
+            green: Side::open(),
+            red: Side::open(),
         }
     }
 
@@ -125,42 +125,42 @@ impl Team {
         bits: [u32; 3],
         gate: &G,
     )
-        requires first { CanTake self.old.first a.now (slice_index bits 0) }
-        requires second { CanTake self.old.second b.now (slice_index bits 1) }
-        requires third { CanTake self.old.third c.now (slice_index bits 2) }
-        ensures first { HasTaken self.old.first a.now (slice_index bits 0) self.new.first }
-        ensures second { HasTaken self.old.second b.now (slice_index bits 1) self.new.second }
-        ensures third { HasTaken self.old.third c.now (slice_index bits 2) self.new.third }
+        requires blue { CanTake self.old.blue a.now (slice_index bits 0) }
+        requires green { CanTake self.old.green b.now (slice_index bits 1) }
+        requires red { CanTake self.old.red c.now (slice_index bits 2) }
+        ensures blue { HasTaken self.old.blue a.now (slice_index bits 0) self.new.blue }
+        ensures green { HasTaken self.old.green b.now (slice_index bits 1) self.new.green }
+        ensures red { HasTaken self.old.red c.now (slice_index bits 2) self.new.red }
     {
         let [x, y, z] = bits;
-        let first = &mut self.first;
-        let second = &mut self.second;
-        let third = &mut self.third;
+        let blue = &mut self.blue;
+        let green = &mut self.green;
+        let red = &mut self.red;
         join_mut(
             rt,
             &mut ||
-                requires { CanTake first.now a.now x }
+                requires { CanTake blue.now a.now x }
             {
                 gate.pass(0);
-                first.feed(a, x)
+                blue.feed(a, x)
             },
             &mut ||
-                requires second { CanTake second.now b.now y }
-                requires third { CanTake third.now c.now z }
+                requires green { CanTake green.now b.now y }
+                requires red { CanTake red.now c.now z }
             {
                 join_mut(
                     rt,
                     &mut ||
-                        requires { CanTake second.now b.now y }
+                        requires { CanTake green.now b.now y }
                     {
                         gate.pass(1);
-                        second.feed(b, y)
+                        green.feed(b, y)
                     },
                     &mut ||
-                        requires { CanTake third.now c.now z }
+                        requires { CanTake red.now c.now z }
                     {
                         gate.pass(2);
-                        third.feed(c, z)
+                        red.feed(c, z)
                     },
                 );
             },
@@ -169,17 +169,17 @@ impl Team {
 
     /// Takes bits of each lane as `feed_three` does, one lane after another: for so few that workers take longer.
     pub fn feed_in_turn(&mut self, a: &[u8], b: &[u8], c: &[u8], bits: [u32; 3])
-        requires first { CanTake self.old.first a.now (slice_index bits 0) }
-        requires second { CanTake self.old.second b.now (slice_index bits 1) }
-        requires third { CanTake self.old.third c.now (slice_index bits 2) }
-        ensures first { HasTaken self.old.first a.now (slice_index bits 0) self.new.first }
-        ensures second { HasTaken self.old.second b.now (slice_index bits 1) self.new.second }
-        ensures third { HasTaken self.old.third c.now (slice_index bits 2) self.new.third }
+        requires blue { CanTake self.old.blue a.now (slice_index bits 0) }
+        requires green { CanTake self.old.green b.now (slice_index bits 1) }
+        requires red { CanTake self.old.red c.now (slice_index bits 2) }
+        ensures blue { HasTaken self.old.blue a.now (slice_index bits 0) self.new.blue }
+        ensures green { HasTaken self.old.green b.now (slice_index bits 1) self.new.green }
+        ensures red { HasTaken self.old.red c.now (slice_index bits 2) self.new.red }
     {
         let [blue, green, red] = bits;
-        self.first.feed(a, blue);
-        self.second.feed(b, green);
-        self.third.feed(c, red);
+        self.blue.feed(a, blue);
+        self.green.feed(b, green);
+        self.red.feed(c, red);
     }
 
     /// The characters that the last feed gave of a lane.
@@ -188,9 +188,9 @@ impl Team {
         ensures { result.now ≡ (side_at self.now lane).words }
     {
         match lane {
-            0 => self.first.words(),
-            1 => self.second.words(),
-            _ => self.third.words(),
+            0 => self.blue.words(),
+            1 => self.green.words(),
+            _ => self.red.words(),
         }
     }
 
@@ -201,9 +201,9 @@ impl Team {
         ensures found { (xs : List Bool) → AlignerRepresents (side_at self.now lane).aligner xs → IsLockOf xs result }
     {
         match lane {
-            0 => self.first.aligner.locked(),
-            1 => self.second.aligner.locked(),
-            _ => self.third.aligner.locked(),
+            0 => self.blue.aligner.locked(),
+            1 => self.green.aligner.locked(),
+            _ => self.red.aligner.locked(),
         }
     }
 
@@ -211,8 +211,8 @@ impl Team {
     pub fn restart(&mut self)
         ensures { AreFresh self.new }
     {
-        self.first.restart();
-        self.second.restart();
-        self.third.restart();
+        self.blue.restart();
+        self.green.restart();
+        self.red.restart();
     }
 }

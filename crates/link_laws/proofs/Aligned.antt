@@ -109,23 +109,23 @@ pub record BeginAt (cs : List Column) (from1 from2 from3 many1 many2 many3 a : �
   pub blue : x ≡ part_of (blues cs) from1 many1
   pub green : y ≡ part_of (greens cs) from2 many2
   pub red : z ≡ part_of (reds cs) from3 many3
-  pub first : d - 120 + from1 ≡ 10 * a
-  pub second : e - 120 + from2 ≡ 10 * a
-  pub third : f - 120 + from3 ≡ 10 * a
-  pub first_within : d ≤ length x
-  pub second_within : e ≤ length y
-  pub third_within : f ≤ length z
+  pub blue_begins : d - 120 + from1 ≡ 10 * a
+  pub green_begins : e - 120 + from2 ≡ 10 * a
+  pub red_begins : f - 120 + from3 ≡ 10 * a
+  pub blue_within : d ≤ length x
+  pub green_within : e ≤ length y
+  pub red_within : f ≤ length z
 
 pub columns_taken : (cs : List Column) (from1 from2 from3 many1 many2 many3 a : ℕ) (x y z : List Bool) (d e f : ℕ) → BeginAt cs from1 from2 from3 many1 many2 many3 a x y z d e f
     → AreCharacters (blues cs) → AreCharacters (greens cs) → AreCharacters (reds cs)
     → aligned_columns x y z d e f ≡ take (length (aligned_columns x y z d e f)) (drop a cs)
 unfolding aligned_columns
 columns_taken cs from1 from2 from3 many1 many2 many3 a x y z d e f at blue green red =
-    let w1 = at.first_within in
-    let w2 = at.second_within in
-    let w3 = at.third_within in
+    let w1 = at.blue_within in
+    let w2 = at.green_within in
+    let w3 = at.red_within in
     columns_from cs (whole_words x (d - 120)) (whole_words y (e - 120)) (whole_words z (f - 120)) a
     (words_from x (d - 120)) (words_from y (e - 120)) (words_from z (f - 120))
-    (lane_taken (blues cs) from1 many1 (d - 120) a x at.blue at.first (omega arith) blue)
-    (lane_taken (greens cs) from2 many2 (e - 120) a y at.green at.second (omega arith) green)
-    (lane_taken (reds cs) from3 many3 (f - 120) a z at.red at.third (omega arith) red)
+    (lane_taken (blues cs) from1 many1 (d - 120) a x at.blue at.blue_begins (omega arith) blue)
+    (lane_taken (greens cs) from2 many2 (e - 120) a y at.green at.green_begins (omega arith) green)
+    (lane_taken (reds cs) from3 many3 (f - 120) a z at.red at.red_begins (omega arith) red)

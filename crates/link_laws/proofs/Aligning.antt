@@ -124,9 +124,9 @@ first_end ps sent received f reception spares after offset skews n1 n2 n3 small 
     let k1 = offset + slice_index skews 0 in
     let k2 = offset + slice_index skews 1 in
     let k3 = offset + slice_index skews 2 in
-    let n12 = near_from offset (slice_index skews 0) (slice_index skews 1) small.first_second in
-    let n23 = near_from offset (slice_index skews 1) (slice_index skews 2) small.second_third in
-    let n13 = near_from offset (slice_index skews 0) (slice_index skews 2) small.first_third in
+    let n12 = near_from offset (slice_index skews 0) (slice_index skews 1) small.blue_green in
+    let n23 = near_from offset (slice_index skews 1) (slice_index skews 2) small.green_red in
+    let n13 = near_from offset (slice_index skews 0) (slice_index skews 2) small.blue_red in
     let at_f : IsGuard (kind_at kinds f) = subst IsGuard (sym after.opens) tt in
     let n = 10 * f in
     let b1 = h.blue.begins in
@@ -134,11 +134,11 @@ first_end ps sent received f reception spares after offset skews n1 n2 n3 small 
     let b3 = h.red.begins in
     let t = first.triple in
     let least = first.least (n - k1) (n - k2) (n - k3) (here ps sent received f reception spares after k1 k2 k3 n1 n2 n3 h n12 n23 n13) in
-    let a = edge_until kinds f (blues received) _ alternates lanes.blue at_f k1 n1 p h.blue t.first (bounded n k1 k2 k3 p q r (omega arith) n12 n13 least) in
-    let b = edge_until kinds f (greens received) _ alternates lanes.green at_f k2 n2 q h.green t.second (bounded_second n k1 k2 k3 p q r (omega arith) n12 n23 least) in
-    let c = edge_until kinds f (reds received) _ alternates lanes.red at_f k3 n3 r h.red t.third (bounded_third n k1 k2 k3 p q r (omega arith) n13 n23 least) in
-    let ab = one_end kinds f k1 k2 p q alternates n12 t.first_second a b in
-    let ac = one_end kinds f k1 k3 p r alternates n13 t.first_third a c in
+    let a = edge_until kinds f (blues received) _ alternates lanes.blue at_f k1 n1 p h.blue t.blue (bounded n k1 k2 k3 p q r (omega arith) n12 n13 least) in
+    let b = edge_until kinds f (greens received) _ alternates lanes.green at_f k2 n2 q h.green t.green (bounded_second n k1 k2 k3 p q r (omega arith) n12 n23 least) in
+    let c = edge_until kinds f (reds received) _ alternates lanes.red at_f k3 n3 r h.red t.red (bounded_third n k1 k2 k3 p q r (omega arith) n13 n23 least) in
+    let ab = one_end kinds f k1 k2 p q alternates n12 t.blue_green a b in
+    let ac = one_end kinds f k1 k3 p r alternates n13 t.blue_red a c in
     let pa = a.3 in
     let pb = b.3 in
     let pc = c.3 in (
@@ -167,9 +167,9 @@ found ps sent received f reception spares after offset skews n1 n2 n3 small h =
     let k1 = offset + slice_index skews 0 in
     let k2 = offset + slice_index skews 1 in
     let k3 = offset + slice_index skews 2 in
-    let n12 = near_from offset (slice_index skews 0) (slice_index skews 1) small.first_second in
-    let n23 = near_from offset (slice_index skews 1) (slice_index skews 2) small.second_third in
-    let n13 = near_from offset (slice_index skews 0) (slice_index skews 2) small.first_third in
+    let n12 = near_from offset (slice_index skews 0) (slice_index skews 1) small.blue_green in
+    let n23 = near_from offset (slice_index skews 1) (slice_index skews 2) small.green_red in
+    let n13 = near_from offset (slice_index skews 0) (slice_index skews 2) small.blue_red in
     some_first ps offset skews f _ _ _ (10 * f - k1) (10 * f - k2) (10 * f - k3)
     (here ps sent received f reception spares after k1 k2 k3 n1 n2 n3 h n12 n23 n13)
     (first_decided (part_of (blues received) k1 n1) (part_of (greens received) k2 n2) (part_of (reds received) k3 n3))

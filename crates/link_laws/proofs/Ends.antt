@@ -53,7 +53,7 @@ first_ends_freely ps sent received reception alone offset skews counts x y z tap
     (damaged (blues sent) (blues received)) (damaged (greens sent) (greens received)) (damaged (reds sent) (reds received))
     alternates lanes.blue lanes.green lanes.red (offset + k1) (offset + k2) (offset + k3)
     (slice_index counts 0) (slice_index counts 1) (slice_index counts 2) d e f
-    (near_from offset k1 k2 small.first_second) (near_from offset k2 k3 small.second_third) (near_from offset k1 k3 small.first_third)
+    (near_from offset k1 k2 small.blue_green) (near_from offset k2 k3 small.green_red) (near_from offset k1 k3 small.blue_red)
     (first_of x y z _ _ _ d e f tapped.blue_part.bits_are tapped.green_part.bits_are tapped.red_part.bits_are first) in
     (ends.0, ends.1, record { blue = flat d offset k1 _ ends.2; green = flat e offset k2 _ ends.3; red = flat f offset k3 _ ends.4 })
 

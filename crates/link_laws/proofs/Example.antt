@@ -23,7 +23,7 @@ pub tapped : (cs : List Column) → length cs ≡ 87 → IsTap cs 7 skews counts
 tapped cs long = grind (arith, length-map)
 
 small : HasSmallSkew skews
-small = record { first_second = (omega arith, omega arith); second_third = (omega arith, omega arith); first_third = (omega arith, omega arith) }
+small = record { blue_green = (omega arith, omega arith); green_red = (omega arith, omega arith); blue_red = (omega arith, omega arith) }
 
 each_lane : (P : ℕ → Type 0) → P 0 → P 1 → P 2 → (lane : ℕ) → lane < 3 → P lane
 each_lane P p q r zero lt = p

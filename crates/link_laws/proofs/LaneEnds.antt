@@ -130,8 +130,8 @@ pub first_ends : (kinds : List Kind) (words1 words2 words3 : List ℕ) (marks1 m
     → (i : ℕ) × (EndsAt kinds i) × (e1 + from1 ≡ 10 * (i + 1)) × (e2 + from2 ≡ 10 * (i + 1)) × (e3 + from3 ≡ 10 * (i + 1))
 first_ends kinds words1 words2 words3 marks1 marks2 marks3 alternates r1 r2 r3 from1 from2 from3 many1 many2 many3 e1 e2 e3 skew12 skew23 skew13 first =
     let t = first.triple in
-    let a = one_end kinds words1 words2 marks1 marks2 alternates r1 r2 from1 from2 many1 many2 e1 e2 skew12 t.first t.second t.first_second in
-    let b = one_end kinds words2 words3 marks2 marks3 alternates r2 r3 from2 from3 many2 many3 e2 e3 skew23 t.second t.third t.second_third in
+    let a = one_end kinds words1 words2 marks1 marks2 alternates r1 r2 from1 from2 many1 many2 e1 e2 skew12 t.blue t.green t.blue_green in
+    let b = one_end kinds words2 words3 marks2 marks3 alternates r2 r3 from2 from3 many2 many3 e2 e3 skew23 t.green t.red t.green_red in
     grind arith
 
 one_or_none : (b : Bool) → one_if b ≤ 1

@@ -140,8 +140,8 @@ past e h = let same = one_lock bits h.lock 7 h.is_lock (is_lock bits 7 run_test 
 
 first : IsFirst bits bits bits 127 127 127
 first = record {
-  triple = record { first = edge; second = edge; third = edge; first_second = near; second_third = near; first_third = near };
-  least = λ p q r t. let a = past p t.first in omega arith;
+  triple = record { blue = edge; green = edge; red = edge; blue_green = near; green_red = near; blue_red = near };
+  least = λ p q r t. let a = past p t.blue in omega arith;
 }
 
 pub example : HasLaneExample

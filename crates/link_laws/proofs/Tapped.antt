@@ -34,22 +34,22 @@ pub begin_at : (received : List Column) (offset : ℕ) (skews counts : List ℕ)
     (slice_index counts 0) (slice_index counts 1) (slice_index counts 2) (i - 11) x y z d e f
 begin_at received offset skews counts x y z d e f i tapped first far at =
     let t = first.triple in
-    let p1 = t.first.past in
-    let p2 = t.second.past in
-    let p3 = t.third.past in
-    let w1 = edge_within x d t.first in
-    let w2 = edge_within y e t.second in
-    let w3 = edge_within z f t.third in
+    let p1 = t.blue.past in
+    let p2 = t.green.past in
+    let p3 = t.red.past in
+    let w1 = edge_within x d t.blue in
+    let w2 = edge_within y e t.green in
+    let w3 = edge_within z f t.red in
     record {
       blue = tapped.blue_part.bits_are;
       green = tapped.green_part.bits_are;
       red = tapped.red_part.bits_are;
-      first = begins d offset (slice_index skews 0) i (omega arith) far at.blue;
-      second = begins e offset (slice_index skews 1) i (omega arith) far at.green;
-      third = begins f offset (slice_index skews 2) i (omega arith) far at.red;
-      first_within = omega arith;
-      second_within = omega arith;
-      third_within = omega arith;
+      blue_begins = begins d offset (slice_index skews 0) i (omega arith) far at.blue;
+      green_begins = begins e offset (slice_index skews 1) i (omega arith) far at.green;
+      red_begins = begins f offset (slice_index skews 2) i (omega arith) far at.red;
+      blue_within = omega arith;
+      green_within = omega arith;
+      red_within = omega arith;
     }
 
 pub characters : (g : Column → ℕ) (received : List Column) → ((i : ℕ) → i < length received → g (column_at received i) < 1024) → AreCharacters (map g received)

@@ -136,7 +136,7 @@ ends_unheard stands g s fed h aligned = λ reported so_far.
 -- A feed.
 
 -- after it the lanes have its bits, and the columns of them are not heard yet
-pub fed_after : {H : Type 0} (stands : H → List Column → Type 0) (s : HearingStream H) (fed : Fed) (a b c : List ℕ) (bits : List ℕ) (r : Receiver) (aligned : Bool) → (h : IsHeard stands s fed) → CanFeed (fed_of s.receiver.team.first.aligner) (longest s.receiver.team) a (slice_index bits 0)
+pub fed_after : {H : Type 0} (stands : H → List Column → Type 0) (s : HearingStream H) (fed : Fed) (a b c : List ℕ) (bits : List ℕ) (r : Receiver) (aligned : Bool) → (h : IsHeard stands s fed) → CanFeed (fed_of s.receiver.team.blue.aligner) (longest s.receiver.team) a (slice_index bits 0)
     → ((f : Fed) (taken : ℕ) → ReceiverRepresents s.receiver f taken → ReceiverRepresents r (grown f a b c bits) taken) → aligned ≡ is_some r.deskew.found
     → IsAfter stands (record { receiver = r; hearing = s.hearing; outcome = record { aligned = aligned; columns = s.outcome.columns } }) fed (grown fed a b c bits)
 fed_after stands s fed a b c bits r aligned h can received is = grind (arith, length_grown)
@@ -144,7 +144,7 @@ fed_after stands s fed a b c bits r aligned h can received is = grind (arith, le
 -- The same of a stream as contracts see it, whose hearing lies in memory of its own.
 
 pub fed_after_at : {H : Type 0} (stands : H → List Column → Type 0) (s t : HearingStream H) → s ≡ t → (k : H) → k ≡ s.hearing → (fed : Fed) (a b c : List ℕ) (bits : List ℕ) (r : Receiver) (aligned : Bool) → IsHeard stands t fed
-    → CanFeed (fed_of t.receiver.team.first.aligner) (longest t.receiver.team) a (slice_index bits 0)
+    → CanFeed (fed_of t.receiver.team.blue.aligner) (longest t.receiver.team) a (slice_index bits 0)
     → ((f : Fed) (taken : ℕ) → ReceiverRepresents s.receiver f taken → ReceiverRepresents r (grown f a b c bits) taken) → aligned ≡ is_some r.deskew.found
     → IsAfter stands (record { receiver = r; hearing = k; outcome = record { aligned = aligned; columns = s.outcome.columns } }) fed (grown fed a b c bits)
 fed_after_at {H = H} stands s t e k same fed a b c bits r aligned h can received is = grind (arith, fed_after)

@@ -17,29 +17,29 @@ use Rattle.link_sink.proofs.Gaining.{fed_more, lane_gained, lane_going}
 
 -- The first lane may push, then the second, then the third.
 
-pub may_first : (r : Receiver) (fed : Fed) (taken : ℕ) (side : Side) (bytes : List ℕ) (bits : ℕ) → (h : ReceiverRepresents r fed taken) → ready_of r.deskew ≡ 0
-    → CanFeed (fed_of r.team.first.aligner) (longest r.team) bytes bits → HasTaken r.team.first bytes bits side
+pub may_blue : (r : Receiver) (fed : Fed) (taken : ℕ) (side : Side) (bytes : List ℕ) (bits : ℕ) → (h : ReceiverRepresents r fed taken) → ready_of r.deskew ≡ 0
+    → CanFeed (fed_of r.team.blue.aligner) (longest r.team) bytes bits → HasTaken r.team.blue bytes bits side
     → MayPush side r.deskew 0 bits h.past fed.blue (fed_more fed.blue bytes bits)
-may_first r fed taken side bytes bits h none can took = record {
+may_blue r fed taken side bytes bits h none can took = record {
   stands = h.stands;
-  cut = h.first.cut;
-  gained = lane_gained r.team.first side bytes bits (longest r.team) fed.blue h.past.first h.first can took;
-  going = lane_going r.team.first bytes bits (longest r.team) fed.blue h.past.first h.first can;
+  cut = h.blue.cut;
+  gained = lane_gained r.team.blue side bytes bits (longest r.team) fed.blue h.past.blue h.blue can took;
+  going = lane_going r.team.blue bytes bits (longest r.team) fed.blue h.past.blue h.blue can;
   room =
       let many = kept_is r.deskew h.past 0 h.stands (omega arith) in
       let few = few_kept r fed taken h none 0 (omega arith) in
       omega (arith, many, few);
 }
 
-pub may_second : (r : Receiver) (fed : Fed) (taken : ℕ) (side : Side) (bytes : List ℕ) (bits : ℕ) → (h : ReceiverRepresents r fed taken) → ready_of r.deskew ≡ 0
-    → CanFeed (fed_of r.team.second.aligner) (longest r.team) bytes bits → HasTaken r.team.second bytes bits side
-    → (d : Deskew) (first : Pushed) → IsSame h.past.first first → d.found ≡ r.deskew.found → IsDeskewOf d (change (λ _. first) 0 h.past)
+pub may_green : (r : Receiver) (fed : Fed) (taken : ℕ) (side : Side) (bytes : List ℕ) (bits : ℕ) → (h : ReceiverRepresents r fed taken) → ready_of r.deskew ≡ 0
+    → CanFeed (fed_of r.team.green.aligner) (longest r.team) bytes bits → HasTaken r.team.green bytes bits side
+    → (d : Deskew) (first : Pushed) → IsSame h.past.blue first → d.found ≡ r.deskew.found → IsDeskewOf d (change (λ _. first) 0 h.past)
     → MayPush side d 1 bits (change (λ _. first) 0 h.past) fed.green (fed_more fed.green bytes bits)
-may_second r fed taken side bytes bits h none can took d first same found stands = record {
+may_green r fed taken side bytes bits h none can took d first same found stands = record {
   stands = stands;
-  cut = h.second.cut;
-  gained = lane_gained r.team.second side bytes bits (longest r.team) fed.green h.past.second h.second can took;
-  going = lane_going r.team.second bytes bits (longest r.team) fed.green h.past.second h.second can;
+  cut = h.green.cut;
+  gained = lane_gained r.team.green side bytes bits (longest r.team) fed.green h.past.green h.green can took;
+  going = lane_going r.team.green bytes bits (longest r.team) fed.green h.past.green h.green can;
   room =
       let p = change (λ _. first) 0 h.past in
       let many : length (kept_of d 1) ≡ kept_many h.past r.deskew.found 1 = kept_is d p 1 stands (omega arith) ∙ ap (λ o. kept_many p o 1) found ∙ second_kept h.past first r.deskew.found same in
@@ -47,16 +47,16 @@ may_second r fed taken side bytes bits h none can took d first same found stands
       omega (arith, many, few);
 }
 
-pub may_third : (r : Receiver) (fed : Fed) (taken : ℕ) (side : Side) (bytes : List ℕ) (bits : ℕ) → (h : ReceiverRepresents r fed taken) → ready_of r.deskew ≡ 0
-    → CanFeed (fed_of r.team.third.aligner) (longest r.team) bytes bits → HasTaken r.team.third bytes bits side
-    → (d : Deskew) (first second : Pushed) → IsSame h.past.first first → IsSame h.past.second second → d.found ≡ r.deskew.found
+pub may_red : (r : Receiver) (fed : Fed) (taken : ℕ) (side : Side) (bytes : List ℕ) (bits : ℕ) → (h : ReceiverRepresents r fed taken) → ready_of r.deskew ≡ 0
+    → CanFeed (fed_of r.team.red.aligner) (longest r.team) bytes bits → HasTaken r.team.red bytes bits side
+    → (d : Deskew) (first second : Pushed) → IsSame h.past.blue first → IsSame h.past.green second → d.found ≡ r.deskew.found
     → IsDeskewOf d (change (λ _. second) 1 (change (λ _. first) 0 h.past))
     → MayPush side d 2 bits (change (λ _. second) 1 (change (λ _. first) 0 h.past)) fed.red (fed_more fed.red bytes bits)
-may_third r fed taken side bytes bits h none can took d first second same same_too found stands = record {
+may_red r fed taken side bytes bits h none can took d first second same same_too found stands = record {
   stands = stands;
-  cut = h.third.cut;
-  gained = lane_gained r.team.third side bytes bits (longest r.team) fed.red h.past.third h.third can took;
-  going = lane_going r.team.third bytes bits (longest r.team) fed.red h.past.third h.third can;
+  cut = h.red.cut;
+  gained = lane_gained r.team.red side bytes bits (longest r.team) fed.red h.past.red h.red can took;
+  going = lane_going r.team.red bytes bits (longest r.team) fed.red h.past.red h.red can;
   room =
       let p = change (λ _. second) 1 (change (λ _. first) 0 h.past) in
       let many : length (kept_of d 2) ≡ kept_many h.past r.deskew.found 2 =
@@ -118,20 +118,20 @@ lane_after n m bits short old new xs us before now f = grind (arith, ended_cut, 
 
 -- before they are looked through
 abbrev pub fed_past : History → Bool → Bool → Bool → Pushed → Pushed → Pushed → History
-fed_past p s0 s1 s2 n0 n1 n2 = record { first = end_if s0 n0; second = end_if s1 n1; third = end_if s2 n2; taken = p.taken }
+fed_past p s0 s1 s2 n0 n1 n2 = record { blue = end_if s0 n0; green = end_if s1 n1; red = end_if s2 n2; taken = p.taken }
 
 pub record AreFed (r : Receiver) (fed now : Fed) (p : History) (team : Sides) (m x y z : ℕ) (s0 s1 s2 : Bool) (n0 n1 n2 : Pushed) : Type 0 where
-  pub first : IsFedLane (longest r.team) m x s0 r.team.first team.first fed.blue now.blue p.first n0
-  pub second : IsFedLane (longest r.team) m y s1 r.team.second team.second fed.green now.green p.second n1
-  pub third : IsFedLane (longest r.team) m z s2 r.team.third team.third fed.red now.red p.third n2
+  pub blue : IsFedLane (longest r.team) m x s0 r.team.blue team.blue fed.blue now.blue p.blue n0
+  pub green : IsFedLane (longest r.team) m y s1 r.team.green team.green fed.green now.green p.green n1
+  pub red : IsFedLane (longest r.team) m z s2 r.team.red team.red fed.red now.red p.red n2
 
 pub are_even : (r : Receiver) (fed now : Fed) (p : History) (team : Sides) (m x y z : ℕ) (s0 s1 s2 : Bool) (n0 n1 n2 : Pushed) → AreFed r fed now p team m x y z s0 s1 s2 n0 n1 n2
     → AreEven (fed_past p s0 s1 s2 n0 n1 n2)
 are_even r fed now p team m x y z s0 s1 s2 n0 n1 n2 all = (
   longest r.team,
-  lane_even _ m x s0 _ _ _ _ _ n0 all.first,
-  lane_even _ m y s1 _ _ _ _ _ n1 all.second,
-  lane_even _ m z s2 _ _ _ _ _ n2 all.third,
+  lane_even _ m x s0 _ _ _ _ _ n0 all.blue,
+  lane_even _ m y s1 _ _ _ _ _ n1 all.green,
+  lane_even _ m z s2 _ _ _ _ _ n2 all.red,
 )
 
 found_by : (fed : Fed) (p : History) (o : Option Aligned) → AreCutFrom fed.blue fed.green fed.red p
@@ -143,11 +143,11 @@ found_by fed p (Some at) cut first = (past_alignments fed.blue fed.green fed.red
 longest_more : (a b c x y z n : ℕ) → n ≡ max a (max b c) → (x ≡ 0) ⊎ (a ≡ n) → (y ≡ 0) ⊎ (b ≡ n) → (z ≡ 0) ⊎ (c ≡ n) → max (a + x) (max (b + y) (c + z)) ≡ n + max (max x y) z
 longest_more a b c x y z n h k l m = grind arith
 
-pub longest_fed : (old team : Sides) (x y z m : ℕ) → m ≡ max (max x y) z → fed_of team.first.aligner ≡ fed_of old.first.aligner + x → fed_of team.second.aligner ≡ fed_of old.second.aligner + y
-    → fed_of team.third.aligner ≡ fed_of old.third.aligner + z → (x ≡ 0) ⊎ (fed_of old.first.aligner ≡ longest old) → (y ≡ 0) ⊎ (fed_of old.second.aligner ≡ longest old)
-    → (z ≡ 0) ⊎ (fed_of old.third.aligner ≡ longest old) → longest team ≡ longest old + m
+pub longest_fed : (old team : Sides) (x y z m : ℕ) → m ≡ max (max x y) z → fed_of team.blue.aligner ≡ fed_of old.blue.aligner + x → fed_of team.green.aligner ≡ fed_of old.green.aligner + y
+    → fed_of team.red.aligner ≡ fed_of old.red.aligner + z → (x ≡ 0) ⊎ (fed_of old.blue.aligner ≡ longest old) → (y ≡ 0) ⊎ (fed_of old.green.aligner ≡ longest old)
+    → (z ≡ 0) ⊎ (fed_of old.red.aligner ≡ longest old) → longest team ≡ longest old + m
 longest_fed old team x y z m e a b c i j k =
-    (λ t. max (a t) (max (b t) (c t))) ∙ longest_more (fed_of old.first.aligner) (fed_of old.second.aligner) (fed_of old.third.aligner) x y z (longest old) refl i j k ∙ ap (λ w. longest old + w) (sym e)
+    (λ t. max (a t) (max (b t) (c t))) ∙ longest_more (fed_of old.blue.aligner) (fed_of old.green.aligner) (fed_of old.red.aligner) x y z (longest old) refl i j k ∙ ap (λ w. longest old + w) (sym e)
 
 -- so a receiver stands for the bits of all feeds
 pub now_received : (r : Receiver) (fed now : Fed) (p : History) (taken : ℕ) (team : Sides) (d : Deskew) (m x y z : ℕ) (s0 s1 s2 : Bool) (n0 n1 n2 : Pushed) → AreFed r fed now p team m x y z s0 s1 s2 n0 n1 n2
@@ -160,12 +160,12 @@ now_received r fed now p taken team d m x y z s0 s1 s2 n0 n1 n2 all took long st
       past = settled (fed_past p s0 s1 s2 n0 n1 n2);
       stands = stands;
       taken_are = took;
-      first = subst (λ n. IsLane team.first now.blue n (rested (end_if s0 n0))) more (lane_after _ m x s0 _ _ _ _ _ n0 all.first);
-      second = subst (λ n. IsLane team.second now.green n (rested (end_if s1 n1))) more (lane_after _ m y s1 _ _ _ _ _ n1 all.second);
-      third = subst (λ n. IsLane team.third now.red n (rested (end_if s2 n2))) more (lane_after _ m z s2 _ _ _ _ _ n2 all.third);
+      blue = subst (λ n. IsLane team.blue now.blue n (rested (end_if s0 n0))) more (lane_after _ m x s0 _ _ _ _ _ n0 all.blue);
+      green = subst (λ n. IsLane team.green now.green n (rested (end_if s1 n1))) more (lane_after _ m y s1 _ _ _ _ _ n1 all.green);
+      red = subst (λ n. IsLane team.red now.red n (rested (end_if s2 n2))) more (lane_after _ m z s2 _ _ _ _ _ n2 all.red);
       found =
-          let first = ended_cut s0 now.blue n0 all.first.pushed.cut in
-          let second = ended_cut s1 now.green n1 all.second.pushed.cut in
-          let third = ended_cut s2 now.red n2 all.third.pushed.cut in
-          subst (IsFoundAt now) (sym found) (found_by now (fed_past p s0 s1 s2 n0 n1 n2) o (record { first = first; second = second; third = third }) answer);
+          let first = ended_cut s0 now.blue n0 all.blue.pushed.cut in
+          let second = ended_cut s1 now.green n1 all.green.pushed.cut in
+          let third = ended_cut s2 now.red n2 all.red.pushed.cut in
+          subst (IsFoundAt now) (sym found) (found_by now (fed_past p s0 s1 s2 n0 n1 n2) o (record { blue = first; green = second; red = third }) answer);
     }

@@ -25,7 +25,7 @@ pub record CanFeed (fed longest : ℕ) (bytes : List ℕ) (bits : ℕ) : Type 0 
 
 -- how many bits the longest lane was fed
 abbrev pub longest : Sides → ℕ
-longest team = max (fed_of team.first.aligner) (max (fed_of team.second.aligner) (fed_of team.third.aligner))
+longest team = max (fed_of team.blue.aligner) (max (fed_of team.green.aligner) (fed_of team.red.aligner))
 
 -- a lane has as many bits as the longest, or fewer and has ended
 abbrev pub GoesOn : ℕ → List Bool → Pushed → Type 0
@@ -48,9 +48,9 @@ pub record ReceiverRepresents (receiver : Receiver) (fed : Fed) (taken : ℕ) : 
   pub past : History
   pub stands : IsDeskewOf receiver.deskew past
   pub taken_are : past.taken ≡ taken
-  pub first : IsLane receiver.team.first fed.blue (longest receiver.team) past.first
-  pub second : IsLane receiver.team.second fed.green (longest receiver.team) past.second
-  pub third : IsLane receiver.team.third fed.red (longest receiver.team) past.third
+  pub blue : IsLane receiver.team.blue fed.blue (longest receiver.team) past.blue
+  pub green : IsLane receiver.team.green fed.green (longest receiver.team) past.green
+  pub red : IsLane receiver.team.red fed.red (longest receiver.team) past.red
   pub found : IsFoundAt fed receiver.deskew.found
 
 -- what a lane gained in a feed: its bits, and the characters that became whole

@@ -38,12 +38,12 @@ pub fn feed_team<R: Threads, G: Gate>(
     gate: &G,
     order: Order,
 )
-    requires first { CanTake team.old.first a.now (slice_index bits 0) }
-    requires second { CanTake team.old.second b.now (slice_index bits 1) }
-    requires third { CanTake team.old.third c.now (slice_index bits 2) }
-    ensures first { HasTaken team.old.first a.now (slice_index bits 0) team.new.first }
-    ensures second { HasTaken team.old.second b.now (slice_index bits 1) team.new.second }
-    ensures third { HasTaken team.old.third c.now (slice_index bits 2) team.new.third }
+    requires blue { CanTake team.old.blue a.now (slice_index bits 0) }
+    requires green { CanTake team.old.green b.now (slice_index bits 1) }
+    requires red { CanTake team.old.red c.now (slice_index bits 2) }
+    ensures blue { HasTaken team.old.blue a.now (slice_index bits 0) team.new.blue }
+    ensures green { HasTaken team.old.green b.now (slice_index bits 1) team.new.green }
+    ensures red { HasTaken team.old.red c.now (slice_index bits 2) team.new.red }
 {
     match order {
         Order::SideBySide => team.feed_three(rt, a, b, c, bits, gate),

@@ -70,14 +70,14 @@ impl Receiver {
     ) -> bool
         requires received { (fed : Fed) × (taken : ℕ) × ReceiverRepresents self.old fed taken }
         requires consumed { ready_of self.old.deskew ≡ 0 }
-        requires first { CanFeed (fed_of self.old.team.first.aligner) (longest self.old.team) a.now (slice_index bits 0) }
-        requires second { CanFeed (fed_of self.old.team.second.aligner) (longest self.old.team) b.now (slice_index bits 1) }
-        requires third { CanFeed (fed_of self.old.team.third.aligner) (longest self.old.team) c.now (slice_index bits 2) }
+        requires blue { CanFeed (fed_of self.old.team.blue.aligner) (longest self.old.team) a.now (slice_index bits 0) }
+        requires green { CanFeed (fed_of self.old.team.green.aligner) (longest self.old.team) b.now (slice_index bits 1) }
+        requires red { CanFeed (fed_of self.old.team.red.aligner) (longest self.old.team) c.now (slice_index bits 2) }
         ensures received { (fed : Fed) (taken : ℕ) → ReceiverRepresents self.old fed taken → ReceiverRepresents self.new (grown fed a.now b.now c.now bits) taken }
         ensures aligned { result ≡ is_some self.new.deskew.found }
-        ensures first { fed_of self.new.team.first.aligner ≡ fed_of self.old.team.first.aligner + slice_index bits 0 }
-        ensures second { fed_of self.new.team.second.aligner ≡ fed_of self.old.team.second.aligner + slice_index bits 1 }
-        ensures third { fed_of self.new.team.third.aligner ≡ fed_of self.old.team.third.aligner + slice_index bits 2 }
+        ensures blue { fed_of self.new.team.blue.aligner ≡ fed_of self.old.team.blue.aligner + slice_index bits 0 }
+        ensures green { fed_of self.new.team.green.aligner ≡ fed_of self.old.team.green.aligner + slice_index bits 1 }
+        ensures red { fed_of self.new.team.red.aligner ≡ fed_of self.old.team.red.aligner + slice_index bits 2 }
     {
         feed_parts(
             &mut self.team,
@@ -127,15 +127,15 @@ fn feed_parts<R: Threads, G: Gate>(
 ) -> bool
     requires received { (fed : Fed) × (taken : ℕ) × ReceiverRepresents (record { team = team.old; deskew = deskew.old }) fed taken }
     requires consumed { ready_of deskew.old ≡ 0 }
-    requires first { CanFeed (fed_of team.old.first.aligner) (longest team.old) a.now (slice_index bits 0) }
-    requires second { CanFeed (fed_of team.old.second.aligner) (longest team.old) b.now (slice_index bits 1) }
-    requires third { CanFeed (fed_of team.old.third.aligner) (longest team.old) c.now (slice_index bits 2) }
+    requires blue { CanFeed (fed_of team.old.blue.aligner) (longest team.old) a.now (slice_index bits 0) }
+    requires green { CanFeed (fed_of team.old.green.aligner) (longest team.old) b.now (slice_index bits 1) }
+    requires red { CanFeed (fed_of team.old.red.aligner) (longest team.old) c.now (slice_index bits 2) }
     ensures received { (fed : Fed) (taken : ℕ) → ReceiverRepresents (record { team = team.old; deskew = deskew.old }) fed taken
         → ReceiverRepresents (record { team = team.new; deskew = deskew.new }) (grown fed a.now b.now c.now bits) taken }
     ensures aligned { result ≡ is_some deskew.new.found }
-    ensures first { fed_of team.new.first.aligner ≡ fed_of team.old.first.aligner + slice_index bits 0 }
-    ensures second { fed_of team.new.second.aligner ≡ fed_of team.old.second.aligner + slice_index bits 1 }
-    ensures third { fed_of team.new.third.aligner ≡ fed_of team.old.third.aligner + slice_index bits 2 }
+    ensures blue { fed_of team.new.blue.aligner ≡ fed_of team.old.blue.aligner + slice_index bits 0 }
+    ensures green { fed_of team.new.green.aligner ≡ fed_of team.old.green.aligner + slice_index bits 1 }
+    ensures red { fed_of team.new.red.aligner ≡ fed_of team.old.red.aligner + slice_index bits 2 }
 {
     feed_team(team, rt, a, b, c, bits, gate, order);
     let [x, y, z] = bits;

@@ -91,13 +91,13 @@ impl<H: Hears> LaneSink<H> {
         ear: &mut E,
     ) -> Result<(), Failed>
         requires open { self.old.is_open ≡ true }
-        requires first { CanFeed (bits_fed self.old 0) (most_bits self.old) a.now (slice_index bits 0) }
-        requires second { CanFeed (bits_fed self.old 1) (most_bits self.old) b.now (slice_index bits 1) }
-        requires third { CanFeed (bits_fed self.old 2) (most_bits self.old) c.now (slice_index bits 2) }
+        requires blue { CanFeed (bits_fed self.old 0) (most_bits self.old) a.now (slice_index bits 0) }
+        requires green { CanFeed (bits_fed self.old 1) (most_bits self.old) b.now (slice_index bits 1) }
+        requires red { CanFeed (bits_fed self.old 2) (most_bits self.old) c.now (slice_index bits 2) }
         ensures open { OnOk result (self.new.is_open ≡ true) }
-        ensures first { OnOk result (bits_fed self.new 0 ≡ bits_fed self.old 0 + slice_index bits 0) }
-        ensures second { OnOk result (bits_fed self.new 1 ≡ bits_fed self.old 1 + slice_index bits 1) }
-        ensures third { OnOk result (bits_fed self.new 2 ≡ bits_fed self.old 2 + slice_index bits 2) }
+        ensures blue { OnOk result (bits_fed self.new 0 ≡ bits_fed self.old 0 + slice_index bits 0) }
+        ensures green { OnOk result (bits_fed self.new 1 ≡ bits_fed self.old 1 + slice_index bits 1) }
+        ensures red { OnOk result (bits_fed self.new 2 ≡ bits_fed self.old 2 + slice_index bits 2) }
         ensures fed { (fed : Fed) → StandsBy H.goes_on self.old fed → OnOk result (StandsBy H.goes_on self.new (grown fed a.now b.now c.now bits)) }
         ensures reported { (fed : Fed) → StandsBy H.goes_on self.old fed
             → OnOk result ((events : List Event) × IsGainBy H.grammar fed (grown fed a.now b.now c.now bits) events × E.took ear.old ear.new events) }
@@ -129,13 +129,13 @@ impl<H: Hears> LaneSink<H> {
         ear: &mut E,
     ) -> Result<(), Failed>
         requires open { self.old.is_open ≡ true }
-        requires first { CanFeed (bits_fed self.old 0) (most_bits self.old) a.now (slice_index bits 0) }
-        requires second { CanFeed (bits_fed self.old 1) (most_bits self.old) b.now (slice_index bits 1) }
-        requires third { CanFeed (bits_fed self.old 2) (most_bits self.old) c.now (slice_index bits 2) }
+        requires blue { CanFeed (bits_fed self.old 0) (most_bits self.old) a.now (slice_index bits 0) }
+        requires green { CanFeed (bits_fed self.old 1) (most_bits self.old) b.now (slice_index bits 1) }
+        requires red { CanFeed (bits_fed self.old 2) (most_bits self.old) c.now (slice_index bits 2) }
         ensures open { OnOk result (self.new.is_open ≡ true) }
-        ensures first { OnOk result (bits_fed self.new 0 ≡ bits_fed self.old 0 + slice_index bits 0) }
-        ensures second { OnOk result (bits_fed self.new 1 ≡ bits_fed self.old 1 + slice_index bits 1) }
-        ensures third { OnOk result (bits_fed self.new 2 ≡ bits_fed self.old 2 + slice_index bits 2) }
+        ensures blue { OnOk result (bits_fed self.new 0 ≡ bits_fed self.old 0 + slice_index bits 0) }
+        ensures green { OnOk result (bits_fed self.new 1 ≡ bits_fed self.old 1 + slice_index bits 1) }
+        ensures red { OnOk result (bits_fed self.new 2 ≡ bits_fed self.old 2 + slice_index bits 2) }
         ensures fed { (fed : Fed) → StandsBy H.goes_on self.old fed → OnOk result (StandsBy H.goes_on self.new (grown fed a.now b.now c.now bits)) }
         ensures reported { (fed : Fed) → StandsBy H.goes_on self.old fed
             → OnOk result ((events : List Event) × IsGainBy H.grammar fed (grown fed a.now b.now c.now bits) events × E.took ear.old ear.new events) }

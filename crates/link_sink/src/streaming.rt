@@ -83,17 +83,17 @@ impl<H: Hears> HearingStream<H> {
         ear: &mut E,
     ) -> Result<(), Failed>
         requires heard { (fed : Fed) × IsHeard H.goes_on self.old fed }
-        requires first { CanFeed (fed_of self.old.receiver.team.first.aligner) (longest self.old.receiver.team) a.now (slice_index bits 0) }
-        requires second { CanFeed (fed_of self.old.receiver.team.second.aligner) (longest self.old.receiver.team) b.now (slice_index bits 1) }
-        requires third { CanFeed (fed_of self.old.receiver.team.third.aligner) (longest self.old.receiver.team) c.now (slice_index bits 2) }
+        requires blue { CanFeed (fed_of self.old.receiver.team.blue.aligner) (longest self.old.receiver.team) a.now (slice_index bits 0) }
+        requires green { CanFeed (fed_of self.old.receiver.team.green.aligner) (longest self.old.receiver.team) b.now (slice_index bits 1) }
+        requires red { CanFeed (fed_of self.old.receiver.team.red.aligner) (longest self.old.receiver.team) c.now (slice_index bits 2) }
         ensures heard { (fed : Fed) → IsHeard H.goes_on self.old fed → OnOk result (IsHeard H.goes_on self.new (grown fed a.now b.now c.now bits)) }
         ensures reported { (fed : Fed) → IsHeard H.goes_on self.old fed
             → OnOk result ((events : List Event) × IsGainBy H.grammar fed (grown fed a.now b.now c.now bits) events × E.took ear.old ear.new events) }
         ensures stopped { (fed : Fed) → IsHeard H.goes_on self.old fed
             → OnErr result ((events : List Event) × IsGainBy H.grammar fed (grown fed a.now b.now c.now bits) events × StopsIn E.took E.broke ear.old ear.new events) }
-        ensures first { fed_of self.new.receiver.team.first.aligner ≡ fed_of self.old.receiver.team.first.aligner + slice_index bits 0 }
-        ensures second { fed_of self.new.receiver.team.second.aligner ≡ fed_of self.old.receiver.team.second.aligner + slice_index bits 1 }
-        ensures third { fed_of self.new.receiver.team.third.aligner ≡ fed_of self.old.receiver.team.third.aligner + slice_index bits 2 }
+        ensures blue { fed_of self.new.receiver.team.blue.aligner ≡ fed_of self.old.receiver.team.blue.aligner + slice_index bits 0 }
+        ensures green { fed_of self.new.receiver.team.green.aligner ≡ fed_of self.old.receiver.team.green.aligner + slice_index bits 1 }
+        ensures red { fed_of self.new.receiver.team.red.aligner ≡ fed_of self.old.receiver.team.red.aligner + slice_index bits 2 }
         ensures cause { HasCause (E.faults ear.old) (E.faults ear.new) result }
     {
         self.outcome.aligned = self.receiver.feed(rt, a, b, c, bits, gate, order);

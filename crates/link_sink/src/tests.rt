@@ -42,13 +42,13 @@ fn feed_next<R: Threads>(
     requires open { sink.old.is_open ≡ true }
     requires whole { from % 8 ≡ 0 }
     requires most { most ≤ 32768 }
-    requires first { bits_fed sink.old 0 ≡ min from (length a.now) }
-    requires second { bits_fed sink.old 1 ≡ min from (length b.now) }
-    requires third { bits_fed sink.old 2 ≡ min from (length c.now) }
+    requires blue { bits_fed sink.old 0 ≡ min from (length a.now) }
+    requires green { bits_fed sink.old 1 ≡ min from (length b.now) }
+    requires red { bits_fed sink.old 2 ≡ min from (length c.now) }
     ensures open { OnOk result (sink.new.is_open ≡ true) }
-    ensures first { OnOk result (bits_fed sink.new 0 ≡ min (from + most) (length a.now)) }
-    ensures second { OnOk result (bits_fed sink.new 1 ≡ min (from + most) (length b.now)) }
-    ensures third { OnOk result (bits_fed sink.new 2 ≡ min (from + most) (length c.now)) }
+    ensures blue { OnOk result (bits_fed sink.new 0 ≡ min (from + most) (length a.now)) }
+    ensures green { OnOk result (bits_fed sink.new 1 ≡ min (from + most) (length b.now)) }
+    ensures red { OnOk result (bits_fed sink.new 2 ≡ min (from + most) (length c.now)) }
 {
     let x = most.min(a.len().saturating_sub(from));
     let y = most.min(b.len().saturating_sub(from));
@@ -82,9 +82,9 @@ fn feed_all<R: Threads>(
     notes: &mut Notes,
 ) -> Result<Outcome, Failed>
     requires open { sink.old.is_open ≡ true }
-    requires first { bits_fed sink.old 0 ≡ 0 }
-    requires second { bits_fed sink.old 1 ≡ 0 }
-    requires third { bits_fed sink.old 2 ≡ 0 }
+    requires blue { bits_fed sink.old 0 ≡ 0 }
+    requires green { bits_fed sink.old 1 ≡ 0 }
+    requires red { bits_fed sink.old 2 ≡ 0 }
 {
     let a = &rows[0];
     let b = &rows[1];

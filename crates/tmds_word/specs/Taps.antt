@@ -26,6 +26,6 @@ AreNear d e = (d ≤ e + 70) × (e ≤ d + 70)
 
 -- any two skews are near each other
 pub record HasSmallSkew (skews : List ℕ) : Type 0 where
-  pub first_second : AreNear (slice_index skews 0) (slice_index skews 1)
-  pub second_third : AreNear (slice_index skews 1) (slice_index skews 2)
-  pub first_third : AreNear (slice_index skews 0) (slice_index skews 2)
+  pub blue_green : AreNear (slice_index skews 0) (slice_index skews 1)
+  pub green_red : AreNear (slice_index skews 1) (slice_index skews 2)
+  pub blue_red : AreNear (slice_index skews 0) (slice_index skews 2)

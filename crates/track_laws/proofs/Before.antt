@@ -100,13 +100,13 @@ small_before ps sent received offset skews counts x y lane place dropped first n
     let t = alignment.triple in
     let alternates = alternating ps reception.reception.conforming in
     let wide = before_slip skews lane dropped slip.within slip.few.1 s.small in
-    let blue = ends_at ps sent received offset skews counts x y lane place dropped first next start reception slip s edges 0 (omega arith) d t.first in
-    let green = ends_at ps sent received offset skews counts x y lane place dropped first next start reception slip s edges 1 (omega arith) e t.second in
-    let red = ends_at ps sent received offset skews counts x y lane place dropped first next start reception slip s edges 2 (omega arith) f t.third in
+    let blue = ends_at ps sent received offset skews counts x y lane place dropped first next start reception slip s edges 0 (omega arith) d t.blue in
+    let green = ends_at ps sent received offset skews counts x y lane place dropped first next start reception slip s edges 1 (omega arith) e t.green in
+    let red = ends_at ps sent received offset skews counts x y lane place dropped first next start reception slip s edges 2 (omega arith) f t.red in
     record {
-      first_second = near_lanes (kinds_of ps) alternates blue.0 green.0 d e offset (slice_index skews 0) (slice_index skews 1) blue.1 green.1 blue.2 green.2 t.first_second wide.0 wide.1;
-      second_third = near_lanes (kinds_of ps) alternates green.0 red.0 e f offset (slice_index skews 1) (slice_index skews 2) green.1 red.1 green.2 red.2 t.second_third wide.2 wide.3;
-      first_third = near_lanes (kinds_of ps) alternates blue.0 red.0 d f offset (slice_index skews 0) (slice_index skews 2) blue.1 red.1 blue.2 red.2 t.first_third wide.4 wide.5;
+      blue_green = near_lanes (kinds_of ps) alternates blue.0 green.0 d e offset (slice_index skews 0) (slice_index skews 1) blue.1 green.1 blue.2 green.2 t.blue_green wide.0 wide.1;
+      green_red = near_lanes (kinds_of ps) alternates green.0 red.0 e f offset (slice_index skews 1) (slice_index skews 2) green.1 red.1 green.2 red.2 t.green_red wide.2 wide.3;
+      blue_red = near_lanes (kinds_of ps) alternates blue.0 red.0 d f offset (slice_index skews 0) (slice_index skews 2) blue.1 red.1 blue.2 red.2 t.blue_red wide.4 wide.5;
     }
 
 -- What is reported.

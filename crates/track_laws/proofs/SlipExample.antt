@@ -73,13 +73,13 @@ slips : Slipped x 0 400 3 y
 slips = record { within = omega arith; few = (omega arith, omega arith); this = refl; others = others_same }
 
 before : HasSmallSkew skews
-before = record { first_second = (omega arith, omega arith); second_third = (omega arith, omega arith); first_third = (omega arith, omega arith) }
+before = record { blue_green = (omega arith, omega arith); green_red = (omega arith, omega arith); blue_red = (omega arith, omega arith) }
 
 abbrev later : List ℕ
 later = 3 ∷ (70 ∷ (35 ∷ []))
 
 after : HasSmallSkew later
-after = record { first_second = (omega arith, omega arith); second_third = (omega arith, omega arith); first_third = (omega arith, omega arith) }
+after = record { blue_green = (omega arith, omega arith); green_red = (omega arith, omega arith); blue_red = (omega arith, omega arith) }
 
 in_line : SlipsInVideo stream sent received 7 skews counts 0 400 3 26 56
 in_line = record {

@@ -138,9 +138,9 @@ passes_turn t fed stray reported outcome last can is_last was =
 
 -- bits of an epoch that goes on
 not_before : (t : Tracker) (fed : Fed) → HasLooked t fed → (l p : ℕ) → l < 3 → p < t.seen / 8 * 8 → IsStray (lane_of (rest_of t.start fed) l) p → ⊥
-not_before t fed looked zero p lt less stray = looked.sought.first.none p (omega arith) stray
-not_before t fed looked (suc zero) p lt less stray = looked.sought.second.none p (omega arith) stray
-not_before t fed looked (suc (suc l)) p lt less stray = looked.sought.third.none p (omega arith) stray
+not_before t fed looked zero p lt less stray = looked.sought.blue.none p (omega arith) stray
+not_before t fed looked (suc zero) p lt less stray = looked.sought.green.none p (omega arith) stray
+not_before t fed looked (suc (suc l)) p lt less stray = looked.sought.red.none p (omega arith) stray
 
 pub passes_settle : (t : Tracker) (fed : Fed) (reported : List TrackEvent) (us : List Event) → Carries t fed → HasLooked t fed → t.handed % 8 ≡ 0 → most_of fed ≤ t.start + t.handed + 32894
     → IsGain (front_of t.handed (rest_of t.start fed)) (front_of (t.handed + (t.seen / 8 * 8 - t.handed)) (rest_of t.start fed)) us → Follows fed t.start t.handed t.begun t.epochs t.aligned reported
@@ -191,7 +191,7 @@ some_last fed reported (inr a) = (
 
 -- what is reported at the end, of all bits once they are handed on
 pub tracks_some : (t : Tracker) (fed : Fed) (reported : List TrackEvent) (us : List Event) (longest : ℕ) → IsSettled t fed reported
-    → longest ≡ max (length t.lanes.first.held.bits) (max (length t.lanes.second.held.bits) (length t.lanes.third.held.bits))
+    → longest ≡ max (length t.lanes.blue.held.bits) (max (length t.lanes.green.held.bits) (length t.lanes.red.held.bits))
     → IsGain (front_of t.handed (rest_of t.start fed)) (front_of (t.handed + longest) (rest_of t.start fed)) us
     → (epochs aligned : ℕ) × (last : List Event) × IsTrack fed epochs aligned (reported ++ track_events_of (us ++ last))
 tracks_some t fed reported us longest settled most gain =
@@ -202,7 +202,7 @@ tracks_some t fed reported us longest settled most gain =
     (v.epochs, v.aligned, last.1, tracks_all t u v fed reported last.0 us last.1 longest settled most gain last.2 refl refl refl refl refl refl refl)
 
 pub tracks_last : (t u : Tracker) (fed : Fed) (reported : List TrackEvent) (outcome : Outcome) (us last : List Event) (longest : ℕ) → IsSettled t fed reported
-    → longest ≡ max (length t.lanes.first.held.bits) (max (length t.lanes.second.held.bits) (length t.lanes.third.held.bits))
+    → longest ≡ max (length t.lanes.blue.held.bits) (max (length t.lanes.green.held.bits) (length t.lanes.red.held.bits))
     → IsGain (front_of t.handed (rest_of t.start fed)) (front_of (t.handed + longest) (rest_of t.start fed)) us → IsLast (front_of u.handed (rest_of u.start fed)) outcome last
     → u.start ≡ t.start → u.handed ≡ t.handed + longest → u.begun ≡ t.begun → u.epochs ≡ t.epochs → u.aligned ≡ t.aligned
     → IsTrack fed (u.epochs + 1) (u.aligned + one_if outcome.aligned) (reported ++ track_events_of (us ++ last))

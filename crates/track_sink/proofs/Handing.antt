@@ -59,45 +59,45 @@ hand_lane before now bytes xs start handed bits x is r same =
     ∙ sym (take-add handed bits (drop start xs))
 
 pub handed_is : (t : Tracker) (fed : Fed) (lanes : Lanes) (a b c counts : List ℕ) (bits : ℕ) → Carries t fed
-    → IsReleased t.lanes.first lanes.first bits (slice_index counts 0) → IsReleased t.lanes.second lanes.second bits (slice_index counts 1) → IsReleased t.lanes.third lanes.third bits (slice_index counts 2)
-    → take (length lanes.first.held.released) (bytes_bits a) ≡ lanes.first.held.released → take (length lanes.second.held.released) (bytes_bits b) ≡ lanes.second.held.released
-    → take (length lanes.third.held.released) (bytes_bits c) ≡ lanes.third.held.released
+    → IsReleased t.lanes.blue lanes.blue bits (slice_index counts 0) → IsReleased t.lanes.green lanes.green bits (slice_index counts 1) → IsReleased t.lanes.red lanes.red bits (slice_index counts 2)
+    → take (length lanes.blue.held.released) (bytes_bits a) ≡ lanes.blue.held.released → take (length lanes.green.held.released) (bytes_bits b) ≡ lanes.green.held.released
+    → take (length lanes.red.held.released) (bytes_bits c) ≡ lanes.red.held.released
     → grown (front_of t.handed (rest_of t.start fed)) a b c counts ≡ front_of (t.handed + bits) (rest_of t.start fed)
 handed_is t fed lanes a b c counts bits carries rx ry rz sx sy sz =
     same_fed (grown (front_of t.handed (rest_of t.start fed)) a b c counts) (front_of (t.handed + bits) (rest_of t.start fed))
-    (hand_lane t.lanes.first lanes.first a fed.blue t.start t.handed bits (slice_index counts 0) carries.first.held rx sx)
-    (hand_lane t.lanes.second lanes.second b fed.green t.start t.handed bits (slice_index counts 1) carries.second.held ry sy)
-    (hand_lane t.lanes.third lanes.third c fed.red t.start t.handed bits (slice_index counts 2) carries.third.held rz sz)
+    (hand_lane t.lanes.blue lanes.blue a fed.blue t.start t.handed bits (slice_index counts 0) carries.blue.held rx sx)
+    (hand_lane t.lanes.green lanes.green b fed.green t.start t.handed bits (slice_index counts 1) carries.green.held ry sy)
+    (hand_lane t.lanes.red lanes.red c fed.red t.start t.handed bits (slice_index counts 2) carries.red.held rz sz)
 
-pub can_hand_first : (t : Tracker) (fed : Fed) (lanes : Lanes) (bytes : List ℕ) (x bits : ℕ) → Carries t fed → t.handed % 8 ≡ 0 → bits ≤ 32768 → IsReleased t.lanes.first lanes.first bits x
-    → length bytes ≡ (length lanes.first.held.released + 7) / 8 → CanFeed (bits_fed t.link 0) (most_bits t.link) bytes x
-can_hand_first t fed lanes bytes x bits c whole few r size =
-    let a = c.first.given in
-    let b = c.second.given in
-    let d = c.third.given in
+pub can_hand_blue : (t : Tracker) (fed : Fed) (lanes : Lanes) (bytes : List ℕ) (x bits : ℕ) → Carries t fed → t.handed % 8 ≡ 0 → bits ≤ 32768 → IsReleased t.lanes.blue lanes.blue bits x
+    → length bytes ≡ (length lanes.blue.held.released + 7) / 8 → CanFeed (bits_fed t.link 0) (most_bits t.link) bytes x
+can_hand_blue t fed lanes bytes x bits c whole few r size =
+    let a = c.blue.given in
+    let b = c.green.given in
+    let d = c.red.given in
     let small = c.small in
-    can_hand bytes (bits_fed t.link 0) (most_bits t.link) x t.handed (length fed.blue) t.start bits a (r.many ∙ ap (λ n. min n bits) (ap length c.first.held ∙ length-drop (t.start + t.handed) fed.blue)) few whole
-    (size ∙ ap (λ n. (n + 7) / 8) (sym (length_released t.lanes.first lanes.first bits x r))) (omega arith) (omega arith) (omega arith)
+    can_hand bytes (bits_fed t.link 0) (most_bits t.link) x t.handed (length fed.blue) t.start bits a (r.many ∙ ap (λ n. min n bits) (ap length c.blue.held ∙ length-drop (t.start + t.handed) fed.blue)) few whole
+    (size ∙ ap (λ n. (n + 7) / 8) (sym (length_released t.lanes.blue lanes.blue bits x r))) (omega arith) (omega arith) (omega arith)
 
-pub can_hand_second : (t : Tracker) (fed : Fed) (lanes : Lanes) (bytes : List ℕ) (x bits : ℕ) → Carries t fed → t.handed % 8 ≡ 0 → bits ≤ 32768 → IsReleased t.lanes.second lanes.second bits x
-    → length bytes ≡ (length lanes.second.held.released + 7) / 8 → CanFeed (bits_fed t.link 1) (most_bits t.link) bytes x
-can_hand_second t fed lanes bytes x bits c whole few r size =
-    let a = c.first.given in
-    let b = c.second.given in
-    let d = c.third.given in
+pub can_hand_green : (t : Tracker) (fed : Fed) (lanes : Lanes) (bytes : List ℕ) (x bits : ℕ) → Carries t fed → t.handed % 8 ≡ 0 → bits ≤ 32768 → IsReleased t.lanes.green lanes.green bits x
+    → length bytes ≡ (length lanes.green.held.released + 7) / 8 → CanFeed (bits_fed t.link 1) (most_bits t.link) bytes x
+can_hand_green t fed lanes bytes x bits c whole few r size =
+    let a = c.blue.given in
+    let b = c.green.given in
+    let d = c.red.given in
     let small = c.small in
-    can_hand bytes (bits_fed t.link 1) (most_bits t.link) x t.handed (length fed.green) t.start bits b (r.many ∙ ap (λ n. min n bits) (ap length c.second.held ∙ length-drop (t.start + t.handed) fed.green)) few whole
-    (size ∙ ap (λ n. (n + 7) / 8) (sym (length_released t.lanes.second lanes.second bits x r))) (omega arith) (omega arith) (omega arith)
+    can_hand bytes (bits_fed t.link 1) (most_bits t.link) x t.handed (length fed.green) t.start bits b (r.many ∙ ap (λ n. min n bits) (ap length c.green.held ∙ length-drop (t.start + t.handed) fed.green)) few whole
+    (size ∙ ap (λ n. (n + 7) / 8) (sym (length_released t.lanes.green lanes.green bits x r))) (omega arith) (omega arith) (omega arith)
 
-pub can_hand_third : (t : Tracker) (fed : Fed) (lanes : Lanes) (bytes : List ℕ) (x bits : ℕ) → Carries t fed → t.handed % 8 ≡ 0 → bits ≤ 32768 → IsReleased t.lanes.third lanes.third bits x
-    → length bytes ≡ (length lanes.third.held.released + 7) / 8 → CanFeed (bits_fed t.link 2) (most_bits t.link) bytes x
-can_hand_third t fed lanes bytes x bits c whole few r size =
-    let a = c.first.given in
-    let b = c.second.given in
-    let d = c.third.given in
+pub can_hand_red : (t : Tracker) (fed : Fed) (lanes : Lanes) (bytes : List ℕ) (x bits : ℕ) → Carries t fed → t.handed % 8 ≡ 0 → bits ≤ 32768 → IsReleased t.lanes.red lanes.red bits x
+    → length bytes ≡ (length lanes.red.held.released + 7) / 8 → CanFeed (bits_fed t.link 2) (most_bits t.link) bytes x
+can_hand_red t fed lanes bytes x bits c whole few r size =
+    let a = c.blue.given in
+    let b = c.green.given in
+    let d = c.red.given in
     let small = c.small in
-    can_hand bytes (bits_fed t.link 2) (most_bits t.link) x t.handed (length fed.red) t.start bits d (r.many ∙ ap (λ n. min n bits) (ap length c.third.held ∙ length-drop (t.start + t.handed) fed.red)) few whole
-    (size ∙ ap (λ n. (n + 7) / 8) (sym (length_released t.lanes.third lanes.third bits x r))) (omega arith) (omega arith) (omega arith)
+    can_hand bytes (bits_fed t.link 2) (most_bits t.link) x t.handed (length fed.red) t.start bits d (r.many ∙ ap (λ n. min n bits) (ap length c.red.held ∙ length-drop (t.start + t.handed) fed.red)) few whole
+    (size ∙ ap (λ n. (n + 7) / 8) (sym (length_released t.lanes.red lanes.red bits x r))) (omega arith) (omega arith) (omega arith)
 
 -- a lane without the bits that were handed on
 rest_handed : (before now : Lane) (given later x start handed bits : ℕ) (xs : List Bool) → HoldsRest before given start handed xs → IsReleased before now bits x → later ≡ given + x
@@ -113,16 +113,16 @@ rest_handed before now given later x start handed bits xs was r more =
     }
 
 pub carries_handed : (t : Tracker) (fed : Fed) (link : SinkSeen) (lanes : Lanes) (counts : List ℕ) (bits : ℕ) → Carries t fed → t.start + t.handed + bits ≤ most_of fed
-    → IsReleased t.lanes.first lanes.first bits (slice_index counts 0) → IsReleased t.lanes.second lanes.second bits (slice_index counts 1) → IsReleased t.lanes.third lanes.third bits (slice_index counts 2)
+    → IsReleased t.lanes.blue lanes.blue bits (slice_index counts 0) → IsReleased t.lanes.green lanes.green bits (slice_index counts 1) → IsReleased t.lanes.red lanes.red bits (slice_index counts 2)
     → link.is_open ≡ true → SinkRepresents link (front_of (t.handed + bits) (rest_of t.start fed))
     → bits_fed link 0 ≡ bits_fed t.link 0 + slice_index counts 0 → bits_fed link 1 ≡ bits_fed t.link 1 + slice_index counts 1 → bits_fed link 2 ≡ bits_fed t.link 2 + slice_index counts 2
     → Carries (record t { link = link; lanes = lanes; handed = t.handed + bits }) fed
 carries_handed t fed link lanes counts bits c room rx ry rz opened stands gx gy gz = record {
   link_open = opened;
   link = stands;
-  first = rest_handed t.lanes.first lanes.first (bits_fed t.link 0) (bits_fed link 0) (slice_index counts 0) t.start t.handed bits fed.blue c.first rx gx;
-  second = rest_handed t.lanes.second lanes.second (bits_fed t.link 1) (bits_fed link 1) (slice_index counts 1) t.start t.handed bits fed.green c.second ry gy;
-  third = rest_handed t.lanes.third lanes.third (bits_fed t.link 2) (bits_fed link 2) (slice_index counts 2) t.start t.handed bits fed.red c.third rz gz;
+  blue = rest_handed t.lanes.blue lanes.blue (bits_fed t.link 0) (bits_fed link 0) (slice_index counts 0) t.start t.handed bits fed.blue c.blue rx gx;
+  green = rest_handed t.lanes.green lanes.green (bits_fed t.link 1) (bits_fed link 1) (slice_index counts 1) t.start t.handed bits fed.green c.green ry gy;
+  red = rest_handed t.lanes.red lanes.red (bits_fed t.link 2) (bits_fed link 2) (slice_index counts 2) t.start t.handed bits fed.red c.red rz gz;
   within = omega arith;
   small = c.small;
   few = c.few;
@@ -133,17 +133,17 @@ carries_handed t fed link lanes counts bits c room rx ry rz opened stands gx gy 
 
 pub are_held : (t : Tracker) (fed : Fed) → Carries t fed → AreHeld t.lanes t.handed (rest_of t.start fed)
 are_held t fed c = record {
-  first = c.first.held ∙ sym (drop-drop t.handed t.start fed.blue);
-  second = c.second.held ∙ sym (drop-drop t.handed t.start fed.green);
-  third = c.third.held ∙ sym (drop-drop t.handed t.start fed.red);
+  blue = c.blue.held ∙ sym (drop-drop t.handed t.start fed.blue);
+  green = c.green.held ∙ sym (drop-drop t.handed t.start fed.green);
+  red = c.red.held ∙ sym (drop-drop t.handed t.start fed.red);
 }
 
 -- how many bits the lane holds that holds the most
-pub longest_held : (t : Tracker) (fed : Fed) → Carries t fed → max (length t.lanes.first.held.bits) (max (length t.lanes.second.held.bits) (length t.lanes.third.held.bits)) + (t.start + t.handed) ≡ most_of fed
+pub longest_held : (t : Tracker) (fed : Fed) → Carries t fed → max (length t.lanes.blue.held.bits) (max (length t.lanes.green.held.bits) (length t.lanes.red.held.bits)) + (t.start + t.handed) ≡ most_of fed
 longest_held t fed c =
-    let a = ap length c.first.held ∙ length-drop (t.start + t.handed) fed.blue in
-    let b = ap length c.second.held ∙ length-drop (t.start + t.handed) fed.green in
-    let d = ap length c.third.held ∙ length-drop (t.start + t.handed) fed.red in
+    let a = ap length c.blue.held ∙ length-drop (t.start + t.handed) fed.blue in
+    let b = ap length c.green.held ∙ length-drop (t.start + t.handed) fed.green in
+    let d = ap length c.red.held ∙ length-drop (t.start + t.handed) fed.red in
     let within = c.within in
     omega arith
 
@@ -199,7 +199,7 @@ sought_taken xs more start seen most lock known within (inr none) was =
 
 -- three lanes that take bits
 module _ (t : Tracker) (fed : Fed) (reported : List TrackEvent) (a b c bits : List ℕ) (settled : IsSettled t fed reported)
-    (first : CanFeed t.lanes.first.fed (most_fed t) a (slice_index bits 0)) (second : CanFeed t.lanes.second.fed (most_fed t) b (slice_index bits 1)) (third : CanFeed t.lanes.third.fed (most_fed t) c (slice_index bits 2)) where
+    (first : CanFeed t.lanes.blue.fed (most_fed t) a (slice_index bits 0)) (second : CanFeed t.lanes.green.fed (most_fed t) b (slice_index bits 1)) (third : CanFeed t.lanes.red.fed (most_fed t) c (slice_index bits 2)) where
   abbrev now : Fed
   now = grown fed a b c bits
 
@@ -207,39 +207,39 @@ module _ (t : Tracker) (fed : Fed) (reported : List TrackEvent) (a b c bits : Li
   carries = settled.stands.carries
 
   most_is : most_fed t ≡ most_of fed
-  most_is = ap₂ max carries.first.fed (ap₂ max carries.second.fed carries.third.fed)
+  most_is = ap₂ max carries.blue.fed (ap₂ max carries.green.fed carries.red.fed)
 
-  comes_first : Comes (most_of fed) fed.blue (take (slice_index bits 0) (bytes_bits a))
-  comes_first = comes_of (most_of fed) t.lanes.first.fed fed.blue a (slice_index bits 0) carries.first.fed (subst (λ n. CanFeed t.lanes.first.fed n a (slice_index bits 0)) most_is first)
+  comes_blue : Comes (most_of fed) fed.blue (take (slice_index bits 0) (bytes_bits a))
+  comes_blue = comes_of (most_of fed) t.lanes.blue.fed fed.blue a (slice_index bits 0) carries.blue.fed (subst (λ n. CanFeed t.lanes.blue.fed n a (slice_index bits 0)) most_is first)
 
-  comes_second : Comes (most_of fed) fed.green (take (slice_index bits 1) (bytes_bits b))
-  comes_second = comes_of (most_of fed) t.lanes.second.fed fed.green b (slice_index bits 1) carries.second.fed (subst (λ n. CanFeed t.lanes.second.fed n b (slice_index bits 1)) most_is second)
+  comes_green : Comes (most_of fed) fed.green (take (slice_index bits 1) (bytes_bits b))
+  comes_green = comes_of (most_of fed) t.lanes.green.fed fed.green b (slice_index bits 1) carries.green.fed (subst (λ n. CanFeed t.lanes.green.fed n b (slice_index bits 1)) most_is second)
 
-  comes_third : Comes (most_of fed) fed.red (take (slice_index bits 2) (bytes_bits c))
-  comes_third = comes_of (most_of fed) t.lanes.third.fed fed.red c (slice_index bits 2) carries.third.fed (subst (λ n. CanFeed t.lanes.third.fed n c (slice_index bits 2)) most_is third)
+  comes_red : Comes (most_of fed) fed.red (take (slice_index bits 2) (bytes_bits c))
+  comes_red = comes_of (most_of fed) t.lanes.red.fed fed.red c (slice_index bits 2) carries.red.fed (subst (λ n. CanFeed t.lanes.red.fed n c (slice_index bits 2)) most_is third)
 
   known : (xs more : List Bool) → Comes (most_of fed) xs more → ((m : ℕ) → m < 3 → length (lane_of fed m) ≤ length xs) ⊎ (more ≡ [])
   known xs more (inl longest) = inl (λ m lt. let h = no_longer fed m in omega arith)
   known xs more (inr none) = inr none
 
   pub taken_grows : Grows fed now
-  taken_grows zero lt = (take (slice_index bits 0) (bytes_bits a), refl, known fed.blue (take (slice_index bits 0) (bytes_bits a)) comes_first)
-  taken_grows (suc zero) lt = (take (slice_index bits 1) (bytes_bits b), refl, known fed.green (take (slice_index bits 1) (bytes_bits b)) comes_second)
-  taken_grows (suc (suc l)) lt = (take (slice_index bits 2) (bytes_bits c), refl, known fed.red (take (slice_index bits 2) (bytes_bits c)) comes_third)
+  taken_grows zero lt = (take (slice_index bits 0) (bytes_bits a), refl, known fed.blue (take (slice_index bits 0) (bytes_bits a)) comes_blue)
+  taken_grows (suc zero) lt = (take (slice_index bits 1) (bytes_bits b), refl, known fed.green (take (slice_index bits 1) (bytes_bits b)) comes_green)
+  taken_grows (suc (suc l)) lt = (take (slice_index bits 2) (bytes_bits c), refl, known fed.red (take (slice_index bits 2) (bytes_bits c)) comes_red)
 
-  long_first : length now.blue ≡ length fed.blue + slice_index bits 0
-  long_first = length_grown fed.blue now.blue a (slice_index bits 0) first.bytes_given refl
+  long_blue : length now.blue ≡ length fed.blue + slice_index bits 0
+  long_blue = length_grown fed.blue now.blue a (slice_index bits 0) first.bytes_given refl
 
-  long_second : length now.green ≡ length fed.green + slice_index bits 1
-  long_second = length_grown fed.green now.green b (slice_index bits 1) second.bytes_given refl
+  long_green : length now.green ≡ length fed.green + slice_index bits 1
+  long_green = length_grown fed.green now.green b (slice_index bits 1) second.bytes_given refl
 
-  long_third : length now.red ≡ length fed.red + slice_index bits 2
-  long_third = length_grown fed.red now.red c (slice_index bits 2) third.bytes_given refl
+  long_red : length now.red ≡ length fed.red + slice_index bits 2
+  long_red = length_grown fed.red now.red c (slice_index bits 2) third.bytes_given refl
 
-  module _ (lanes : Lanes) (hx : lanes.first.held.bits ≡ t.lanes.first.held.bits ++ take (slice_index bits 0) (bytes_bits a)) (hy : lanes.second.held.bits ≡ t.lanes.second.held.bits ++ take (slice_index bits 1) (bytes_bits b))
-      (hz : lanes.third.held.bits ≡ t.lanes.third.held.bits ++ take (slice_index bits 2) (bytes_bits c))
-      (fx : lanes.first.fed ≡ t.lanes.first.fed + slice_index bits 0) (fy : lanes.second.fed ≡ t.lanes.second.fed + slice_index bits 1) (fz : lanes.third.fed ≡ t.lanes.third.fed + slice_index bits 2)
-      (sx : lanes.first.scout ≡ t.lanes.first.scout) (sy : lanes.second.scout ≡ t.lanes.second.scout) (sz : lanes.third.scout ≡ t.lanes.third.scout) where
+  module _ (lanes : Lanes) (hx : lanes.blue.held.bits ≡ t.lanes.blue.held.bits ++ take (slice_index bits 0) (bytes_bits a)) (hy : lanes.green.held.bits ≡ t.lanes.green.held.bits ++ take (slice_index bits 1) (bytes_bits b))
+      (hz : lanes.red.held.bits ≡ t.lanes.red.held.bits ++ take (slice_index bits 2) (bytes_bits c))
+      (fx : lanes.blue.fed ≡ t.lanes.blue.fed + slice_index bits 0) (fy : lanes.green.fed ≡ t.lanes.green.fed + slice_index bits 1) (fz : lanes.red.fed ≡ t.lanes.red.fed + slice_index bits 2)
+      (sx : lanes.blue.scout ≡ t.lanes.blue.scout) (sy : lanes.green.scout ≡ t.lanes.green.scout) (sz : lanes.red.scout ≡ t.lanes.red.scout) where
     abbrev next : Tracker
     next = record t { lanes = lanes }
 
@@ -247,11 +247,11 @@ module _ (t : Tracker) (fed : Fed) (reported : List TrackEvent) (a b c bits : Li
     carried = record {
       link_open = carries.link_open;
       link = subst (SinkRepresents t.link) (sym (fronts_stay fed now t.start t.handed taken_grows carries.within)) carries.link;
-      first = rest_taken t.lanes.first lanes.first (bits_fed t.link 0) t.start t.handed (most_of fed) fed.blue (take (slice_index bits 0) (bytes_bits a)) carries.within carries.first comes_first hx (fx ∙ ap (λ n. n + slice_index bits 0) carries.first.fed ∙ sym long_first);
-      second = rest_taken t.lanes.second lanes.second (bits_fed t.link 1) t.start t.handed (most_of fed) fed.green (take (slice_index bits 1) (bytes_bits b)) carries.within carries.second comes_second hy (fy ∙ ap (λ n. n + slice_index bits 1) carries.second.fed ∙ sym long_second);
-      third = rest_taken t.lanes.third lanes.third (bits_fed t.link 2) t.start t.handed (most_of fed) fed.red (take (slice_index bits 2) (bytes_bits c)) carries.within carries.third comes_third hz (fz ∙ ap (λ n. n + slice_index bits 2) carries.third.fed ∙ sym long_third);
-      within = let h = carries.within in omega (arith, long_first, long_second, long_third);
-      small = let h = first.total in let k = second.total in let l = third.total in omega (arith, long_first, long_second, long_third, carries.first.fed, carries.second.fed, carries.third.fed);
+      blue = rest_taken t.lanes.blue lanes.blue (bits_fed t.link 0) t.start t.handed (most_of fed) fed.blue (take (slice_index bits 0) (bytes_bits a)) carries.within carries.blue comes_blue hx (fx ∙ ap (λ n. n + slice_index bits 0) carries.blue.fed ∙ sym long_blue);
+      green = rest_taken t.lanes.green lanes.green (bits_fed t.link 1) t.start t.handed (most_of fed) fed.green (take (slice_index bits 1) (bytes_bits b)) carries.within carries.green comes_green hy (fy ∙ ap (λ n. n + slice_index bits 1) carries.green.fed ∙ sym long_green);
+      red = rest_taken t.lanes.red lanes.red (bits_fed t.link 2) t.start t.handed (most_of fed) fed.red (take (slice_index bits 2) (bytes_bits c)) carries.within carries.red comes_red hz (fz ∙ ap (λ n. n + slice_index bits 2) carries.red.fed ∙ sym long_red);
+      within = let h = carries.within in omega (arith, long_blue, long_green, long_red);
+      small = let h = first.total in let k = second.total in let l = third.total in omega (arith, long_blue, long_green, long_red, carries.blue.fed, carries.green.fed, carries.red.fed);
       few = carries.few;
       fewer = carries.fewer;
     }
@@ -262,26 +262,26 @@ module _ (t : Tracker) (fed : Fed) (reported : List TrackEvent) (a b c bits : Li
     looked : HasLooked t fed
     looked = settled.stands.looked
 
-    scout_first : HasSought (drop t.start now.blue) t.seen lanes.first.scout.lock
-    scout_first = subst (λ (s : Scout). HasSought (drop t.start now.blue) t.seen s.lock) (sym sx) (sought_taken fed.blue (take (slice_index bits 0) (bytes_bits a)) t.start t.seen (most_of fed) t.lanes.first.scout.lock looked.decided reached comes_first looked.sought.first)
+    scout_blue : HasSought (drop t.start now.blue) t.seen lanes.blue.scout.lock
+    scout_blue = subst (λ (s : Scout). HasSought (drop t.start now.blue) t.seen s.lock) (sym sx) (sought_taken fed.blue (take (slice_index bits 0) (bytes_bits a)) t.start t.seen (most_of fed) t.lanes.blue.scout.lock looked.decided reached comes_blue looked.sought.blue)
 
-    scout_second : HasSought (drop t.start now.green) t.seen lanes.second.scout.lock
-    scout_second = subst (λ (s : Scout). HasSought (drop t.start now.green) t.seen s.lock) (sym sy) (sought_taken fed.green (take (slice_index bits 1) (bytes_bits b)) t.start t.seen (most_of fed) t.lanes.second.scout.lock looked.decided reached comes_second looked.sought.second)
+    scout_green : HasSought (drop t.start now.green) t.seen lanes.green.scout.lock
+    scout_green = subst (λ (s : Scout). HasSought (drop t.start now.green) t.seen s.lock) (sym sy) (sought_taken fed.green (take (slice_index bits 1) (bytes_bits b)) t.start t.seen (most_of fed) t.lanes.green.scout.lock looked.decided reached comes_green looked.sought.green)
 
-    scout_third : HasSought (drop t.start now.red) t.seen lanes.third.scout.lock
-    scout_third = subst (λ (s : Scout). HasSought (drop t.start now.red) t.seen s.lock) (sym sz) (sought_taken fed.red (take (slice_index bits 2) (bytes_bits c)) t.start t.seen (most_of fed) t.lanes.third.scout.lock looked.decided reached comes_third looked.sought.third)
+    scout_red : HasSought (drop t.start now.red) t.seen lanes.red.scout.lock
+    scout_red = subst (λ (s : Scout). HasSought (drop t.start now.red) t.seen s.lock) (sym sz) (sought_taken fed.red (take (slice_index bits 2) (bytes_bits c)) t.start t.seen (most_of fed) t.lanes.red.scout.lock looked.decided reached comes_red looked.sought.red)
 
     pub stands_taken : Stands next now reported
     stands_taken = record {
       carries = carried;
       looked = record {
-        sought = record { first = scout_first; second = scout_second; third = scout_third };
+        sought = record { blue = scout_blue; green = scout_green; red = scout_red };
         after = looked.after;
-        decided = elim looked.decided [ inl none ↦ inl none | inr far ↦ inr (omega (arith, long_first, long_second, long_third)) ];
+        decided = elim looked.decided [ inl none ↦ inl none | inr far ↦ inr (omega (arith, long_blue, long_green, long_red)) ];
       };
       follows = follows_grown fed now t.start t.handed t.begun t.epochs t.aligned reported taken_grows carries.within settled.stands.follows;
       whole = settled.stands.whole;
-      room = let h = settled.all in let n = settled.near in let x = first.most in let y = second.most in let z = third.most in omega (arith, long_first, long_second, long_third);
+      room = let h = settled.all in let n = settled.near in let x = first.most in let y = second.most in let z = third.most in omega (arith, long_blue, long_green, long_red);
     }
 
 -- Before any bit.
@@ -310,16 +310,16 @@ settled_at_first link lanes opened stands none fresh = record {
     carries = record {
       link_open = opened;
       link = stands;
-      first = record { held = fresh.first.held; fed = fresh.first.fed; given = omega arith };
-      second = record { held = fresh.second.held; fed = fresh.second.fed; given = omega arith };
-      third = record { held = fresh.third.held; fed = fresh.third.fed; given = omega arith };
+      blue = record { held = fresh.blue.held; fed = fresh.blue.fed; given = omega arith };
+      green = record { held = fresh.green.held; fed = fresh.green.fed; given = omega arith };
+      red = record { held = fresh.red.held; fed = fresh.red.fed; given = omega arith };
       within = omega arith;
       small = omega arith;
       few = omega arith;
       fewer = omega arith;
     };
     looked = record {
-      sought = record { first = fresh.first.sought []; second = fresh.second.sought []; third = fresh.third.sought [] };
+      sought = record { blue = fresh.blue.sought []; green = fresh.green.sought []; red = fresh.red.sought [] };
       after = omega arith;
       decided = inl refl;
     };
@@ -364,9 +364,9 @@ carries_stays t u fed s c =
     record {
       link_open = ap (λ (l : SinkSeen). l.is_open) s.link ∙ c.link_open;
       link = subst R (sym es) (subst Q (sym eh) (subst P (sym s.link) c.link));
-      first = stays_rest t.lanes.first u.lanes.first (bits_fed t.link 0) (bits_fed u.link 0) t.start t.handed u.start u.handed fed.blue s.first s.first_fed (ap (λ (l : SinkSeen). bits_fed l 0) s.link) es eh c.first;
-      second = stays_rest t.lanes.second u.lanes.second (bits_fed t.link 1) (bits_fed u.link 1) t.start t.handed u.start u.handed fed.green s.second s.second_fed (ap (λ (l : SinkSeen). bits_fed l 1) s.link) es eh c.second;
-      third = stays_rest t.lanes.third u.lanes.third (bits_fed t.link 2) (bits_fed u.link 2) t.start t.handed u.start u.handed fed.red s.third s.third_fed (ap (λ (l : SinkSeen). bits_fed l 2) s.link) es eh c.third;
+      blue = stays_rest t.lanes.blue u.lanes.blue (bits_fed t.link 0) (bits_fed u.link 0) t.start t.handed u.start u.handed fed.blue s.blue s.blue_fed (ap (λ (l : SinkSeen). bits_fed l 0) s.link) es eh c.blue;
+      green = stays_rest t.lanes.green u.lanes.green (bits_fed t.link 1) (bits_fed u.link 1) t.start t.handed u.start u.handed fed.green s.green s.green_fed (ap (λ (l : SinkSeen). bits_fed l 1) s.link) es eh c.green;
+      red = stays_rest t.lanes.red u.lanes.red (bits_fed t.link 2) (bits_fed u.link 2) t.start t.handed u.start u.handed fed.red s.red s.red_fed (ap (λ (l : SinkSeen). bits_fed l 2) s.link) es eh c.red;
       within = omega arith;
       small = c.small;
       few = omega arith;
@@ -381,9 +381,9 @@ end_after fed lanes seen lane place sought end = elim (cases_lt place seen) [
 ]
   where
     on_lane : (l : ℕ) → place < seen → IsStray (lane_of fed l) place → ⊥
-    on_lane zero lt stray = sought.first.none place lt stray
-    on_lane (suc zero) lt stray = sought.second.none place lt stray
-    on_lane (suc (suc l)) lt stray = sought.third.none place lt stray
+    on_lane zero lt stray = sought.blue.none place lt stray
+    on_lane (suc zero) lt stray = sought.green.none place lt stray
+    on_lane (suc (suc l)) lt stray = sought.red.none place lt stray
 
 pub stray_found : (t u : Tracker) (fed : Fed) (stray : Stray) → Stays t u → HasLooked u fed → EndsAt (rest_of u.start fed) stray → EndsAt (rest_of t.start fed) stray × (t.handed ≤ stray.place)
 stray_found t u fed stray s looked end =
@@ -393,16 +393,16 @@ stray_found t u fed stray s looked end =
     let P : ℕ → Type 0 = λ n. EndsAt (rest_of n fed) stray in
     (subst P s.start end, omega arith)
 
-pub stays_more : (t u : Tracker) (lanes : Lanes) (seen : ℕ) → Stays t u → lanes.first.held ≡ u.lanes.first.held → lanes.second.held ≡ u.lanes.second.held → lanes.third.held ≡ u.lanes.third.held
-    → lanes.first.fed ≡ u.lanes.first.fed → lanes.second.fed ≡ u.lanes.second.fed → lanes.third.fed ≡ u.lanes.third.fed → Stays t (record u { lanes = lanes; seen = seen })
+pub stays_more : (t u : Tracker) (lanes : Lanes) (seen : ℕ) → Stays t u → lanes.blue.held ≡ u.lanes.blue.held → lanes.green.held ≡ u.lanes.green.held → lanes.red.held ≡ u.lanes.red.held
+    → lanes.blue.fed ≡ u.lanes.blue.fed → lanes.green.fed ≡ u.lanes.green.fed → lanes.red.fed ≡ u.lanes.red.fed → Stays t (record u { lanes = lanes; seen = seen })
 stays_more t u lanes seen s hx hy hz fx fy fz = record {
   link = s.link;
-  first = hx ∙ s.first;
-  second = hy ∙ s.second;
-  third = hz ∙ s.third;
-  first_fed = fx ∙ s.first_fed;
-  second_fed = fy ∙ s.second_fed;
-  third_fed = fz ∙ s.third_fed;
+  blue = hx ∙ s.blue;
+  green = hy ∙ s.green;
+  red = hz ∙ s.red;
+  blue_fed = fx ∙ s.blue_fed;
+  green_fed = fy ∙ s.green_fed;
+  red_fed = fz ∙ s.red_fed;
   start = s.start;
   handed = s.handed;
   begun = s.begun;
@@ -411,7 +411,7 @@ stays_more t u lanes seen s hx hy hz fx fy fz = record {
 }
 
 pub looked_more : (t u : Tracker) (fed : Fed) (lanes : Lanes) (more end longest : ℕ) → Stays t u → Carries t fed → HasLooked u fed → AreSought lanes (u.seen + more) (rest_of u.start fed)
-    → longest ≡ max (length t.lanes.first.held.bits) (max (length t.lanes.second.held.bits) (length t.lanes.third.held.bits)) → end ≡ t.handed + longest - 119 → u.seen < end → more ≡ min (end - u.seen) 2560
+    → longest ≡ max (length t.lanes.blue.held.bits) (max (length t.lanes.green.held.bits) (length t.lanes.red.held.bits)) → end ≡ t.handed + longest - 119 → u.seen < end → more ≡ min (end - u.seen) 2560
     → HasLooked (record u { lanes = lanes; seen = u.seen + more }) fed
 looked_more t u fed lanes more end longest s c looked sought most e lt step =
     let all = longest_held t fed c in
@@ -420,7 +420,7 @@ looked_more t u fed lanes more end longest s c looked sought most e lt step =
     record { sought = sought; after = omega arith; decided = inr (omega (arith, most, e, all)) }
 
 pub looked_all : (t u : Tracker) (fed : Fed) (end longest : ℕ) → Stays t u → Carries t fed
-    → longest ≡ max (length t.lanes.first.held.bits) (max (length t.lanes.second.held.bits) (length t.lanes.third.held.bits)) → end ≡ t.handed + longest - 119 → end ≤ u.seen → most_of fed ≤ u.start + u.seen + 119
+    → longest ≡ max (length t.lanes.blue.held.bits) (max (length t.lanes.green.held.bits) (length t.lanes.red.held.bits)) → end ≡ t.handed + longest - 119 → end ≤ u.seen → most_of fed ≤ u.start + u.seen + 119
 looked_all t u fed end longest s c most e done =
     let all = longest_held t fed c in
     let es = s.start in

@@ -117,11 +117,11 @@ end_within from until end (Some p) order within e = omega (arith, order, within,
 
 -- of each lane the places before an end are looked through, and the end of the next lane is the place that was found
 module _ (fed : Fed) (lanes : Lanes) (from until one two : ℕ) (u v w : Option ℕ)
-    (was_first : HasSought fed.blue from u) (was_second : HasSought fed.green from v) (was_third : HasSought fed.red from w) (order : from ≤ until) where
+    (was_blue : HasSought fed.blue from u) (was_green : HasSought fed.green from v) (was_red : HasSought fed.red from w) (order : from ≤ until) where
   pub first_end : (a b c : Option ℕ)
-      → IsFound fed.blue until lanes.first.scout.lock a → IfSome a (λ p. p < until) → IsEndOf from until a one
-      → IsFound fed.green one lanes.second.scout.lock b → IfSome b (λ p. p < one) → IsEndOf from one b two
-      → IsFound fed.red two lanes.third.scout.lock c → IfSome c (λ p. p < two)
+      → IsFound fed.blue until lanes.blue.scout.lock a → IfSome a (λ p. p < until) → IsEndOf from until a one
+      → IsFound fed.green one lanes.green.scout.lock b → IfSome b (λ p. p < one) → IsEndOf from one b two
+      → IsFound fed.red two lanes.red.scout.lock c → IfSome c (λ p. p < two)
       → MatchOption (last_stray a b c) (AreSought lanes until fed) (EndsAt fed)
   first_end a b (Some p) fa wa ea fb wb eb fc wc = is_end fed 2 p (omega arith) fc.stray before after
     where
@@ -129,8 +129,8 @@ module _ (fed : Fed) (lanes : Lanes) (from until one two : ℕ) (u v w : Option 
       less = end_within from one two b (end_from from until one a order ea) wb eb
 
       before : (l : ℕ) → l < 2 → NoneBefore (lane_of fed l) (p + 1)
-      before zero lt q early = none_before fed.blue from until one u lanes.first.scout.lock a was_first fa ea q (omega (arith, less, wc))
-      before (suc zero) lt q early = none_before fed.green from one two v lanes.second.scout.lock b was_second fb eb q (omega (arith, wc))
+      before zero lt q early = none_before fed.blue from until one u lanes.blue.scout.lock a was_blue fa ea q (omega (arith, less, wc))
+      before (suc zero) lt q early = none_before fed.green from one two v lanes.green.scout.lock b was_green fb eb q (omega (arith, wc))
       before (suc (suc l)) lt q early = absurd (omega arith)
 
       after : (l : ℕ) → 2 ≤ l → l < 3 → NoneBefore (lane_of fed l) p
@@ -140,10 +140,10 @@ module _ (fed : Fed) (lanes : Lanes) (from until one two : ℕ) (u v w : Option 
   first_end a (Some p) None fa wa ea fb wb eb fc wc = is_end fed 1 p (omega arith) fb.stray before after
     where
       here : two ≡ p
-      here = found_at fed.green from one two p v was_second fb eb
+      here = found_at fed.green from one two p v was_green fb eb
 
       before : (l : ℕ) → l < 1 → NoneBefore (lane_of fed l) (p + 1)
-      before zero lt q early = none_before fed.blue from until one u lanes.first.scout.lock a was_first fa ea q (omega (arith, wb))
+      before zero lt q early = none_before fed.blue from until one u lanes.blue.scout.lock a was_blue fa ea q (omega (arith, wb))
       before (suc l) lt q early = absurd (omega arith)
 
       after : (l : ℕ) → 1 ≤ l → l < 3 → NoneBefore (lane_of fed l) p
@@ -153,7 +153,7 @@ module _ (fed : Fed) (lanes : Lanes) (from until one two : ℕ) (u v w : Option 
   first_end (Some p) None None fa wa ea fb wb eb fc wc = is_end fed 0 p (omega arith) fa.stray before after
     where
       here : one ≡ p
-      here = found_at fed.blue from until one p u was_first fa ea
+      here = found_at fed.blue from until one p u was_blue fa ea
 
       before : (l : ℕ) → l < 0 → NoneBefore (lane_of fed l) (p + 1)
       before l lt = absurd (omega arith)
@@ -163,6 +163,6 @@ module _ (fed : Fed) (lanes : Lanes) (from until one two : ℕ) (u v w : Option 
       after (suc zero) le lt q early = fb.none q (omega (arith, here))
       after (suc (suc l)) le lt q early = fc.none q (omega (arith, here, eb))
   first_end None None None fa wa ea fb wb eb fc wc =
-      let P : ℕ → Type 0 = λ n. HasSought fed.green n lanes.second.scout.lock in
-      let Q : ℕ → Type 0 = λ n. HasSought fed.red n lanes.third.scout.lock in
-      record { first = fa; second = subst P ea fb; third = subst Q (eb ∙ ea) fc }
+      let P : ℕ → Type 0 = λ n. HasSought fed.green n lanes.green.scout.lock in
+      let Q : ℕ → Type 0 = λ n. HasSought fed.red n lanes.red.scout.lock in
+      record { blue = fa; green = subst P ea fb; red = subst Q (eb ∙ ea) fc }

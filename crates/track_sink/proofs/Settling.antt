@@ -27,7 +27,7 @@ started : (t : Tracker) (fed : Fed) → Carries t fed → t.start ≤ most_of fe
 started t fed c = let within = c.within in omega arith
 
 pub most_fed_is : (t : Tracker) (fed : Fed) → Carries t fed → most_fed t ≡ most_of fed
-most_fed_is t fed c = ap₂ max c.first.fed (ap₂ max c.second.fed c.third.fed)
+most_fed_is t fed c = ap₂ max c.blue.fed (ap₂ max c.green.fed c.red.fed)
 
 -- Following.
 
@@ -55,12 +55,12 @@ can_settle t fed c looked whole room = grind arith
 
 pub settles : (u w : Tracker) (fed : Fed) (reported : List TrackEvent) (us : List Event) → HasLooked u fed × (most_of fed ≤ u.start + u.seen + 119) → u.handed % 8 ≡ 0 → most_of fed ≤ u.start + u.handed + 32894 → Carries u fed → Carries w fed
     → w.start ≡ u.start → w.handed ≡ u.handed + (u.seen / 8 * 8 - u.handed) → w.seen ≡ u.seen
-    → w.lanes.first.scout ≡ u.lanes.first.scout → w.lanes.second.scout ≡ u.lanes.second.scout → w.lanes.third.scout ≡ u.lanes.third.scout
+    → w.lanes.blue.scout ≡ u.lanes.blue.scout → w.lanes.green.scout ≡ u.lanes.green.scout → w.lanes.red.scout ≡ u.lanes.red.scout
     → Follows fed w.start w.handed w.begun w.epochs w.aligned reported → IsSettled w fed reported
 settles u w fed reported us looked whole room cu cw es eh en sx sy sz follows =
     let few = can_settle u fed cu looked.0 whole room in
     let was = looked.0.sought in
-    let sought : AreSought w.lanes w.seen (rest_of w.start fed) = record { first = rw (es, en, sx) was.first; second = rw (es, en, sy) was.second; third = rw (es, en, sz) was.third } in
+    let sought : AreSought w.lanes w.seen (rest_of w.start fed) = record { blue = rw (es, en, sx) was.blue; green = rw (es, en, sy) was.green; red = rw (es, en, sz) was.red } in
     let sure : HasLooked w fed = record { sought = sought; after = omega arith; decided = rw (es, en) looked.0.decided } in
     record { stands = record { carries = cw; looked = sure; follows = follows; whole = omega arith; room = omega arith }; all = omega arith; near = omega arith }
 
@@ -68,16 +68,16 @@ settles u w fed reported us looked whole room cu cw es eh en sx sy sz follows =
 
 -- where all was looked at, there is no stray
 all_sought : (t : Tracker) (fed : Fed) → Carries t fed → HasLooked t fed → most_of fed ≤ t.start + t.seen + 119 → (l p : ℕ) → p + 120 ≤ length (lane_of (rest_of t.start fed) l) → IsStray (lane_of (rest_of t.start fed) l) p → ⊥
-all_sought t fed c looked all zero p long stray = looked.sought.first.none p (let h = rest_no_longer fed t.start 0 (started t fed c) in omega arith) stray
-all_sought t fed c looked all (suc zero) p long stray = looked.sought.second.none p (let h = rest_no_longer fed t.start 1 (started t fed c) in omega arith) stray
-all_sought t fed c looked all (suc (suc l)) p long stray = looked.sought.third.none p (let h = rest_no_longer fed t.start 2 (started t fed c) in omega arith) stray
+all_sought t fed c looked all zero p long stray = looked.sought.blue.none p (let h = rest_no_longer fed t.start 0 (started t fed c) in omega arith) stray
+all_sought t fed c looked all (suc zero) p long stray = looked.sought.green.none p (let h = rest_no_longer fed t.start 1 (started t fed c) in omega arith) stray
+all_sought t fed c looked all (suc (suc l)) p long stray = looked.sought.red.none p (let h = rest_no_longer fed t.start 2 (started t fed c) in omega arith) stray
 
 pub settled_no_end : (t : Tracker) (fed : Fed) (reported : List TrackEvent) → IsSettled t fed reported → HasNoEnd (rest_of t.start fed)
 settled_no_end t fed reported s l lt p stray =
     all_sought t fed s.stands.carries s.stands.looked s.all l p (run_within (lane_of (rest_of t.start fed) l) p stray.run) stray
 
 pub tracks_all : (t u v : Tracker) (fed : Fed) (reported : List TrackEvent) (outcome : Outcome) (us last : List Event) (longest : ℕ) → IsSettled t fed reported
-    → longest ≡ max (length t.lanes.first.held.bits) (max (length t.lanes.second.held.bits) (length t.lanes.third.held.bits))
+    → longest ≡ max (length t.lanes.blue.held.bits) (max (length t.lanes.green.held.bits) (length t.lanes.red.held.bits))
     → IsGain (front_of t.handed (rest_of t.start fed)) (front_of (t.handed + longest) (rest_of t.start fed)) us → IsLast (front_of u.handed (rest_of u.start fed)) outcome last
     → u.start ≡ t.start → u.handed ≡ t.handed + longest → u.begun ≡ t.begun → u.epochs ≡ t.epochs → u.aligned ≡ t.aligned
     → v.epochs ≡ u.epochs + 1 → v.aligned ≡ u.aligned + one_if outcome.aligned
@@ -128,11 +128,11 @@ settled_tracks t fed reported s =
 -- how many bits were fed of each lane
 pub fed_more : (t u : Tracker) (fed : Fed) (reported now : List TrackEvent) (a b c bits : List ℕ) → IsSettled t fed reported → IsSettled u (grown fed a b c bits) now
     → length a ≡ (slice_index bits 0 + 7) / 8 → length b ≡ (slice_index bits 1 + 7) / 8 → length c ≡ (slice_index bits 2 + 7) / 8
-    → (u.lanes.first.fed ≡ t.lanes.first.fed + slice_index bits 0) × (u.lanes.second.fed ≡ t.lanes.second.fed + slice_index bits 1) × (u.lanes.third.fed ≡ t.lanes.third.fed + slice_index bits 2)
+    → (u.lanes.blue.fed ≡ t.lanes.blue.fed + slice_index bits 0) × (u.lanes.green.fed ≡ t.lanes.green.fed + slice_index bits 1) × (u.lanes.red.fed ≡ t.lanes.red.fed + slice_index bits 2)
 fed_more t u fed reported now a b c bits before after ea eb ec =
     let x = before.stands.carries in
     let y = after.stands.carries in (
-      y.first.fed ∙ length_grown fed.blue (grown fed a b c bits).blue a (slice_index bits 0) ea refl ∙ ap (λ n. n + slice_index bits 0) (sym x.first.fed),
-      y.second.fed ∙ length_grown fed.green (grown fed a b c bits).green b (slice_index bits 1) eb refl ∙ ap (λ n. n + slice_index bits 1) (sym x.second.fed),
-      y.third.fed ∙ length_grown fed.red (grown fed a b c bits).red c (slice_index bits 2) ec refl ∙ ap (λ n. n + slice_index bits 2) (sym x.third.fed),
+      y.blue.fed ∙ length_grown fed.blue (grown fed a b c bits).blue a (slice_index bits 0) ea refl ∙ ap (λ n. n + slice_index bits 0) (sym x.blue.fed),
+      y.green.fed ∙ length_grown fed.green (grown fed a b c bits).green b (slice_index bits 1) eb refl ∙ ap (λ n. n + slice_index bits 1) (sym x.green.fed),
+      y.red.fed ∙ length_grown fed.red (grown fed a b c bits).red c (slice_index bits 2) ec refl ∙ ap (λ n. n + slice_index bits 2) (sym x.red.fed),
     )

@@ -55,8 +55,8 @@ rest_turned before now given later start handed from xs was held fed none e = re
 
 pub carries_turned : (t u : Tracker) (fed : Fed) (stray : Stray) (b : Bool) → CanTurn t fed stray
     → u.link.is_open ≡ true → SinkRepresents u.link no_bits → most_bits u.link ≡ 0
-    → u.lanes.first.held ≡ t.lanes.first.held → u.lanes.second.held ≡ t.lanes.second.held → u.lanes.third.held ≡ t.lanes.third.held
-    → u.lanes.first.fed ≡ t.lanes.first.fed → u.lanes.second.fed ≡ t.lanes.second.fed → u.lanes.third.fed ≡ t.lanes.third.fed
+    → u.lanes.blue.held ≡ t.lanes.blue.held → u.lanes.green.held ≡ t.lanes.green.held → u.lanes.red.held ≡ t.lanes.red.held
+    → u.lanes.blue.fed ≡ t.lanes.blue.fed → u.lanes.green.fed ≡ t.lanes.green.fed → u.lanes.red.fed ≡ t.lanes.red.fed
     → u.start ≡ t.start + t.handed → u.handed ≡ 0 → u.seen ≡ 0 → u.epochs ≡ t.epochs + 1 → u.aligned ≡ t.aligned + one_if b → ((fed : Fed) → AreSought u.lanes 0 fed)
     → Carries u fed × HasLooked u fed
 carries_turned t u fed stray b can opened stands none hx hy hz fx fy fz es eh en ee ea sought =
@@ -67,17 +67,17 @@ carries_turned t u fed stray b can opened stands none hx hy hz fx fy fz es eh en
     let few = c.few in
     let fewer = c.fewer in
     let one = one_at_most b in
-    let P : ℕ → Type 0 = λ n. HoldsRest u.lanes.first (bits_fed u.link 0) u.start n fed.blue in
-    let Q : ℕ → Type 0 = λ n. HoldsRest u.lanes.second (bits_fed u.link 1) u.start n fed.green in
-    let R : ℕ → Type 0 = λ n. HoldsRest u.lanes.third (bits_fed u.link 2) u.start n fed.red in
+    let P : ℕ → Type 0 = λ n. HoldsRest u.lanes.blue (bits_fed u.link 0) u.start n fed.blue in
+    let Q : ℕ → Type 0 = λ n. HoldsRest u.lanes.green (bits_fed u.link 1) u.start n fed.green in
+    let R : ℕ → Type 0 = λ n. HoldsRest u.lanes.red (bits_fed u.link 2) u.start n fed.red in
     let S : ℕ → Type 0 = λ n. SinkRepresents u.link (front_of n (rest_of u.start fed)) in
     let T : ℕ → Type 0 = λ n. AreSought u.lanes n (rest_of u.start fed) in (
       record {
         link_open = opened;
         link = subst S (sym eh) stands;
-        first = subst P (sym eh) (rest_turned t.lanes.first u.lanes.first (bits_fed t.link 0) (bits_fed u.link 0) t.start t.handed u.start fed.blue c.first hx fx (omega arith) es);
-        second = subst Q (sym eh) (rest_turned t.lanes.second u.lanes.second (bits_fed t.link 1) (bits_fed u.link 1) t.start t.handed u.start fed.green c.second hy fy (omega arith) es);
-        third = subst R (sym eh) (rest_turned t.lanes.third u.lanes.third (bits_fed t.link 2) (bits_fed u.link 2) t.start t.handed u.start fed.red c.third hz fz (omega arith) es);
+        blue = subst P (sym eh) (rest_turned t.lanes.blue u.lanes.blue (bits_fed t.link 0) (bits_fed u.link 0) t.start t.handed u.start fed.blue c.blue hx fx (omega arith) es);
+        green = subst Q (sym eh) (rest_turned t.lanes.green u.lanes.green (bits_fed t.link 1) (bits_fed u.link 1) t.start t.handed u.start fed.green c.green hy fy (omega arith) es);
+        red = subst R (sym eh) (rest_turned t.lanes.red u.lanes.red (bits_fed t.link 2) (bits_fed u.link 2) t.start t.handed u.start fed.red c.red hz fz (omega arith) es);
         within = omega arith;
         small = c.small;
         few = omega arith;

@@ -14,9 +14,9 @@ pub record IsFresh (lane : Lane) : Type 0 where
   pub sought : (xs : List Bool) → HasSought xs 0 lane.scout.lock
 
 pub record AreFresh (lanes : Lanes) : Type 0 where
-  pub first : IsFresh lanes.first
-  pub second : IsFresh lanes.second
-  pub third : IsFresh lanes.third
+  pub blue : IsFresh lanes.blue
+  pub green : IsFresh lanes.green
+  pub red : IsFresh lanes.red
 
 -- the first bits of a lane are released, or all where there are fewer
 pub record IsReleased (before now : Lane) (bits count : ℕ) : Type 0 where
@@ -28,15 +28,15 @@ pub record IsReleased (before now : Lane) (bits count : ℕ) : Type 0 where
 
 -- the lanes of an epoch are held from a place of it on
 pub record AreHeld (lanes : Lanes) (base : ℕ) (fed : Fed) : Type 0 where
-  pub first : lanes.first.held.bits ≡ drop base fed.blue
-  pub second : lanes.second.held.bits ≡ drop base fed.green
-  pub third : lanes.third.held.bits ≡ drop base fed.red
+  pub blue : lanes.blue.held.bits ≡ drop base fed.blue
+  pub green : lanes.green.held.bits ≡ drop base fed.green
+  pub red : lanes.red.held.bits ≡ drop base fed.red
 
 -- the places of an epoch before one were looked at
 pub record AreSought (lanes : Lanes) (seen : ℕ) (fed : Fed) : Type 0 where
-  pub first : HasSought fed.blue seen lanes.first.scout.lock
-  pub second : HasSought fed.green seen lanes.second.scout.lock
-  pub third : HasSought fed.red seen lanes.third.scout.lock
+  pub blue : HasSought fed.blue seen lanes.blue.scout.lock
+  pub green : HasSought fed.green seen lanes.green.scout.lock
+  pub red : HasSought fed.red seen lanes.red.scout.lock
 
 -- an epoch ends at a stray
 abbrev pub EndsAt : Fed → Stray → Type 0

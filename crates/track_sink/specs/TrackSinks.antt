@@ -20,9 +20,9 @@ pub record TrackSinkRepresents (sink : TrackSinkSeen) (fed : Fed) (reported : Li
 
 -- how many bits it was fed of a lane, and of the longest
 abbrev pub bits_fed : TrackSinkSeen → ℕ → ℕ
-bits_fed sink zero = sink.tracker.lanes.first.fed
-bits_fed sink (suc zero) = sink.tracker.lanes.second.fed
-bits_fed sink (suc (suc lane)) = sink.tracker.lanes.third.fed
+bits_fed sink zero = sink.tracker.lanes.blue.fed
+bits_fed sink (suc zero) = sink.tracker.lanes.green.fed
+bits_fed sink (suc (suc lane)) = sink.tracker.lanes.red.fed
 
 abbrev pub most_bits : TrackSinkSeen → ℕ
 most_bits sink = most_fed sink.tracker

@@ -37,15 +37,15 @@ pub record HoldsRest (lane : Lane) (bits start handed : ℕ) (xs : List Bool) : 
 
 -- how many bits were fed of the lane that was fed the most
 abbrev pub most_fed : Tracker → ℕ
-most_fed t = max t.lanes.first.fed (max t.lanes.second.fed t.lanes.third.fed)
+most_fed t = max t.lanes.blue.fed (max t.lanes.green.fed t.lanes.red.fed)
 
 -- a tracker was fed these bits, and its sink has those of the epoch that are handed on
 pub record Carries (t : Tracker) (fed : Fed) : Type 0 where
   pub link_open : t.link.is_open ≡ true
   pub link : SinkRepresents t.link (front_of t.handed (rest_of t.start fed))
-  pub first : HoldsRest t.lanes.first (bits_fed t.link 0) t.start t.handed fed.blue
-  pub second : HoldsRest t.lanes.second (bits_fed t.link 1) t.start t.handed fed.green
-  pub third : HoldsRest t.lanes.third (bits_fed t.link 2) t.start t.handed fed.red
+  pub blue : HoldsRest t.lanes.blue (bits_fed t.link 0) t.start t.handed fed.blue
+  pub green : HoldsRest t.lanes.green (bits_fed t.link 1) t.start t.handed fed.green
+  pub red : HoldsRest t.lanes.red (bits_fed t.link 2) t.start t.handed fed.red
   pub within : t.start + t.handed ≤ most_of fed
   pub small : most_of fed < 2 ^ 32
   pub few : 2 * t.epochs ≤ t.start
@@ -54,12 +54,12 @@ pub record Carries (t : Tracker) (fed : Fed) : Type 0 where
 -- it is where it was, however far it has looked since
 pub record Stays (before now : Tracker) : Type 0 where
   pub link : now.link ≡ before.link
-  pub first : now.lanes.first.held ≡ before.lanes.first.held
-  pub second : now.lanes.second.held ≡ before.lanes.second.held
-  pub third : now.lanes.third.held ≡ before.lanes.third.held
-  pub first_fed : now.lanes.first.fed ≡ before.lanes.first.fed
-  pub second_fed : now.lanes.second.fed ≡ before.lanes.second.fed
-  pub third_fed : now.lanes.third.fed ≡ before.lanes.third.fed
+  pub blue : now.lanes.blue.held ≡ before.lanes.blue.held
+  pub green : now.lanes.green.held ≡ before.lanes.green.held
+  pub red : now.lanes.red.held ≡ before.lanes.red.held
+  pub blue_fed : now.lanes.blue.fed ≡ before.lanes.blue.fed
+  pub green_fed : now.lanes.green.fed ≡ before.lanes.green.fed
+  pub red_fed : now.lanes.red.fed ≡ before.lanes.red.fed
   pub start : now.start ≡ before.start
   pub handed : now.handed ≡ before.handed
   pub begun : now.begun ≡ before.begun

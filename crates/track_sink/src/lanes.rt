@@ -18,9 +18,9 @@ pub(crate) struct Stray {
 /// Three lanes.
 #[derive(Drop)]
 pub(crate) struct Lanes {
-    pub(crate) first: Lane,
-    pub(crate) second: Lane,
-    pub(crate) third: Lane,
+    pub(crate) blue: Lane,
+    pub(crate) green: Lane,
+    pub(crate) red: Lane,
 }
 
 impl Lanes {
@@ -29,21 +29,21 @@ impl Lanes {
         ensures { IfOk result AreFresh }
     {
         Ok(Lanes {
-            first: Lane::open(alloc)?,
-            second: Lane::open(alloc)?,
-            third: Lane::open(alloc)?,
+            blue: Lane::open(alloc)?,
+            green: Lane::open(alloc)?,
+            red: Lane::open(alloc)?,
         })
     }
 
     /// How many bits the lane holds that holds the most.
     pub(crate) fn longest(&self) -> u32
-        ensures longest { result ≡ max (length self.now.first.held.bits) (max (length self.now.second.held.bits) (length self.now.third.held.bits)) }
+        ensures longest { result ≡ max (length self.now.blue.held.bits) (max (length self.now.green.held.bits) (length self.now.red.held.bits)) }
         ensures most { result ≤ 33720 }
     {
-        let first = self.first.held.len();
-        let second = self.second.held.len();
-        let third = self.third.held.len();
-        first.max(second.max(third))
+        let blue = self.blue.held.len();
+        let green = self.green.held.len();
+        let red = self.red.held.len();
+        blue.max(green.max(red))
     }
 
     /// Looks at the epoch's places from `from` on and before `until`, where bit `base` is the first that is held, and
@@ -52,49 +52,49 @@ impl Lanes {
     pub(crate) fn seek(&mut self, base: u32, from: u32, until: u32) -> Option<Stray>
         requires after { base ≤ from }
         requires order { from ≤ until }
-        ensures first { self.new.first.held ≡ self.old.first.held }
-        ensures second { self.new.second.held ≡ self.old.second.held }
-        ensures third { self.new.third.held ≡ self.old.third.held }
-        ensures first_fed { self.new.first.fed ≡ self.old.first.fed }
-        ensures second_fed { self.new.second.fed ≡ self.old.second.fed }
-        ensures third_fed { self.new.third.fed ≡ self.old.third.fed }
+        ensures blue { self.new.blue.held ≡ self.old.blue.held }
+        ensures green { self.new.green.held ≡ self.old.green.held }
+        ensures red { self.new.red.held ≡ self.old.red.held }
+        ensures blue_fed { self.new.blue.fed ≡ self.old.blue.fed }
+        ensures green_fed { self.new.green.fed ≡ self.old.green.fed }
+        ensures red_fed { self.new.red.fed ≡ self.old.red.fed }
         ensures sought { (fed : Fed) → AreHeld self.old base fed → AreSought self.old from fed
             → MatchOption result (AreSought self.new until fed) (EndsAt fed) }
     {
-        let first = self.first.seek(base, from, until);
-        let before_first = end_of(first, from, until);
-        let second = self.second.seek(base, from, before_first);
-        let before_second = end_of(second, from, before_first);
-        let third = self.third.seek(base, from, before_second);
-        last_of(first, second, third)
+        let blue = self.blue.seek(base, from, until);
+        let before_blue = end_of(blue, from, until);
+        let green = self.green.seek(base, from, before_blue);
+        let before_green = end_of(green, from, before_blue);
+        let red = self.red.seek(base, from, before_green);
+        last_of(blue, green, red)
     }
 
     /// Releases the first bits of each, or all where there are fewer, and answers how many.
     pub(crate) fn release(&mut self, bits: u32) -> [u32; 3]
-        ensures first { IsReleased self.old.first self.new.first bits (slice_index result 0) }
-        ensures second { IsReleased self.old.second self.new.second bits (slice_index result 1) }
-        ensures third { IsReleased self.old.third self.new.third bits (slice_index result 2) }
+        ensures blue { IsReleased self.old.blue self.new.blue bits (slice_index result 0) }
+        ensures green { IsReleased self.old.green self.new.green bits (slice_index result 1) }
+        ensures red { IsReleased self.old.red self.new.red bits (slice_index result 2) }
     {
         [
-            self.first.release(bits),
-            self.second.release(bits),
-            self.third.release(bits),
+            self.blue.release(bits),
+            self.green.release(bits),
+            self.red.release(bits),
         ]
     }
 
     /// Forgets what was looked at: an epoch begins with the first bits that are held.
     pub(crate) fn restart(&mut self)
-        ensures first { self.new.first.held ≡ self.old.first.held }
-        ensures second { self.new.second.held ≡ self.old.second.held }
-        ensures third { self.new.third.held ≡ self.old.third.held }
-        ensures first_fed { self.new.first.fed ≡ self.old.first.fed }
-        ensures second_fed { self.new.second.fed ≡ self.old.second.fed }
-        ensures third_fed { self.new.third.fed ≡ self.old.third.fed }
+        ensures blue { self.new.blue.held ≡ self.old.blue.held }
+        ensures green { self.new.green.held ≡ self.old.green.held }
+        ensures red { self.new.red.held ≡ self.old.red.held }
+        ensures blue_fed { self.new.blue.fed ≡ self.old.blue.fed }
+        ensures green_fed { self.new.green.fed ≡ self.old.green.fed }
+        ensures red_fed { self.new.red.fed ≡ self.old.red.fed }
         ensures sought { (fed : Fed) → AreSought self.new 0 fed }
     {
-        self.first.restart();
-        self.second.restart();
-        self.third.restart();
+        self.blue.restart();
+        self.green.restart();
+        self.red.restart();
     }
 }
 
@@ -111,10 +111,10 @@ fn end_of(found: Option<u32>, from: u32, until: u32) -> u32
 }
 
 /// The place of the last lane that has one.
-fn last_of(first: Option<u32>, second: Option<u32>, third: Option<u32>) -> Option<Stray>
-    ensures { result ≡ last_stray first second third }
+fn last_of(blue: Option<u32>, green: Option<u32>, red: Option<u32>) -> Option<Stray>
+    ensures { result ≡ last_stray blue green red }
 {
-    match (first, second, third) {
+    match (blue, green, red) {
         (_, _, Some(place)) => Some(Stray { lane: 2, place }),
         (_, Some(place), None) => Some(Stray { lane: 1, place }),
         (Some(place), None, None) => Some(Stray { lane: 0, place }),

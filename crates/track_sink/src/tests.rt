@@ -31,13 +31,13 @@ fn feed_next<R: Threads>(
     requires open { sink.old.is_open ≡ true }
     requires whole { from % 8 ≡ 0 }
     requires most { most ≤ 32768 }
-    requires first { bits_fed sink.old 0 ≡ min from (slice_index case.now.bits 0) }
-    requires second { bits_fed sink.old 1 ≡ min from (slice_index case.now.bits 1) }
-    requires third { bits_fed sink.old 2 ≡ min from (slice_index case.now.bits 2) }
+    requires blue { bits_fed sink.old 0 ≡ min from (slice_index case.now.bits 0) }
+    requires green { bits_fed sink.old 1 ≡ min from (slice_index case.now.bits 1) }
+    requires red { bits_fed sink.old 2 ≡ min from (slice_index case.now.bits 2) }
     ensures open { OnOk result (sink.new.is_open ≡ true) }
-    ensures first { OnOk result (bits_fed sink.new 0 ≡ min (from + most) (slice_index case.now.bits 0)) }
-    ensures second { OnOk result (bits_fed sink.new 1 ≡ min (from + most) (slice_index case.now.bits 1)) }
-    ensures third { OnOk result (bits_fed sink.new 2 ≡ min (from + most) (slice_index case.now.bits 2)) }
+    ensures blue { OnOk result (bits_fed sink.new 0 ≡ min (from + most) (slice_index case.now.bits 0)) }
+    ensures green { OnOk result (bits_fed sink.new 1 ≡ min (from + most) (slice_index case.now.bits 1)) }
+    ensures red { OnOk result (bits_fed sink.new 2 ≡ min (from + most) (slice_index case.now.bits 2)) }
 {
     let x = most.min(case.bits[0].saturating_sub(from));
     let y = most.min(case.bits[1].saturating_sub(from));
@@ -72,9 +72,9 @@ fn feed_all<R: Threads>(
     notes: &mut Notes,
 ) -> Result<TrackOutcome, Failed>
     requires open { sink.old.is_open ≡ true }
-    requires first { bits_fed sink.old 0 ≡ 0 }
-    requires second { bits_fed sink.old 1 ≡ 0 }
-    requires third { bits_fed sink.old 2 ≡ 0 }
+    requires blue { bits_fed sink.old 0 ≡ 0 }
+    requires green { bits_fed sink.old 1 ≡ 0 }
+    requires red { bits_fed sink.old 2 ≡ 0 }
 {
     let all = case.bits[0].max(case.bits[1]).max(case.bits[2]);
     let mut from: u32 = 0;

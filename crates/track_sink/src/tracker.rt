@@ -68,15 +68,15 @@ impl Tracker {
     /// Appends bits of each lane.
     pub(crate) fn append(&mut self, a: &[u8], b: &[u8], c: &[u8], bits: [u32; 3])
         requires settled { (fed : Fed) × (reported : List TrackEvent) × IsSettled self.old fed reported }
-        requires first { CanFeed self.old.lanes.first.fed (most_fed self.old) a.now (slice_index bits 0) }
-        requires second { CanFeed self.old.lanes.second.fed (most_fed self.old) b.now (slice_index bits 1) }
-        requires third { CanFeed self.old.lanes.third.fed (most_fed self.old) c.now (slice_index bits 2) }
+        requires blue { CanFeed self.old.lanes.blue.fed (most_fed self.old) a.now (slice_index bits 0) }
+        requires green { CanFeed self.old.lanes.green.fed (most_fed self.old) b.now (slice_index bits 1) }
+        requires red { CanFeed self.old.lanes.red.fed (most_fed self.old) c.now (slice_index bits 2) }
         ensures { (fed : Fed) (reported : List TrackEvent) → IsSettled self.old fed reported → Stands self.new (grown fed a.now b.now c.now bits) reported }
     {
         let [x, y, z] = bits;
-        self.lanes.first.append(a, x);
-        self.lanes.second.append(b, y);
-        self.lanes.third.append(c, z);
+        self.lanes.blue.append(a, x);
+        self.lanes.green.append(b, y);
+        self.lanes.red.append(c, z);
     }
 
     /// Reports to the ear what the bits decide.
@@ -135,9 +135,9 @@ impl Tracker {
             → OnErr result ((events : List Event) × IsGain (front_of self.old.handed (rest_of self.old.start fed)) (front_of (self.old.handed + bits) (rest_of self.old.start fed)) events
             × StopsIn E.took E.broke ear.old ear.new events) }
         ensures handed { OnOk result (self.new.handed ≡ self.old.handed + bits) }
-        ensures first { self.new.lanes.first.scout ≡ self.old.lanes.first.scout }
-        ensures second { self.new.lanes.second.scout ≡ self.old.lanes.second.scout }
-        ensures third { self.new.lanes.third.scout ≡ self.old.lanes.third.scout }
+        ensures blue { self.new.lanes.blue.scout ≡ self.old.lanes.blue.scout }
+        ensures green { self.new.lanes.green.scout ≡ self.old.lanes.green.scout }
+        ensures red { self.new.lanes.red.scout ≡ self.old.lanes.red.scout }
         ensures start { self.new.start ≡ self.old.start }
         ensures seen { self.new.seen ≡ self.old.seen }
         ensures begun { self.new.begun ≡ self.old.begun }
@@ -151,9 +151,9 @@ impl Tracker {
         let counts = self.lanes.release(bits);
         self.link.feed_ungated(
             rt,
-            self.lanes.first.held.released(),
-            self.lanes.second.held.released(),
-            self.lanes.third.held.released(),
+            self.lanes.blue.held.released(),
+            self.lanes.green.held.released(),
+            self.lanes.red.held.released(),
             counts,
             ear,
         )?;
@@ -266,12 +266,12 @@ impl Tracker {
         ensures open { self.new.link.is_open ≡ true }
         ensures link { SinkRepresents self.new.link no_bits }
         ensures bits { most_bits self.new.link ≡ 0 }
-        ensures first { self.new.lanes.first.held ≡ self.old.lanes.first.held }
-        ensures second { self.new.lanes.second.held ≡ self.old.lanes.second.held }
-        ensures third { self.new.lanes.third.held ≡ self.old.lanes.third.held }
-        ensures first_fed { self.new.lanes.first.fed ≡ self.old.lanes.first.fed }
-        ensures second_fed { self.new.lanes.second.fed ≡ self.old.lanes.second.fed }
-        ensures third_fed { self.new.lanes.third.fed ≡ self.old.lanes.third.fed }
+        ensures blue { self.new.lanes.blue.held ≡ self.old.lanes.blue.held }
+        ensures green { self.new.lanes.green.held ≡ self.old.lanes.green.held }
+        ensures red { self.new.lanes.red.held ≡ self.old.lanes.red.held }
+        ensures blue_fed { self.new.lanes.blue.fed ≡ self.old.lanes.blue.fed }
+        ensures green_fed { self.new.lanes.green.fed ≡ self.old.lanes.green.fed }
+        ensures red_fed { self.new.lanes.red.fed ≡ self.old.lanes.red.fed }
         ensures sought { (fed : Fed) → AreSought self.new.lanes 0 fed }
         ensures start { self.new.start ≡ self.old.start + self.old.handed }
         ensures handed { self.new.handed ≡ 0 }

@@ -42,15 +42,15 @@ fn push(rt: &impl Abort, deskew: &mut Deskew, lane: u8, lock: u64, words: &[u16]
 {
     match lane {
         0 => {
-            assert!(rt; may_push(&deskew.first, lock, words));
+            assert!(rt; may_push(&deskew.blue, lock, words));
             deskew.push(0, lock, words);
         }
         1 => {
-            assert!(rt; may_push(&deskew.second, lock, words));
+            assert!(rt; may_push(&deskew.green, lock, words));
             deskew.push(1, lock, words);
         }
         _ => {
-            assert!(rt; may_push(&deskew.third, lock, words));
+            assert!(rt; may_push(&deskew.red, lock, words));
             deskew.push(2, lock, words);
         }
     }
@@ -134,19 +134,19 @@ fn aligned(
     rows: [&Row; 3],
     to: u32,
 ) -> Result<Option<Aligned>, Fail> {
-    let [a, b, c] = rows;
-    let first = bits_of(rt, alloc, a, a.bits.min(to))?;
-    let second = bits_of(rt, alloc, b, b.bits.min(to))?;
-    let third = bits_of(rt, alloc, c, c.bits.min(to))?;
-    Ok(first_alignment(&first, &second, &third))
+    let [blue, green, red] = rows;
+    let blue = bits_of(rt, alloc, blue, blue.bits.min(to))?;
+    let green = bits_of(rt, alloc, green, green.bits.min(to))?;
+    let red = bits_of(rt, alloc, red, red.bits.min(to))?;
+    Ok(first_alignment(&blue, &green, &red))
 }
 
 /// Three lanes after zeros, so many bytes of them, and room for their characters.
 #[derive(Drop)]
 struct FedLanes {
-    first: FedLane,
-    second: FedLane,
-    third: FedLane,
+    blue: FedLane,
+    green: FedLane,
+    red: FedLane,
     words: Vec<u16>,
     zeros: u32,
 }
@@ -155,9 +155,9 @@ impl FedLanes {
     /// The lanes of a case after zeros.
     fn open(alloc: Global, case: &Case, zeros: u32) -> Result<FedLanes, Fail> {
         Ok(FedLanes {
-            first: FedLane::open(alloc, 0, &case.a, zeros)?,
-            second: FedLane::open(alloc, 1, &case.b, zeros)?,
-            third: FedLane::open(alloc, 2, &case.c, zeros)?,
+            blue: FedLane::open(alloc, 0, &case.blue, zeros)?,
+            green: FedLane::open(alloc, 1, &case.green, zeros)?,
+            red: FedLane::open(alloc, 2, &case.red, zeros)?,
             words: vec![in alloc; 0; 3290]?,
             zeros,
         })
@@ -165,16 +165,16 @@ impl FedLanes {
 
     /// How many bits the longest one has.
     fn most(&self) -> u32 {
-        let first = self.first.row.bits;
-        first.max(self.second.row.bits).max(self.third.row.bits)
+        let blue = self.blue.row.bits;
+        blue.max(self.green.row.bits).max(self.red.row.bits)
     }
 
     /// Feeds each of them the next bits. Reports where they are aligned.
     fn feed(&mut self, rt: &impl Abort, deskew: &mut Deskew, piece: u32) -> Option<Aligned> {
         let words = self.words.as_mut_slice();
-        self.first.feed(rt, deskew, piece, words);
-        self.second.feed(rt, deskew, piece, words);
-        self.third.feed(rt, deskew, piece, words);
+        self.blue.feed(rt, deskew, piece, words);
+        self.green.feed(rt, deskew, piece, words);
+        self.red.feed(rt, deskew, piece, words);
         deskew.settle()
     }
 
@@ -188,7 +188,7 @@ impl FedLanes {
         found: Option<Aligned>,
     ) -> Result<(), Fail> {
         if self.zeros < 100 {
-            let rows = [&self.first.row, &self.second.row, &self.third.row];
+            let rows = [&self.blue.row, &self.green.row, &self.red.row];
             let wanted = aligned(rt, alloc, rows, to)?;
             assert_eq!(rt; found, wanted, "{to} bits, {} zeros", self.zeros);
         }

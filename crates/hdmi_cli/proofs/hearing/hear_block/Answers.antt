@@ -150,8 +150,8 @@ returns-in-Ok-None-clause-more g c = (end_of _ _ _ _ c.next.follows.holds-at-non
 pub returns-in-Ok-None-clause-ended : goal.returns-in-Ok-None-clause-ended
 returns-in-Ok-None-clause-ended g c = λ less. (end_of _ _ _ _ c.next.follows.holds-at-none.4 c.in-Ok-None.is c.in-Ok-None.field-0-is).2
 
-pub feed-requires-clause-first : goal.feed-requires-clause-first
-feed-requires-clause-first g c =
+pub feed-requires-clause-blue : goal.feed-requires-clause-blue
+feed-requires-clause-blue g c =
     let block = c.in-Ok-Some.block in
     let bits = some_of _ _ _ c.in-Ok-Some.ensures.bits c.in-Ok-Some.field-0-is in
     let sizes = some_of _ _ _ c.in-Ok-Some.ensures.sizes c.in-Ok-Some.field-0-is in
@@ -163,8 +163,8 @@ feed-requires-clause-first g c =
     λ κs lives.
     can_feed (bits_fed c.args.sink.now 0) (most_bits c.args.sink.now) j (slice_index counts 0) (slice_index block.bits 0) block.a.now c.requires.fed.first (omega arith) (omega arith) bits.0 sizes.0 (c.requires.said.small 0 (omega arith))
 
-pub feed-requires-clause-second : goal.feed-requires-clause-second
-feed-requires-clause-second g c =
+pub feed-requires-clause-green : goal.feed-requires-clause-green
+feed-requires-clause-green g c =
     let block = c.in-Ok-Some.block in
     let bits = some_of _ _ _ c.in-Ok-Some.ensures.bits c.in-Ok-Some.field-0-is in
     let sizes = some_of _ _ _ c.in-Ok-Some.ensures.sizes c.in-Ok-Some.field-0-is in
@@ -176,8 +176,8 @@ feed-requires-clause-second g c =
     λ κs lives.
     can_feed (bits_fed c.args.sink.now 1) (most_bits c.args.sink.now) j (slice_index counts 1) (slice_index block.bits 1) block.b.now c.requires.fed.second (omega arith) (omega arith) bits.1 sizes.1 (c.requires.said.small 1 (omega arith))
 
-pub feed-requires-clause-third : goal.feed-requires-clause-third
-feed-requires-clause-third g c =
+pub feed-requires-clause-red : goal.feed-requires-clause-red
+feed-requires-clause-red g c =
     let block = c.in-Ok-Some.block in
     let bits = some_of _ _ _ c.in-Ok-Some.ensures.bits c.in-Ok-Some.field-0-is in
     let sizes = some_of _ _ _ c.in-Ok-Some.ensures.sizes c.in-Ok-Some.field-0-is in

@@ -9,11 +9,11 @@ use Rattle.lane_deskew.proofs.reference.first_alignment.Goals as goal
 pub loop-edges-smaller : goal.loop-edges-smaller
 loop-edges-smaller c =
     let was = c.loop-edges.invariant in
-    let a = edge_within c.args.a.now _ was.first in
-    let b = edge_within c.args.b.now _ was.second in
-    let f = edge_within c.args.c.now _ was.third in
+    let a = edge_within c.args.blue.now _ was.blue in
+    let b = edge_within c.args.green.now _ was.green in
+    let f = edge_within c.args.red.now _ was.red in
     let more = c.in_ok-edges-2.ensures.later in
-    let all = length c.args.a.now + length c.args.b.now + length c.args.c.now in
+    let all = length c.args.blue.now + length c.args.green.now + length c.args.red.now in
     let less : all - sum_of c.in_ok-edges-2.edges < all - sum_of c.loop-edges.edges = omega arith in
     less
 
@@ -23,5 +23,5 @@ returns c =
     let e = slice_index c.loop-edges.edges 1 in
     let f = slice_index c.loop-edges.edges 2 in
     let near : AreAllNear d e f = c.are_near.ensures.0 c.loop-edges-test.false in
-    firsts_same c.args.a.now c.args.b.now c.args.c.now d e f _ _ _ (sym c.from.ensures) (sym c.from-2.ensures) (sym c.from-3.ensures)
-    (near_first (IsEdge c.args.a.now) (IsEdge c.args.b.now) (IsEdge c.args.c.now) d e f c.loop-edges.invariant near)
+    firsts_same c.args.blue.now c.args.green.now c.args.red.now d e f _ _ _ (sym c.from.ensures) (sym c.from-2.ensures) (sym c.from-3.ensures)
+    (near_first (IsEdge c.args.blue.now) (IsEdge c.args.green.now) (IsEdge c.args.red.now) d e f c.loop-edges.invariant near)

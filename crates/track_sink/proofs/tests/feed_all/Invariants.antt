@@ -7,9 +7,9 @@ abbrev pub invariant-loop-from : goal.invariant-loop-from
 invariant-loop-from g l = record {
   open_still : l.sink.is_open ≡ true;
   whole : l.from % 8 ≡ 0;
-  first : bits_fed l.sink 0 ≡ min l.from (slice_index l.case.bits 0);
-  second : bits_fed l.sink 1 ≡ min l.from (slice_index l.case.bits 1);
-  third : bits_fed l.sink 2 ≡ min l.from (slice_index l.case.bits 2);
+  blue : bits_fed l.sink 0 ≡ min l.from (slice_index l.case.bits 0);
+  green : bits_fed l.sink 1 ≡ min l.from (slice_index l.case.bits 1);
+  red : bits_fed l.sink 2 ≡ min l.from (slice_index l.case.bits 2);
 }
 
 abbrev pub decreases-loop-from : goal.decreases-loop-from

@@ -8,11 +8,11 @@ use Rattle.track_sink.proofs.lanes.Lanes.seek.Goals as goal
 
 pub returns-clause-sought : goal.returns-clause-sought
 returns-clause-sought c = λ fed held was.
-    let now : Lanes = record { first = c.seek-first.new.self; second = c.seek-second.new.self; third = c.seek-third.new.self } in
+    let now : Lanes = record { blue = c.seek-blue.new.self; green = c.seek-green.new.self; red = c.seek-red.new.self } in
     let P : Option Stray → Type 0 = λ found. MatchOption found (AreSought now c.args.until fed) (EndsAt fed) in
     subst P (sym c.last_of.ensures)
-    (first_end fed now c.args.from c.args.until c.end_of-before_first.result c.end_of-before_second.result _ _ _ was.first was.second was.third c.requires.order
-    c.seek-first.result c.seek-second.result c.seek-third.result
-    (c.seek-first.ensures.sought fed.blue held.first was.first) c.seek-first.ensures.within c.end_of-before_first.ensures.end
-    (c.seek-second.ensures.sought fed.green held.second was.second) c.seek-second.ensures.within c.end_of-before_second.ensures.end
-    (c.seek-third.ensures.sought fed.red held.third was.third) c.seek-third.ensures.within)
+    (first_end fed now c.args.from c.args.until c.end_of-before_blue.result c.end_of-before_green.result _ _ _ was.blue was.green was.red c.requires.order
+    c.seek-blue.result c.seek-green.result c.seek-red.result
+    (c.seek-blue.ensures.sought fed.blue held.blue was.blue) c.seek-blue.ensures.within c.end_of-before_blue.ensures.end
+    (c.seek-green.ensures.sought fed.green held.green was.green) c.seek-green.ensures.within c.end_of-before_green.ensures.end
+    (c.seek-red.ensures.sought fed.red held.red was.red) c.seek-red.ensures.within)

@@ -20,25 +20,25 @@ invariant_of-self g c = λ is_open.
     let now = c.in-Ok.ensures.reported fed kept.1 (c.append.ensures kept.0 kept.1 kept.2) in
     (fed, kept.1 ++ now.0, now.2)
 
-pub returns-in-Ok-clause-first : goal.returns-in-Ok-clause-first
-returns-in-Ok-clause-first g c =
+pub returns-in-Ok-clause-blue : goal.returns-in-Ok-clause-blue
+returns-in-Ok-clause-blue g c =
     let kept = c.self.invariant (ap (λ (s : TrackSinkSeen). s.is_open) c.self.view_is ∙ c.requires.open) in
     let now = c.in-Ok.ensures.reported (grown kept.0 c.args.a.now c.args.b.now c.args.c.now c.args.bits) kept.1 (c.append.ensures kept.0 kept.1 kept.2) in
-    (fed_more c.self.inside.tracker c.follow.new.self kept.0 kept.1 (kept.1 ++ now.0) c.args.a.now c.args.b.now c.args.c.now c.args.bits kept.2 now.2 c.requires.first.bytes_given c.requires.second.bytes_given c.requires.third.bytes_given).0
+    (fed_more c.self.inside.tracker c.follow.new.self kept.0 kept.1 (kept.1 ++ now.0) c.args.a.now c.args.b.now c.args.c.now c.args.bits kept.2 now.2 c.requires.blue.bytes_given c.requires.green.bytes_given c.requires.red.bytes_given).0
     ∙ ap (λ (s : TrackSinkSeen). bits_fed s 0 + slice_index c.args.bits 0) c.self.view_is
 
-pub returns-in-Ok-clause-second : goal.returns-in-Ok-clause-second
-returns-in-Ok-clause-second g c =
+pub returns-in-Ok-clause-green : goal.returns-in-Ok-clause-green
+returns-in-Ok-clause-green g c =
     let kept = c.self.invariant (ap (λ (s : TrackSinkSeen). s.is_open) c.self.view_is ∙ c.requires.open) in
     let now = c.in-Ok.ensures.reported (grown kept.0 c.args.a.now c.args.b.now c.args.c.now c.args.bits) kept.1 (c.append.ensures kept.0 kept.1 kept.2) in
-    (fed_more c.self.inside.tracker c.follow.new.self kept.0 kept.1 (kept.1 ++ now.0) c.args.a.now c.args.b.now c.args.c.now c.args.bits kept.2 now.2 c.requires.first.bytes_given c.requires.second.bytes_given c.requires.third.bytes_given).1
+    (fed_more c.self.inside.tracker c.follow.new.self kept.0 kept.1 (kept.1 ++ now.0) c.args.a.now c.args.b.now c.args.c.now c.args.bits kept.2 now.2 c.requires.blue.bytes_given c.requires.green.bytes_given c.requires.red.bytes_given).1
     ∙ ap (λ (s : TrackSinkSeen). bits_fed s 1 + slice_index c.args.bits 1) c.self.view_is
 
-pub returns-in-Ok-clause-third : goal.returns-in-Ok-clause-third
-returns-in-Ok-clause-third g c =
+pub returns-in-Ok-clause-red : goal.returns-in-Ok-clause-red
+returns-in-Ok-clause-red g c =
     let kept = c.self.invariant (ap (λ (s : TrackSinkSeen). s.is_open) c.self.view_is ∙ c.requires.open) in
     let now = c.in-Ok.ensures.reported (grown kept.0 c.args.a.now c.args.b.now c.args.c.now c.args.bits) kept.1 (c.append.ensures kept.0 kept.1 kept.2) in
-    (fed_more c.self.inside.tracker c.follow.new.self kept.0 kept.1 (kept.1 ++ now.0) c.args.a.now c.args.b.now c.args.c.now c.args.bits kept.2 now.2 c.requires.first.bytes_given c.requires.second.bytes_given c.requires.third.bytes_given).2
+    (fed_more c.self.inside.tracker c.follow.new.self kept.0 kept.1 (kept.1 ++ now.0) c.args.a.now c.args.b.now c.args.c.now c.args.bits kept.2 now.2 c.requires.blue.bytes_given c.requires.green.bytes_given c.requires.red.bytes_given).2
     ∙ ap (λ (s : TrackSinkSeen). bits_fed s 2 + slice_index c.args.bits 2) c.self.view_is
 
 pub returns-in-Ok-clause-reported : goal.returns-in-Ok-clause-reported

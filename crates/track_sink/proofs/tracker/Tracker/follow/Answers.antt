@@ -102,7 +102,7 @@ returns-clause-reported g c = λ fed reported was.
     let e = c.hand_on.ensures in
     let gain = c.in_ok-hand_on.ensures.reported fed carries can.1 in
     let follows = follows_reached u w fed (u.seen / 8 * 8 - u.handed) (reported ++ here.0) gain.0 gain.1 e.start c.in_ok-hand_on.ensures.handed e.begun e.epochs e.aligned (follows_stays t u fed (reported ++ here.0) stays here.2.follows) in
-    let settled = settles u w fed ((reported ++ here.0) ++ track_events_of gain.0) gain.0 looked whole room carries (c.in_ok-hand_on.ensures.carries fed carries can.1) e.start c.in_ok-hand_on.ensures.handed e.seen e.first e.second e.third follows in
+    let settled = settles u w fed ((reported ++ here.0) ++ track_events_of gain.0) gain.0 looked whole room carries (c.in_ok-hand_on.ensures.carries fed carries can.1) e.start c.in_ok-hand_on.ensures.handed e.seen e.blue e.green e.red follows in
     let P : List TrackEvent → Type 0 = λ es. IsSettled w fed es in (
       here.0 ++ track_events_of gain.0,
       g.met.E.TrackEar.tracked_both c.args.ear.now c.loop-stray.ear c.hand_on.new.ear here.0 (track_events_of gain.0) here.1 ((g.met.E.TrackEar.tracked_events c.loop-stray.ear c.hand_on.new.ear gain.0).0 gain.2),

@@ -3,7 +3,7 @@ use Rattle.std.specs.Prelude.{slice_index}
 use Rattle.link_sink.specs.Sinks.{Fed, IsGain}
 use Rattle.link_sink.specs.Streams.{SinkRepresents}
 use Rattle.track_sink.specs.Epochs.{rest_of, front_of}
-use Rattle.track_sink.proofs.Handing.{can_hand_first, can_hand_second, can_hand_third, handed_is, carries_handed, none_gained}
+use Rattle.track_sink.proofs.Handing.{can_hand_blue, can_hand_green, can_hand_red, handed_is, carries_handed, none_gained}
 use Rattle.link_sink.proofs.Stops.{on_err}
 use Rattle.track_sink.proofs.Failing.{LostGain}
 use Rattle.track_sink.proofs.tracker.Tracker.hand_on.Goals as goal
@@ -12,33 +12,33 @@ pub returns-then-bits-eq0-clause-reported : goal.returns-then-bits-eq0-clause-re
 returns-then-bits-eq0-clause-reported g c = λ fed carries room.
     ([], none_gained c.args.self.now fed c.args.bits c.if-bits-eq0.true, g.met.E.Ear.took_none c.args.ear.now)
 
-pub feed_ungated-requires-clause-first : goal.feed_ungated-requires-clause-first
-feed_ungated-requires-clause-first g c =
-    can_hand_first c.args.self.now c.requires.carries.0 c.release-counts.new.self c.released.result.now (slice_index c.release-counts.result 0) c.args.bits c.requires.carries.1 c.requires.whole c.requires.most c.release-counts.ensures.first c.released.ensures.size
+pub feed_ungated-requires-clause-blue : goal.feed_ungated-requires-clause-blue
+feed_ungated-requires-clause-blue g c =
+    can_hand_blue c.args.self.now c.requires.carries.0 c.release-counts.new.self c.released.result.now (slice_index c.release-counts.result 0) c.args.bits c.requires.carries.1 c.requires.whole c.requires.most c.release-counts.ensures.blue c.released.ensures.size
 
-pub feed_ungated-requires-clause-second : goal.feed_ungated-requires-clause-second
-feed_ungated-requires-clause-second g c =
-    can_hand_second c.args.self.now c.requires.carries.0 c.release-counts.new.self c.released-2.result.now (slice_index c.release-counts.result 1) c.args.bits c.requires.carries.1 c.requires.whole c.requires.most c.release-counts.ensures.second c.released-2.ensures.size
+pub feed_ungated-requires-clause-green : goal.feed_ungated-requires-clause-green
+feed_ungated-requires-clause-green g c =
+    can_hand_green c.args.self.now c.requires.carries.0 c.release-counts.new.self c.released-2.result.now (slice_index c.release-counts.result 1) c.args.bits c.requires.carries.1 c.requires.whole c.requires.most c.release-counts.ensures.green c.released-2.ensures.size
 
-pub feed_ungated-requires-clause-third : goal.feed_ungated-requires-clause-third
-feed_ungated-requires-clause-third g c =
-    can_hand_third c.args.self.now c.requires.carries.0 c.release-counts.new.self c.released-3.result.now (slice_index c.release-counts.result 2) c.args.bits c.requires.carries.1 c.requires.whole c.requires.most c.release-counts.ensures.third c.released-3.ensures.size
+pub feed_ungated-requires-clause-red : goal.feed_ungated-requires-clause-red
+feed_ungated-requires-clause-red g c =
+    can_hand_red c.args.self.now c.requires.carries.0 c.release-counts.new.self c.released-3.result.now (slice_index c.release-counts.result 2) c.args.bits c.requires.carries.1 c.requires.whole c.requires.most c.release-counts.ensures.red c.released-3.ensures.size
 
 pub returns-clause-carries : goal.returns-clause-carries
 returns-clause-carries g c = λ fed carries room.
     let t = c.args.self.now in
     let is = handed_is t fed c.release-counts.new.self c.released.result.now c.released-2.result.now c.released-3.result.now c.release-counts.result c.args.bits carries
-    c.release-counts.ensures.first c.release-counts.ensures.second c.release-counts.ensures.third c.released.ensures.bits c.released-2.ensures.bits c.released-3.ensures.bits in
+    c.release-counts.ensures.blue c.release-counts.ensures.green c.release-counts.ensures.red c.released.ensures.bits c.released-2.ensures.bits c.released-3.ensures.bits in
     carries_handed t fed c.feed_ungated.new.self c.release-counts.new.self c.release-counts.result c.args.bits carries room
-    c.release-counts.ensures.first c.release-counts.ensures.second c.release-counts.ensures.third c.in_ok-feed_ungated.ensures.open
+    c.release-counts.ensures.blue c.release-counts.ensures.green c.release-counts.ensures.red c.in_ok-feed_ungated.ensures.open
     (subst (SinkRepresents c.feed_ungated.new.self) is (c.in_ok-feed_ungated.ensures.fed (front_of t.handed (rest_of t.start fed)) carries.link))
-    c.in_ok-feed_ungated.ensures.first c.in_ok-feed_ungated.ensures.second c.in_ok-feed_ungated.ensures.third
+    c.in_ok-feed_ungated.ensures.blue c.in_ok-feed_ungated.ensures.green c.in_ok-feed_ungated.ensures.red
 
 pub returns-clause-reported : goal.returns-clause-reported
 returns-clause-reported g c = λ fed carries room.
     let t = c.args.self.now in
     let is = handed_is t fed c.release-counts.new.self c.released.result.now c.released-2.result.now c.released-3.result.now c.release-counts.result c.args.bits carries
-    c.release-counts.ensures.first c.release-counts.ensures.second c.release-counts.ensures.third c.released.ensures.bits c.released-2.ensures.bits c.released-3.ensures.bits in
+    c.release-counts.ensures.blue c.release-counts.ensures.green c.release-counts.ensures.red c.released.ensures.bits c.released-2.ensures.bits c.released-3.ensures.bits in
     let reported = c.in_ok-feed_ungated.ensures.reported (front_of t.handed (rest_of t.start fed)) carries.link in
     let P : Fed → Type 0 = λ now. IsGain (front_of t.handed (rest_of t.start fed)) now reported.0 in
     (reported.0, subst P is reported.1, reported.2)
@@ -47,7 +47,7 @@ pub returns-in_err-feed_ungated-clause-stopped : goal.returns-in_err-feed_ungate
 returns-in_err-feed_ungated-clause-stopped g c = λ fed carries room.
     let t = c.args.self.now in
     let is = handed_is t fed c.release-counts.new.self c.released.result.now c.released-2.result.now c.released-3.result.now c.release-counts.result c.args.bits carries
-    c.release-counts.ensures.first c.release-counts.ensures.second c.release-counts.ensures.third c.released.ensures.bits c.released-2.ensures.bits c.released-3.ensures.bits in
+    c.release-counts.ensures.blue c.release-counts.ensures.green c.release-counts.ensures.red c.released.ensures.bits c.released-2.ensures.bits c.released-3.ensures.bits in
     let reported = c.in_err-feed_ungated.ensures.stopped (front_of t.handed (rest_of t.start fed)) carries.link in
     let P : Fed → Type 0 = λ now. IsGain (front_of t.handed (rest_of t.start fed)) now reported.0 in
     on_err {P = LostGain g.E.Ear.took g.E.Ear.broke c.args.ear.now c.feed_ungated.new.ear (rest_of t.start fed) t.handed (t.handed + c.args.bits)} _ (reported.0, subst P is reported.1, reported.2)

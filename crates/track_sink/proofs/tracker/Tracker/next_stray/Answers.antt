@@ -18,7 +18,7 @@ loop-self-preserved c =
     let u = c.loop-self.self in
     let was = c.loop-self.invariant in
     record {
-      stays = stays_more t u c.seek.new.self _ was.stays c.seek.ensures.first c.seek.ensures.second c.seek.ensures.third c.seek.ensures.first_fed c.seek.ensures.second_fed c.seek.ensures.third_fed;
+      stays = stays_more t u c.seek.new.self _ was.stays c.seek.ensures.blue c.seek.ensures.green c.seek.ensures.red c.seek.ensures.blue_fed c.seek.ensures.green_fed c.seek.ensures.red_fed;
       after = let h = was.after in omega arith;
       looked = λ fed carries looked.
           let here = was.looked fed carries looked in

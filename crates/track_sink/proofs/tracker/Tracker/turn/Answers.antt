@@ -18,8 +18,8 @@ returns-then-not-self-clause-carries g c = λ fed can.
     let b = c.in_ok-end.field-0.aligned in
     let lanes = c.end.ensures.lanes in
     carries_turned t u fed c.args.stray b can c.restart.ensures.open c.restart.ensures.link c.restart.ensures.bits
-    (c.restart.ensures.first ∙ ap (λ (ls : Lanes). ls.first.held) lanes) (c.restart.ensures.second ∙ ap (λ (ls : Lanes). ls.second.held) lanes) (c.restart.ensures.third ∙ ap (λ (ls : Lanes). ls.third.held) lanes)
-    (c.restart.ensures.first_fed ∙ ap (λ (ls : Lanes). ls.first.fed) lanes) (c.restart.ensures.second_fed ∙ ap (λ (ls : Lanes). ls.second.fed) lanes) (c.restart.ensures.third_fed ∙ ap (λ (ls : Lanes). ls.third.fed) lanes)
+    (c.restart.ensures.blue ∙ ap (λ (ls : Lanes). ls.blue.held) lanes) (c.restart.ensures.green ∙ ap (λ (ls : Lanes). ls.green.held) lanes) (c.restart.ensures.red ∙ ap (λ (ls : Lanes). ls.red.held) lanes)
+    (c.restart.ensures.blue_fed ∙ ap (λ (ls : Lanes). ls.blue.fed) lanes) (c.restart.ensures.green_fed ∙ ap (λ (ls : Lanes). ls.green.fed) lanes) (c.restart.ensures.red_fed ∙ ap (λ (ls : Lanes). ls.red.fed) lanes)
     (c.restart.ensures.start ∙ ap₂ (λ m n. m + n) c.end.ensures.start c.end.ensures.handed) c.restart.ensures.handed c.restart.ensures.seen
     (c.restart.ensures.epochs ∙ e.epochs) (c.restart.ensures.aligned ∙ e.aligned) c.restart.ensures.sought
 
@@ -43,8 +43,8 @@ returns-clause-carries g c = λ fed can.
     let b = c.in_ok-end.field-0.aligned in
     let lanes = c.end.ensures.lanes in
     carries_turned t u fed c.args.stray b can c.restart.ensures.open c.restart.ensures.link c.restart.ensures.bits
-    (c.restart.ensures.first ∙ ap (λ (ls : Lanes). ls.first.held) lanes) (c.restart.ensures.second ∙ ap (λ (ls : Lanes). ls.second.held) lanes) (c.restart.ensures.third ∙ ap (λ (ls : Lanes). ls.third.held) lanes)
-    (c.restart.ensures.first_fed ∙ ap (λ (ls : Lanes). ls.first.fed) lanes) (c.restart.ensures.second_fed ∙ ap (λ (ls : Lanes). ls.second.fed) lanes) (c.restart.ensures.third_fed ∙ ap (λ (ls : Lanes). ls.third.fed) lanes)
+    (c.restart.ensures.blue ∙ ap (λ (ls : Lanes). ls.blue.held) lanes) (c.restart.ensures.green ∙ ap (λ (ls : Lanes). ls.green.held) lanes) (c.restart.ensures.red ∙ ap (λ (ls : Lanes). ls.red.held) lanes)
+    (c.restart.ensures.blue_fed ∙ ap (λ (ls : Lanes). ls.blue.fed) lanes) (c.restart.ensures.green_fed ∙ ap (λ (ls : Lanes). ls.green.fed) lanes) (c.restart.ensures.red_fed ∙ ap (λ (ls : Lanes). ls.red.fed) lanes)
     (c.restart.ensures.start ∙ ap₂ (λ m n. m + n) c.end.ensures.start c.end.ensures.handed) c.restart.ensures.handed c.restart.ensures.seen
     (c.restart.ensures.epochs ∙ e.epochs) (c.restart.ensures.aligned ∙ e.aligned) c.restart.ensures.sought
 
