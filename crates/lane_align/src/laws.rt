@@ -7,7 +7,7 @@ pub fn one_lock()
     ensures { OneLock }
 {}
 
-/// Two edges of one row are at least 130 bits apart.
+/// Two edges of one row are at least `EDGE_DISTANCE` bits apart.
 pub fn edges_apart()
     ensures { EdgesApart }
 {}

@@ -11,15 +11,12 @@ ghost use Rattle.lane_deskew.specs.Aligned.{place, column_at};
 use crate::Aligned;
 use lane_align::{RUN_BITS, is_control_word};
 use terc4::RUN;
-use tmds_word::{BitRow, Word};
-
-/// How far two edges of an alignment lie apart at most, in bits.
-const NEAR: u32 = 70;
+use tmds_word::{BitRow, GREATEST_SKEW, Word};
 
 /// The bits of a character.
 const WORD: u32 = 10;
 
-/// The first full alignment: the edges, one of each lane, any two within 70 bits of each other, whose
+/// The first full alignment: the edges, one of each lane, any two near each other, whose
 /// largest is least. None exactly where there are no such edges.
 pub(crate) fn first_alignment(blue: &BitRow, green: &BitRow, red: &BitRow) -> Option<Aligned>
     ensures { MatchOption result ((d e f : ℕ) → IsTriple blue.now green.now red.now d e f → ⊥) (λ at. IsAlignment blue.now green.now red.now at.edges) }
@@ -64,12 +61,14 @@ fn later_edges(blue: &BitRow, green: &BitRow, red: &BitRow, edges: [u32; 3]) -> 
     }
 }
 
-/// Whether any two of three edges are within 70 bits of each other.
+/// Whether any two of three edges are near each other.
 fn are_near(edges: [u32; 3]) -> bool
     ensures { IsTrue result ↔ AreAllNear (slice_index edges 0) (slice_index edges 1) (slice_index edges 2) }
 {
     let [d, e, f] = edges;
-    d.abs_diff(e) <= NEAR && e.abs_diff(f) <= NEAR && d.abs_diff(f) <= NEAR
+    d.abs_diff(e) <= GREATEST_SKEW
+        && e.abs_diff(f) <= GREATEST_SKEW
+        && d.abs_diff(f) <= GREATEST_SKEW
 }
 
 /// The next edge of a lane after one.

@@ -3,6 +3,7 @@
 use Rattle.std.specs.Prelude.{◌≡◌, ℕ, ◌+◌, ◌*◌, ◌≤◌, Bool, List, length, take, drop, slice_index}
 use Rattle.tmds_word.specs.Bits.{row_bits}
 use Rattle.tmds_word.specs.Column.{Column, blues, greens, reds}
+use Rattle.tmds_word.specs.declared.TheConstants.{GREATEST_SKEW}
 
 -- so many bits of a lane, from a place on; fewer where the lane ends before
 abbrev pub part_of : List ℕ → ℕ → ℕ → List Bool
@@ -19,10 +20,9 @@ pub record IsTap (columns : List Column) (offset : ℕ) (skews counts : List ℕ
   pub green_part : IsPart (greens columns) (offset + slice_index skews 1) (slice_index counts 1) green
   pub red_part : IsPart (reds columns) (offset + slice_index skews 2) (slice_index counts 2) red
 
--- places of two lanes within seven characters of each other: the limit is this project's own. It is less than any run of
--- control characters has
+-- places of two lanes that are no further apart than lanes may be: the limit is this project's own
 abbrev pub AreNear : ℕ → ℕ → Type 0
-AreNear d e = (d ≤ e + 70) × (e ≤ d + 70)
+AreNear d e = (d ≤ e + GREATEST_SKEW) × (e ≤ d + GREATEST_SKEW)
 
 -- any two skews are near each other
 pub record HasSmallSkew (skews : List ℕ) : Type 0 where
