@@ -26,15 +26,15 @@ pub halfway_head : (version : ℕ) (counts : List ℕ) (hits : List Hit) (before
 halfway_head version counts hits before now s wrote =
     let h = header_of version counts in
     let front : IsDamagedFront version counts hits 0 h h = record {
-      x = [];
-      y = [];
-      z = [];
+      blue = [];
+      green = [];
+      red = [];
       read = record {
         head = h;
         headed = record { version = version; said = s; head_is = refl };
-        count_x = omega arith;
-        count_y = omega arith;
-        count_z = omega arith;
+        count_blue = omega arith;
+        count_green = omega arith;
+        count_red = omega arith;
         taken_is = sym (ap (λ xs. h ++ xs) (none_below (packed []) (packed []) (packed [])) ∙ append-nil h);
         place_is = omega (arith, size_of version counts s);
       };
@@ -52,46 +52,46 @@ halfway_done version counts hits j taken before now lanes fit none was =
     let head = header_of version counts in
     let h = was.front in
     let b = no_block counts j none in
-    let e0 : length h.x ≡ slice_index counts 0 = omega (arith, h.read.count_x, b.0) in
-    let e1 : length h.y ≡ slice_index counts 1 = omega (arith, h.read.count_y, b.1) in
-    let e2 : length h.z ≡ slice_index counts 2 = omega (arith, h.read.count_z, b.2) in
-    let f = damaged 0 hits h.x in
-    let g = damaged 1 hits h.y in
-    let k = damaged 2 hits h.z in
-    let l0 : length f ≡ slice_index counts 0 = damaged_all 0 hits h.x (lane_fits counts hits 0 (length h.x) fit e0) ∙ e0 in
-    let l1 : length g ≡ slice_index counts 1 = damaged_all 1 hits h.y (lane_fits counts hits 1 (length h.y) fit e1) ∙ e1 in
-    let l2 : length k ≡ slice_index counts 2 = damaged_all 2 hits h.z (lane_fits counts hits 2 (length h.z) fit e2) ∙ e2 in
+    let e0 : length h.blue ≡ slice_index counts 0 = omega (arith, h.read.count_blue, b.0) in
+    let e1 : length h.green ≡ slice_index counts 1 = omega (arith, h.read.count_green, b.1) in
+    let e2 : length h.red ≡ slice_index counts 2 = omega (arith, h.read.count_red, b.2) in
+    let f = damaged 0 hits h.blue in
+    let g = damaged 1 hits h.green in
+    let k = damaged 2 hits h.red in
+    let l0 : length f ≡ slice_index counts 0 = damaged_all 0 hits h.blue (lane_fits counts hits 0 (length h.blue) fit e0) ∙ e0 in
+    let l1 : length g ≡ slice_index counts 1 = damaged_all 1 hits h.green (lane_fits counts hits 1 (length h.green) fit e1) ∙ e1 in
+    let l2 : length k ≡ slice_index counts 2 = damaged_all 2 hits h.red (lane_fits counts hits 2 (length h.red) fit e2) ∙ e2 in
     let below = blocks_below j (packed f) (packed g) (packed k) in
     let headed : IsHeader head counts = record { version = version; said = h.said; head_is = refl } in
     let own : HasRead counts j (length (head ++ below)) (head ++ below) f g k =
     record {
       head = head;
       headed = headed;
-      count_x = omega (arith, l0, b.0);
-      count_y = omega (arith, l1, b.1);
-      count_z = omega (arith, l2, b.2);
+      count_blue = omega (arith, l0, b.0);
+      count_green = omega (arith, l1, b.1);
+      count_red = omega (arith, l2, b.2);
       taken_is = refl;
       place_is = refl;
     } in
     let new = (ended counts j (length (head ++ below)) (head ++ below) f g k own none).holds in
-    let old = (ended counts j (place_at version counts j) taken h.x h.y h.z h.read none).holds in
+    let old = (ended counts j (place_at version counts j) taken h.blue h.green h.red h.read none).holds in
     let new_head = (same_heads new.head head (counts_of f g k) counts (lane_blocks f g k) below new.headed headed (sym new.bytes_are)).same in
-    let same = same_heads old.head h.read.head (counts_of h.x h.y h.z) counts (lane_blocks h.x h.y h.z) (blocks_below j (packed h.x) (packed h.y) (packed h.z)) old.headed h.read.headed (sym old.bytes_are ∙ h.read.taken_is) in
+    let same = same_heads old.head h.read.head (counts_of h.blue h.green h.red) counts (lane_blocks h.blue h.green h.red) (blocks_below j (packed h.blue) (packed h.green) (packed h.red)) old.headed h.read.headed (sym old.bytes_are ∙ h.read.taken_is) in
     let old_head : old.head ≡ head = same.same ∙ h.head_is in
     let whole : head ++ below ≡ old.head ++ lane_blocks f g k = new.bytes_are ∙ ap (λ xs. xs ++ lane_blocks f g k) (new_head ∙ sym old_head) in
-    let x_is = append-nil h.x in
-    let y_is = append-nil h.y in
-    let z_is = append-nil h.z in
-    let written : head ++ blocks_below j (packed (damaged 0 hits (h.x ++ []))) (packed (damaged 1 hits (h.y ++ []))) (packed (damaged 2 hits (h.z ++ []))) ≡ head ++ below =
-    ap (λ r. head ++ blocks_below j (packed (damaged 0 hits r)) (packed (damaged 1 hits (h.y ++ []))) (packed (damaged 2 hits (h.z ++ [])))) x_is
+    let x_is = append-nil h.blue in
+    let y_is = append-nil h.green in
+    let z_is = append-nil h.red in
+    let written : head ++ blocks_below j (packed (damaged 0 hits (h.blue ++ []))) (packed (damaged 1 hits (h.green ++ []))) (packed (damaged 2 hits (h.red ++ []))) ≡ head ++ below =
+    ap (λ r. head ++ blocks_below j (packed (damaged 0 hits r)) (packed (damaged 1 hits (h.green ++ []))) (packed (damaged 2 hits (h.red ++ [])))) x_is
     ∙ ap₂ (λ r s. head ++ blocks_below j (packed f) (packed (damaged 1 hits r)) (packed (damaged 2 hits s))) y_is z_is in (
       old.head ++ lane_blocks f g k,
       record {
-        x = h.x;
-        y = h.y;
-        z = h.z;
+        blue = h.blue;
+        green = h.green;
+        red = h.red;
         holds = old;
-        fits = fits_same counts (counts_of h.x h.y h.z) hits (λ c lt. sym (same.count c lt)) lanes fit;
+        fits = fits_same counts (counts_of h.blue h.green h.red) hits (λ c lt. sym (same.count c lt)) lanes fit;
         whole_is = refl;
       },
       subst (λ bs. Appends before now bs) (h.out_is [] [] [] (ap length x_is ∙ e0) (ap length y_is ∙ e1) (ap length z_is ∙ e2) ∙ written ∙ whole) was.wrote,

@@ -59,8 +59,8 @@ next_head version counts taken part x y z j place said head blocks is own r =
 
 -- what was written, however the lanes go on
 halfway_wrote : (version : ℕ) (counts : List ℕ) (hits : List Hit) (j : ℕ) (taken : List ℕ) (before now : Option (List ℕ)) → (h : Halfway version counts hits j taken before now)
-    → (u v w : List Bool) → length (h.front.x ++ u) ≡ slice_index counts 0 → length (h.front.y ++ v) ≡ slice_index counts 1 → length (h.front.z ++ w) ≡ slice_index counts 2
-    → Appends before now (header_of version counts ++ blocks_below j (packed (damaged 0 hits (h.front.x ++ u))) (packed (damaged 1 hits (h.front.y ++ v))) (packed (damaged 2 hits (h.front.z ++ w))))
+    → (u v w : List Bool) → length (h.front.blue ++ u) ≡ slice_index counts 0 → length (h.front.green ++ v) ≡ slice_index counts 1 → length (h.front.red ++ w) ≡ slice_index counts 2
+    → Appends before now (header_of version counts ++ blocks_below j (packed (damaged 0 hits (h.front.blue ++ u))) (packed (damaged 1 hits (h.front.green ++ v))) (packed (damaged 2 hits (h.front.red ++ w))))
 halfway_wrote version counts hits j taken before now h u v w eu ev ew = subst (λ bs. Appends before now bs) (h.front.out_is u v w eu ev ew) h.wrote
 
 -- a block more
@@ -73,31 +73,31 @@ halfway_more version counts hits j taken before mid now a b d a' b' d' fit la lb
     let old = was.front in
     let own = (packed a' ++ packed b') ++ packed d' in
     let front : IsDamagedFront version counts hits (j + 1) (taken ++ ((packed a ++ packed b) ++ packed d)) (was.out ++ own) = record {
-      x = old.x ++ a;
-      y = old.y ++ b;
-      z = old.z ++ d;
-      read = stands_more version counts j taken old.x old.y old.z a b d old.read la lb ld;
+      blue = old.blue ++ a;
+      green = old.green ++ b;
+      red = old.red ++ d;
+      read = stands_more version counts j taken old.blue old.green old.red a b d old.read la lb ld;
       said = old.said;
-      head_is = next_head version counts taken ((packed a ++ packed b) ++ packed d) (old.x ++ a) (old.y ++ b) (old.z ++ d) (j + 1) _ old.said old.read.head (blocks_below j (packed old.x) (packed old.y) (packed old.z)) old.read.taken_is old.head_is
-          (stands_more version counts j taken old.x old.y old.z a b d old.read la lb ld);
+      head_is = next_head version counts taken ((packed a ++ packed b) ++ packed d) (old.blue ++ a) (old.green ++ b) (old.red ++ d) (j + 1) _ old.said old.read.head (blocks_below j (packed old.blue) (packed old.green) (packed old.red)) old.read.taken_is old.head_is
+          (stands_more version counts j taken old.blue old.green old.red a b d old.read la lb ld);
       out_is = λ u v w eu ev ew.
-          let f = damaged 0 hits (old.x ++ (a ++ u)) in
-          let g = damaged 1 hits (old.y ++ (b ++ v)) in
-          let h = damaged 2 hits (old.z ++ (d ++ w)) in
-          let e0 = append_assoc old.x a u in
-          let e1 = append_assoc old.y b v in
-          let e2 = append_assoc old.z d w in
+          let f = damaged 0 hits (old.blue ++ (a ++ u)) in
+          let g = damaged 1 hits (old.green ++ (b ++ v)) in
+          let h = damaged 2 hits (old.red ++ (d ++ w)) in
+          let e0 = append_assoc old.blue a u in
+          let e1 = append_assoc old.green b v in
+          let e2 = append_assoc old.red d w in
           let first = old.out_is (a ++ u) (b ++ v) (d ++ w) (ap length (sym e0) ∙ eu) (ap length (sym e1) ∙ ev) (ap length (sym e2) ∙ ew) in
-          let c0 = damaged_chunk 0 (slice_index counts 0) j hits old.x a u a' old.read.count_x la eu (lane_fits counts hits 0 (slice_index counts 0) fit refl) ha in
-          let c1 = damaged_chunk 1 (slice_index counts 1) j hits old.y b v b' old.read.count_y lb ev (lane_fits counts hits 1 (slice_index counts 1) fit refl) hb in
-          let c2 = damaged_chunk 2 (slice_index counts 2) j hits old.z d w d' old.read.count_z ld ew (lane_fits counts hits 2 (slice_index counts 2) fit refl) hd in
+          let c0 = damaged_chunk 0 (slice_index counts 0) j hits old.blue a u a' old.read.count_blue la eu (lane_fits counts hits 0 (slice_index counts 0) fit refl) ha in
+          let c1 = damaged_chunk 1 (slice_index counts 1) j hits old.green b v b' old.read.count_green lb ev (lane_fits counts hits 1 (slice_index counts 1) fit refl) hb in
+          let c2 = damaged_chunk 2 (slice_index counts 2) j hits old.red d w d' old.read.count_red ld ew (lane_fits counts hits 2 (slice_index counts 2) fit refl) hd in
           let block_is_own : block j (packed f) (packed g) (packed h) ≡ (packed a' ++ packed b') ++ packed d' =
           block_is j (packed f) (packed g) (packed h) ∙ ap₂ (λ p q. (p ++ q) ++ chunk j (packed h)) c0 c1 ∙ ap (λ q. (packed a' ++ packed b') ++ q) c2 in
           let all : head ++ blocks_below (j + 1) (packed f) (packed g) (packed h) ≡ (head ++ blocks_below j (packed f) (packed g) (packed h)) ++ ((packed a' ++ packed b') ++ packed d') =
           blocks-more head (packed f) (packed g) (packed h) j ∙ ap (λ q. (head ++ blocks_below j (packed f) (packed g) (packed h)) ++ q) block_is_own in
-          let same : head ++ blocks_below (j + 1) (packed (damaged 0 hits ((old.x ++ a) ++ u))) (packed (damaged 1 hits ((old.y ++ b) ++ v))) (packed (damaged 2 hits ((old.z ++ d) ++ w)))
+          let same : head ++ blocks_below (j + 1) (packed (damaged 0 hits ((old.blue ++ a) ++ u))) (packed (damaged 1 hits ((old.green ++ b) ++ v))) (packed (damaged 2 hits ((old.red ++ d) ++ w)))
           ≡ head ++ blocks_below (j + 1) (packed f) (packed g) (packed h) =
-          ap (λ r. head ++ blocks_below (j + 1) (packed (damaged 0 hits r)) (packed (damaged 1 hits ((old.y ++ b) ++ v))) (packed (damaged 2 hits ((old.z ++ d) ++ w)))) e0
+          ap (λ r. head ++ blocks_below (j + 1) (packed (damaged 0 hits r)) (packed (damaged 1 hits ((old.green ++ b) ++ v))) (packed (damaged 2 hits ((old.red ++ d) ++ w)))) e0
           ∙ ap₂ (λ r s. head ++ blocks_below (j + 1) (packed f) (packed (damaged 1 hits r)) (packed (damaged 2 hits s))) e1 e2 in
           ap (λ q. q ++ own) first ∙ sym (same ∙ all);
     } in
@@ -150,49 +150,49 @@ halfway_cut version counts hits j gone taken before mid now a b d a' b' d' fit l
     let size : length old ≡ block_size j counts =
     omega (arith, la, lb, ld, length-append (packed a ++ packed b) (packed d), length-append (packed a) (packed b), length-packed a, length-packed b, length-packed d) in
     record {
-      x = was.front.x ++ a;
-      y = was.front.y ++ b;
-      z = was.front.z ++ d;
-      read = stands_more version counts j taken was.front.x was.front.y was.front.z a b d was.front.read la lb ld;
+      blue = was.front.blue ++ a;
+      green = was.front.green ++ b;
+      red = was.front.red ++ d;
+      read = stands_more version counts j taken was.front.blue was.front.green was.front.red a b d was.front.read la lb ld;
       said = was.front.said;
-      head_is = next_head version counts taken ((packed a ++ packed b) ++ packed d) (was.front.x ++ a) (was.front.y ++ b) (was.front.z ++ d) (j + 1) _ was.front.said was.front.read.head (blocks_below j (packed was.front.x) (packed was.front.y) (packed was.front.z)) was.front.read.taken_is was.front.head_is
-          (stands_more version counts j taken was.front.x was.front.y was.front.z a b d was.front.read la lb ld);
+      head_is = next_head version counts taken ((packed a ++ packed b) ++ packed d) (was.front.blue ++ a) (was.front.green ++ b) (was.front.red ++ d) (j + 1) _ was.front.said was.front.read.head (blocks_below j (packed was.front.blue) (packed was.front.green) (packed was.front.red)) was.front.read.taken_is was.front.head_is
+          (stands_more version counts j taken was.front.blue was.front.green was.front.red a b d was.front.read la lb ld);
       gone = length taken + gone;
       missing = omega (arith, less, long, length-append taken old);
       most = omega (arith, size, length-append taken old);
       wrote = λ u v w eu ev ew.
-          let f = damaged 0 hits (was.front.x ++ (a ++ u)) in
-          let g = damaged 1 hits (was.front.y ++ (b ++ v)) in
-          let h = damaged 2 hits (was.front.z ++ (d ++ w)) in
-          let e0 = append_assoc was.front.x a u in
-          let e1 = append_assoc was.front.y b v in
-          let e2 = append_assoc was.front.z d w in
+          let f = damaged 0 hits (was.front.blue ++ (a ++ u)) in
+          let g = damaged 1 hits (was.front.green ++ (b ++ v)) in
+          let h = damaged 2 hits (was.front.red ++ (d ++ w)) in
+          let e0 = append_assoc was.front.blue a u in
+          let e1 = append_assoc was.front.green b v in
+          let e2 = append_assoc was.front.red d w in
           let t0 = ap length (sym e0) ∙ eu in
           let t1 = ap length (sym e1) ∙ ev in
           let t2 = ap length (sym e2) ∙ ew in
           let first = halfway_wrote version counts hits j taken before mid was (a ++ u) (b ++ v) (d ++ w) t0 t1 t2 in
-          let c0 = damaged_chunk 0 (slice_index counts 0) j hits was.front.x a u a' was.front.read.count_x la eu (lane_fits counts hits 0 (slice_index counts 0) fit refl) ha in
-          let c1 = damaged_chunk 1 (slice_index counts 1) j hits was.front.y b v b' was.front.read.count_y lb ev (lane_fits counts hits 1 (slice_index counts 1) fit refl) hb in
-          let c2 = damaged_chunk 2 (slice_index counts 2) j hits was.front.z d w d' was.front.read.count_z ld ew (lane_fits counts hits 2 (slice_index counts 2) fit refl) hd in
-          let f_long = damaged_all 0 hits (was.front.x ++ (a ++ u)) (lane_fits counts hits 0 (length (was.front.x ++ (a ++ u))) fit t0) ∙ t0 in
-          let g_long = damaged_all 1 hits (was.front.y ++ (b ++ v)) (lane_fits counts hits 1 (length (was.front.y ++ (b ++ v))) fit t1) ∙ t1 in
-          let h_long = damaged_all 2 hits (was.front.z ++ (d ++ w)) (lane_fits counts hits 2 (length (was.front.z ++ (d ++ w))) fit t2) ∙ t2 in
+          let c0 = damaged_chunk 0 (slice_index counts 0) j hits was.front.blue a u a' was.front.read.count_blue la eu (lane_fits counts hits 0 (slice_index counts 0) fit refl) ha in
+          let c1 = damaged_chunk 1 (slice_index counts 1) j hits was.front.green b v b' was.front.read.count_green lb ev (lane_fits counts hits 1 (slice_index counts 1) fit refl) hb in
+          let c2 = damaged_chunk 2 (slice_index counts 2) j hits was.front.red d w d' was.front.read.count_red ld ew (lane_fits counts hits 2 (slice_index counts 2) fit refl) hd in
+          let f_long = damaged_all 0 hits (was.front.blue ++ (a ++ u)) (lane_fits counts hits 0 (length (was.front.blue ++ (a ++ u))) fit t0) ∙ t0 in
+          let g_long = damaged_all 1 hits (was.front.green ++ (b ++ v)) (lane_fits counts hits 1 (length (was.front.green ++ (b ++ v))) fit t1) ∙ t1 in
+          let h_long = damaged_all 2 hits (was.front.red ++ (d ++ w)) (lane_fits counts hits 2 (length (was.front.red ++ (d ++ w))) fit t2) ∙ t2 in
           let front = head ++ blocks_below j (packed f) (packed g) (packed h) in
           let front_long : length front ≡ length taken =
           omega (
             arith,
-            same_long counts j was.front.x was.front.y was.front.z f g h was.front.read.count_x was.front.read.count_y was.front.read.count_z f_long g_long h_long,
+            same_long counts j was.front.blue was.front.green was.front.red f g h was.front.read.count_blue was.front.read.count_green was.front.read.count_red f_long g_long h_long,
             length-append head (blocks_below j (packed f) (packed g) (packed h)),
             ap length was.front.read.taken_is,
-            length-append was.front.read.head (blocks_below j (packed was.front.x) (packed was.front.y) (packed was.front.z)),
+            length-append was.front.read.head (blocks_below j (packed was.front.blue) (packed was.front.green) (packed was.front.red)),
             ap length was.front.head_is,
           ) in
           let own_block : block j (packed f) (packed g) (packed h) ≡ own =
           block_is j (packed f) (packed g) (packed h) ∙ ap₂ (λ p q. (p ++ q) ++ chunk j (packed h)) c0 c1 ∙ ap (λ q. (packed a' ++ packed b') ++ q) c2 in
           let all : head ++ blocks_below (j + 1) (packed f) (packed g) (packed h) ≡ front ++ own = blocks-more head (packed f) (packed g) (packed h) j ∙ ap (λ q. front ++ q) own_block in
-          let same : head ++ blocks_below (j + 1) (packed (damaged 0 hits ((was.front.x ++ a) ++ u))) (packed (damaged 1 hits ((was.front.y ++ b) ++ v))) (packed (damaged 2 hits ((was.front.z ++ d) ++ w)))
+          let same : head ++ blocks_below (j + 1) (packed (damaged 0 hits ((was.front.blue ++ a) ++ u))) (packed (damaged 1 hits ((was.front.green ++ b) ++ v))) (packed (damaged 2 hits ((was.front.red ++ d) ++ w)))
           ≡ head ++ blocks_below (j + 1) (packed f) (packed g) (packed h) =
-          ap (λ r. head ++ blocks_below (j + 1) (packed (damaged 0 hits r)) (packed (damaged 1 hits ((was.front.y ++ b) ++ v))) (packed (damaged 2 hits ((was.front.z ++ d) ++ w)))) e0
+          ap (λ r. head ++ blocks_below (j + 1) (packed (damaged 0 hits r)) (packed (damaged 1 hits ((was.front.green ++ b) ++ v))) (packed (damaged 2 hits ((was.front.red ++ d) ++ w)))) e0
           ∙ ap₂ (λ r s. head ++ blocks_below (j + 1) (packed f) (packed (damaged 1 hits r)) (packed (damaged 2 hits s))) e1 e2 in
           Appends-part before mid now front own [] _ (length taken) gone (same ∙ all ∙ sym (append-nil (front ++ own))) front_long less first wrote;
     }

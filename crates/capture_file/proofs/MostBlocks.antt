@@ -110,5 +110,5 @@ most_blocks bytes place taken rest counts took j x y z u v w is read before b =
       | inr le ↦ inl le
     ] in
     no_longer c d e j k x y z u v w there
-    (read.count_x ∙ ap (λ i. min i (32768 * j)) first) (read.count_y ∙ ap (λ i. min i (32768 * j)) second) (read.count_z ∙ ap (λ i. min i (32768 * j)) third)
-    b.read.count_x b.read.count_y b.read.count_z
+    (read.count_blue ∙ ap (λ i. min i (32768 * j)) first) (read.count_green ∙ ap (λ i. min i (32768 * j)) second) (read.count_red ∙ ap (λ i. min i (32768 * j)) third)
+    b.read.count_blue b.read.count_green b.read.count_red

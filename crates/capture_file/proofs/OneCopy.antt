@@ -27,14 +27,14 @@ AreOfLanes hits = All (λ (h : Hit). h.lane < 3) hits
 
 pub one_damaged : (bytes : List ℕ) (hits : List Hit) (whole other : List ℕ) → IsDamagedCapture bytes hits whole → IsDamagedCapture bytes hits other → whole ≡ other
 one_damaged bytes hits whole other a b =
-    let heads = same_heads a.holds.head b.holds.head (counts_of a.x a.y a.z) (counts_of b.x b.y b.z) (lane_blocks a.x a.y a.z) (lane_blocks b.x b.y b.z) a.holds.headed b.holds.headed
+    let heads = same_heads a.holds.head b.holds.head (counts_of a.blue a.green a.red) (counts_of b.blue b.green b.red) (lane_blocks a.blue a.green a.red) (lane_blocks b.blue b.green b.red) a.holds.headed b.holds.headed
     (sym a.holds.bytes_are ∙ b.holds.bytes_are) in
-    let same = one_capture a.x a.y a.z b.x b.y b.z bytes a.holds b.holds in
+    let same = one_capture a.blue a.green a.red b.blue b.green b.red bytes a.holds b.holds in
     a.whole_is ∙ (λ i. heads.same i ++ lane_blocks (damaged 0 hits (same.blue i)) (damaged 1 hits (same.green i)) (damaged 2 hits (same.red i))) ∙ sym b.whole_is
 
 pub one_slipped : (bytes : List ℕ) (lane place count : ℕ) (whole other : List ℕ) → IsSlippedCapture bytes lane place count whole → IsSlippedCapture bytes lane place count other → whole ≡ other
 one_slipped bytes lane place count whole other a b =
-    let same = one_capture a.x a.y a.z b.x b.y b.z bytes a.holds b.holds in
+    let same = one_capture a.blue a.green a.red b.blue b.green b.red bytes a.holds b.holds in
     a.whole_is ∙ (λ i. layout 2 (slipped lane place count 0 (same.blue i)) (slipped lane place count 1 (same.green i)) (slipped lane place count 2 (same.red i))) ∙ sym b.whole_is
 
 -- ---- a hit past its lane
@@ -66,8 +66,8 @@ one_misplaced bytes hits i k lanes a b = elim (cases_lt i k) [
 -- where there is a copy with hits, none passes its lane
 pub none_past : (bytes : List ℕ) (hits : List Hit) (whole : List ℕ) (i : ℕ) → AreOfLanes hits → IsDamagedCapture bytes hits whole → IsMisplacedIn bytes hits i → ⊥
 none_past bytes hits whole i lanes a b =
-    let same = one_header bytes b.head b.tail b.counts a.holds.head (lane_blocks a.x a.y a.z) (counts_of a.x a.y a.z) b.headed b.bytes_are a.holds.headed a.holds.bytes_are in
-    b.first.passes (fits_there hits i b.first.hit b.head a.holds.head b.counts (counts_of a.x a.y a.z) lanes b.first.here same (a.fits i b.first.hit b.first.here))
+    let same = one_header bytes b.head b.tail b.counts a.holds.head (lane_blocks a.blue a.green a.red) (counts_of a.blue a.green a.red) b.headed b.bytes_are a.holds.headed a.holds.bytes_are in
+    b.first.passes (fits_there hits i b.first.hit b.head a.holds.head b.counts (counts_of a.blue a.green a.red) lanes b.first.here same (a.fits i b.first.hit b.first.here))
 
 -- ---- the damaged copy before a place
 
@@ -81,7 +81,7 @@ no_longer j k p q r le long = elim (cases_lt j k) [
   | inr same ↦ let e : j ≡ k = omega (arith, le, same) in ap (λ n. blocks_below n p q r) e
 ]
 
-read_damaged : (bytes : List ℕ) (place : ℕ) (hits : List Hit) (out : List ℕ) → (a : IsDamagedBefore bytes place hits out) → IsReadBefore bytes place a.taken a.front.x a.front.y a.front.z
+read_damaged : (bytes : List ℕ) (place : ℕ) (hits : List Hit) (out : List ℕ) → (a : IsDamagedBefore bytes place hits out) → IsReadBefore bytes place a.taken a.front.blue a.front.green a.front.red
 read_damaged bytes place hits out a =
     let was = a.front.read in
     record {
@@ -89,18 +89,18 @@ read_damaged bytes place hits out a =
       counts = a.counts;
       block = a.block;
       bytes_are = a.bytes_are;
-      read = record { head = was.head; headed = was.headed; count_x = was.count_x; count_y = was.count_y; count_z = was.count_z; taken_is = was.taken_is; place_is = refl };
+      read = record { head = was.head; headed = was.headed; count_blue = was.count_blue; count_green = was.count_green; count_red = was.count_red; taken_is = was.taken_is; place_is = refl };
       stops = a.stops;
     }
 
 -- the bytes after the header
 abbrev after_head : (bytes : List ℕ) (place : ℕ) (hits : List Hit) (out : List ℕ) → IsDamagedBefore bytes place hits out → List ℕ
-after_head bytes place hits out a = blocks_below a.block (packed a.front.x) (packed a.front.y) (packed a.front.z) ++ a.rest
+after_head bytes place hits out a = blocks_below a.block (packed a.front.blue) (packed a.front.green) (packed a.front.red) ++ a.rest
 
 head_stands : (bytes : List ℕ) (place : ℕ) (hits : List Hit) (out : List ℕ) → (a : IsDamagedBefore bytes place hits out) → bytes ≡ a.front.read.head ++ after_head bytes place hits out a
 head_stands bytes place hits out a =
     a.bytes_are ∙ ap (λ bs. bs ++ a.rest) a.front.read.taken_is
-    ∙ append_assoc a.front.read.head (blocks_below a.block (packed a.front.x) (packed a.front.y) (packed a.front.z)) a.rest
+    ∙ append_assoc a.front.read.head (blocks_below a.block (packed a.front.blue) (packed a.front.green) (packed a.front.red)) a.rest
 
 -- bits with which a lane has its count
 abbrev missing : ℕ → List Bool → List Bool
@@ -122,34 +122,34 @@ long_lane counts lane j hits row fit is =
 -- what is written, with lanes that are filled up
 written : (bytes : List ℕ) (place : ℕ) (hits : List Hit) (out : List ℕ) → (a : IsDamagedBefore bytes place hits out)
     → out ≡ a.front.read.head ++ blocks_below a.block
-    (packed (filled_lane 0 hits (slice_index a.counts 0) a.front.x)) (packed (filled_lane 1 hits (slice_index a.counts 1) a.front.y)) (packed (filled_lane 2 hits (slice_index a.counts 2) a.front.z))
+    (packed (filled_lane 0 hits (slice_index a.counts 0) a.front.blue)) (packed (filled_lane 1 hits (slice_index a.counts 1) a.front.green)) (packed (filled_lane 2 hits (slice_index a.counts 2) a.front.red))
 written bytes place hits out a =
     let f = a.front in
-    let x = filled_up (slice_index a.counts 0) f.x (omega (arith, f.read.count_x)) in
-    let y = filled_up (slice_index a.counts 1) f.y (omega (arith, f.read.count_y)) in
-    let z = filled_up (slice_index a.counts 2) f.z (omega (arith, f.read.count_z)) in
+    let x = filled_up (slice_index a.counts 0) f.blue (omega (arith, f.read.count_blue)) in
+    let y = filled_up (slice_index a.counts 1) f.green (omega (arith, f.read.count_green)) in
+    let z = filled_up (slice_index a.counts 2) f.red (omega (arith, f.read.count_red)) in
     f.out_is _ _ _ x y z
-    ∙ ap (λ h. h ++ blocks_below a.block (packed (filled_lane 0 hits (slice_index a.counts 0) f.x)) (packed (filled_lane 1 hits (slice_index a.counts 1) f.y)) (packed (filled_lane 2 hits (slice_index a.counts 2) f.z))) (sym f.head_is)
+    ∙ ap (λ h. h ++ blocks_below a.block (packed (filled_lane 0 hits (slice_index a.counts 0) f.blue)) (packed (filled_lane 1 hits (slice_index a.counts 1) f.green)) (packed (filled_lane 2 hits (slice_index a.counts 2) f.red))) (sym f.head_is)
 
 -- of as many bytes as were read after the header
 as_many : (bytes : List ℕ) (place : ℕ) (hits : List Hit) (out : List ℕ) → (a : IsDamagedBefore bytes place hits out) → AllFitLanes a.counts hits
     → length a.taken ≡ length a.front.read.head + length (blocks_below a.block
-    (packed (filled_lane 0 hits (slice_index a.counts 0) a.front.x)) (packed (filled_lane 1 hits (slice_index a.counts 1) a.front.y)) (packed (filled_lane 2 hits (slice_index a.counts 2) a.front.z)))
+    (packed (filled_lane 0 hits (slice_index a.counts 0) a.front.blue)) (packed (filled_lane 1 hits (slice_index a.counts 1) a.front.green)) (packed (filled_lane 2 hits (slice_index a.counts 2) a.front.red)))
 as_many bytes place hits out a fit =
     let f = a.front in
     ap length f.read.taken_is
-    ∙ length-append f.read.head (blocks_below a.block (packed f.x) (packed f.y) (packed f.z))
-    ∙ ap (λ n. length f.read.head + n) (sym (same_long a.counts a.block f.x f.y f.z
-    (filled_lane 0 hits (slice_index a.counts 0) f.x) (filled_lane 1 hits (slice_index a.counts 1) f.y) (filled_lane 2 hits (slice_index a.counts 2) f.z)
-    f.read.count_x f.read.count_y f.read.count_z
-    (long_lane a.counts 0 a.block hits f.x fit f.read.count_x) (long_lane a.counts 1 a.block hits f.y fit f.read.count_y) (long_lane a.counts 2 a.block hits f.z fit f.read.count_z)))
+    ∙ length-append f.read.head (blocks_below a.block (packed f.blue) (packed f.green) (packed f.red))
+    ∙ ap (λ n. length f.read.head + n) (sym (same_long a.counts a.block f.blue f.green f.red
+    (filled_lane 0 hits (slice_index a.counts 0) f.blue) (filled_lane 1 hits (slice_index a.counts 1) f.green) (filled_lane 2 hits (slice_index a.counts 2) f.red)
+    f.read.count_blue f.read.count_green f.read.count_red
+    (long_lane a.counts 0 a.block hits f.blue fit f.read.count_blue) (long_lane a.counts 1 a.block hits f.green fit f.read.count_green) (long_lane a.counts 2 a.block hits f.red fit f.read.count_red)))
 
 one_way : (bytes : List ℕ) (place : ℕ) (hits : List Hit) (out other : List ℕ) → AreWithinLanes bytes hits → (a : IsDamagedBefore bytes place hits out) → (b : IsDamagedBefore bytes place hits other)
     → a.block ≤ b.block → out ≡ other
 one_way bytes place hits out other within a b le =
     let f = a.front in
     let g = b.front in
-    let one = one_reading bytes place a.taken b.taken f.x f.y f.z g.x g.y g.z (read_damaged bytes place hits out a) (read_damaged bytes place hits other b) in
+    let one = one_reading bytes place a.taken b.taken f.blue f.green f.red g.blue g.green g.red (read_damaged bytes place hits out a) (read_damaged bytes place hits other b) in
     let heads = one_header bytes f.read.head (after_head bytes place hits out a) a.counts g.read.head (after_head bytes place hits other b) b.counts
     f.read.headed (head_stands bytes place hits out a) g.read.headed (head_stands bytes place hits other b) in
     let fit_a = within f.read.head a.counts (after_head bytes place hits out a) f.read.headed (head_stands bytes place hits out a) in
@@ -158,12 +158,12 @@ one_way bytes place hits out other within a b le =
     let c1 = heads.count 1 (omega arith) in
     let c2 = heads.count 2 (omega arith) in
     let same = one.1 in
-    let p = packed (filled_lane 0 hits (slice_index a.counts 0) f.x) in
-    let q = packed (filled_lane 1 hits (slice_index a.counts 1) f.y) in
-    let r = packed (filled_lane 2 hits (slice_index a.counts 2) f.z) in
-    let p' = packed (filled_lane 0 hits (slice_index b.counts 0) g.x) in
-    let q' = packed (filled_lane 1 hits (slice_index b.counts 1) g.y) in
-    let r' = packed (filled_lane 2 hits (slice_index b.counts 2) g.z) in
+    let p = packed (filled_lane 0 hits (slice_index a.counts 0) f.blue) in
+    let q = packed (filled_lane 1 hits (slice_index a.counts 1) f.green) in
+    let r = packed (filled_lane 2 hits (slice_index a.counts 2) f.red) in
+    let p' = packed (filled_lane 0 hits (slice_index b.counts 0) g.blue) in
+    let q' = packed (filled_lane 1 hits (slice_index b.counts 1) g.green) in
+    let r' = packed (filled_lane 2 hits (slice_index b.counts 2) g.red) in
     let lanes : (n : ℕ) → blocks_below n p q r ≡ blocks_below n p' q' r' = λ n i.
     blocks_below n (packed (filled_lane 0 hits (c0 i) (same.blue i))) (packed (filled_lane 1 hits (c1 i) (same.green i))) (packed (filled_lane 2 hits (c2 i) (same.red i))) in
     let long_a = as_many bytes place hits out a fit_a in

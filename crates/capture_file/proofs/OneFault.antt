@@ -104,8 +104,8 @@ read_length counts j place taken x y z h =
     ∙ length-append h.head (blocks_below j (packed x) (packed y) (packed z))
     ∙ ap (λ n. length h.head + n)
     (length-below j (packed x) (packed y) (packed z)
-    ∙ ap₂ (λ m n. m + n + min (length (packed z)) (4096 * j)) (lane_length x (slice_index counts 0) j h.count_x) (lane_length y (slice_index counts 1) j h.count_y)
-    ∙ ap (λ n. lane_bytes (slice_index counts 0) j + lane_bytes (slice_index counts 1) j + n) (lane_length z (slice_index counts 2) j h.count_z))
+    ∙ ap₂ (λ m n. m + n + min (length (packed z)) (4096 * j)) (lane_length x (slice_index counts 0) j h.count_blue) (lane_length y (slice_index counts 1) j h.count_green)
+    ∙ ap (λ n. lane_bytes (slice_index counts 0) j + lane_bytes (slice_index counts 1) j + n) (lane_length z (slice_index counts 2) j h.count_red))
 
 -- the bytes that a lane has of a block
 abbrev more_bytes : ℕ → ℕ → ℕ
@@ -227,8 +227,8 @@ one_way bytes place taken took x y z u v w a b le =
       | inr none ↦ inr none
     ])
     (omega (arith, from, lb)) in
-    let long = as_long c d e j k n taken took x y z u v w le there la lb a.read.count_x a.read.count_y a.read.count_z
-    (b.read.count_x ∙ ap (λ i. min i (32768 * k)) (sym first)) (b.read.count_y ∙ ap (λ i. min i (32768 * k)) (sym second)) (b.read.count_z ∙ ap (λ i. min i (32768 * k)) (sym third)) in
+    let long = as_long c d e j k n taken took x y z u v w le there la lb a.read.count_blue a.read.count_green a.read.count_red
+    (b.read.count_blue ∙ ap (λ i. min i (32768 * k)) (sym first)) (b.read.count_green ∙ ap (λ i. min i (32768 * k)) (sym second)) (b.read.count_red ∙ ap (λ i. min i (32768 * k)) (sym third)) in
     let same : taken ≡ took = same_front taken a.rest took b.rest whole long.whole in
     let rests : below_a ≡ below_b = same_rest h below_a b.read.head below_b (sym a.read.taken_is ∙ same ∙ b.read.taken_is) same_head in
     let blue = long.blue in
@@ -241,9 +241,9 @@ one_way bytes place taken took x y z u v w a b le =
     } in
     let below = same_below j (packed x) (packed y) (packed z) (packed u) (packed v) (packed w) lanes
     (begin_below j k (packed x) (packed y) (packed z) (packed u) (packed v) (packed w) le lanes rests) in
-    let nx = a.read.count_x in
-    let ny = a.read.count_y in
-    let nz = a.read.count_z in (
+    let nx = a.read.count_blue in
+    let ny = a.read.count_green in
+    let nz = a.read.count_red in (
       same,
       record {
         blue = lane_same x u j (omega (arith, nx)) blue below.blue;

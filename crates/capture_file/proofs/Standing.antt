@@ -59,9 +59,9 @@ stands_head version counts s =
     record {
       head = h;
       headed = record { version = version; said = s; head_is = refl };
-      count_x = omega arith;
-      count_y = omega arith;
-      count_z = omega arith;
+      count_blue = omega arith;
+      count_green = omega arith;
+      count_red = omega arith;
       taken_is = sym (ap (λ xs. h ++ xs) (none_below (packed []) (packed []) (packed [])) ∙ append-nil h);
       place_is = omega (arith, size_of version counts s);
     }

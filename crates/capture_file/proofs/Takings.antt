@@ -223,9 +223,9 @@ ended counts j place taken x y z r none =
     let e : 3 * j ≡ (3 * j - m) + m = omega arith in
     ap (λ k. pieces k (piece_of f)) e ∙ pieces_past (3 * j - m) m (piece_of f) empty in
     let is : taken ≡ t.head ++ pieces m (piece_of f) = t.is ∙ ap (λ xs. t.head ++ xs) all in
-    let e0 : length x ≡ slice_index counts 0 = full_one counts j 0 (length x) none r.count_x (omega arith) in
-    let e1 : length y ≡ slice_index counts 1 = full_one counts j 1 (length y) none r.count_y (omega arith) in
-    let e2 : length z ≡ slice_index counts 2 = full_one counts j 2 (length z) none r.count_z (omega arith) in
+    let e0 : length x ≡ slice_index counts 0 = full_one counts j 0 (length x) none r.count_blue (omega arith) in
+    let e1 : length y ≡ slice_index counts 1 = full_one counts j 1 (length y) none r.count_green (omega arith) in
+    let e2 : length z ≡ slice_index counts 2 = full_one counts j 2 (length z) none r.count_red (omega arith) in
     record {
       holds = record {
         head = t.head;

@@ -35,15 +35,15 @@ pub record DamagedChunk (lane from : ℕ) (hits : List Hit) (old now : List Bool
 
 -- the header and the blocks below j were taken, and this is what they are damaged, whatever the lanes go on with
 pub record IsDamagedFront (version : ℕ) (counts : List ℕ) (hits : List Hit) (j : ℕ) (taken out : List ℕ) : Type 0 where
-  pub x : List Bool
-  pub y : List Bool
-  pub z : List Bool
-  pub read : Stands version counts j taken x y z
+  pub blue : List Bool
+  pub green : List Bool
+  pub red : List Bool
+  pub read : Stands version counts j taken blue green red
   pub said : CanSay version counts
   pub head_is : read.head ≡ header_of version counts
   pub out_is :
-      (u v w : List Bool) → length (x ++ u) ≡ slice_index counts 0 → length (y ++ v) ≡ slice_index counts 1 → length (z ++ w) ≡ slice_index counts 2
-      → out ≡ header_of version counts ++ blocks_below j (packed (damaged 0 hits (x ++ u))) (packed (damaged 1 hits (y ++ v))) (packed (damaged 2 hits (z ++ w)))
+      (u v w : List Bool) → length (blue ++ u) ≡ slice_index counts 0 → length (green ++ v) ≡ slice_index counts 1 → length (red ++ w) ≡ slice_index counts 2
+      → out ≡ header_of version counts ++ blocks_below j (packed (damaged 0 hits (blue ++ u))) (packed (damaged 1 hits (green ++ v))) (packed (damaged 2 hits (red ++ w)))
 
 -- the header and the blocks below j were taken, and written damaged
 pub record Halfway (version : ℕ) (counts : List ℕ) (hits : List Hit) (j : ℕ) (taken : List ℕ) (before now : Option (List ℕ)) : Type 0 where
@@ -60,18 +60,18 @@ SaysFault says Write = Unit {0}
 
 -- block j was taken too, and written damaged in a part alone
 pub record CutIn (version : ℕ) (counts : List ℕ) (hits : List Hit) (j : ℕ) (taken : List ℕ) (before now : Option (List ℕ)) : Type 0 where
-  pub x : List Bool
-  pub y : List Bool
-  pub z : List Bool
-  pub read : Stands version counts (j + 1) taken x y z
+  pub blue : List Bool
+  pub green : List Bool
+  pub red : List Bool
+  pub read : Stands version counts (j + 1) taken blue green red
   pub said : CanSay version counts
   pub head_is : read.head ≡ header_of version counts
   pub gone : ℕ
   pub missing : gone < length taken
   pub most : length taken ≤ gone + block_size j counts
   pub wrote :
-      (u v w : List Bool) → length (x ++ u) ≡ slice_index counts 0 → length (y ++ v) ≡ slice_index counts 1 → length (z ++ w) ≡ slice_index counts 2
-      → Appends before now (take gone (header_of version counts ++ blocks_below (j + 1) (packed (damaged 0 hits (x ++ u))) (packed (damaged 1 hits (y ++ v))) (packed (damaged 2 hits (z ++ w)))))
+      (u v w : List Bool) → length (blue ++ u) ≡ slice_index counts 0 → length (green ++ v) ≡ slice_index counts 1 → length (red ++ w) ≡ slice_index counts 2
+      → Appends before now (take gone (header_of version counts ++ blocks_below (j + 1) (packed (damaged 0 hits (blue ++ u))) (packed (damaged 1 hits (green ++ v))) (packed (damaged 2 hits (red ++ w)))))
 
 -- a fault after the header: as far as the last whole block before its place all was taken and written damaged
 pub record IsLateFault (version : ℕ) (counts : List ℕ) (hits : List Hit) (bytes taken : List ℕ) (before now : Option (List ℕ)) (fault : CaptureFault) : Type 0 where
@@ -85,12 +85,12 @@ pub record IsLateFault (version : ℕ) (counts : List ℕ) (hits : List Hit) (by
 
 -- the capture after hits, each of which lies within its own lane: the same header, and every block of the lanes after the hits
 pub record IsDamagedCapture (bytes : List ℕ) (hits : List Hit) (whole : List ℕ) : Type 0 where
-  pub x : List Bool
-  pub y : List Bool
-  pub z : List Bool
-  pub holds : IsCaptureOf x y z bytes
-  pub fits : AllFitLanes (counts_of x y z) hits
-  pub whole_is : whole ≡ holds.head ++ lane_blocks (damaged 0 hits x) (damaged 1 hits y) (damaged 2 hits z)
+  pub blue : List Bool
+  pub green : List Bool
+  pub red : List Bool
+  pub holds : IsCaptureOf blue green red bytes
+  pub fits : AllFitLanes (counts_of blue green red) hits
+  pub whole_is : whole ≡ holds.head ++ lane_blocks (damaged 0 hits blue) (damaged 1 hits green) (damaged 2 hits red)
 
 -- where the bytes have a whole header, each hit lies within its own lane as that header says it
 abbrev pub AreWithinLanes : List ℕ → List Hit → Type 0

@@ -3,6 +3,7 @@
 use Rattle.std.specs.Prelude.{◌≡◌, ◌⊎◌, ℕ, ◌+◌, ◌*◌, ◌/◌, ◌-◌, ◌^◌, ◌<◌, ◌≤◌, Bool, List, [], ◌∷◌, ◌++◌, length, take, max, min, codes, slice_get, slice_index, get_or, Some, ◌==◌, if◌then◌else◌}
 use Rattle.tmds_word.specs.Bits.{bytes_bits}
 use Rattle.capture_file.specs.Layout.{packed, high_first, header, blocks_below, blocks_of}
+use Rattle.capture_file.specs.declared.TheConstants.{BLOCK_BITS, BLOCK_BYTES}
 use Rattle.capture_file.specs.declared.fault.CaptureFault.{CaptureFault}
 use Rattle.capture_file.specs.declared.fault.CaptureFault.TheVariants.{Magic, Version, Short, Padding, Trailing}
 use Rattle.capture_file.specs.declared.fault.CaptureError.{CaptureError}
@@ -81,7 +82,7 @@ place_of (Trailing p) = p
 
 -- how many bits block j has of a lane of so many
 abbrev pub bits_in : ℕ → ℕ → ℕ
-bits_in j count = min (count - 32768 * j) 32768
+bits_in j count = min (count - BLOCK_BITS * j) BLOCK_BITS
 
 -- how many bytes block j has
 abbrev pub block_size : ℕ → List ℕ → ℕ
@@ -92,9 +93,9 @@ block_size j counts = (bits_in j (slice_index counts 0) + 7) / 8 + (bits_in j (s
 pub record HasRead (counts : List ℕ) (j place : ℕ) (taken : List ℕ) (x y z : List Bool) : Type 0 where
   pub head : List ℕ
   pub headed : IsHeader head counts
-  pub count_x : length x ≡ min (slice_index counts 0) (32768 * j)
-  pub count_y : length y ≡ min (slice_index counts 1) (32768 * j)
-  pub count_z : length z ≡ min (slice_index counts 2) (32768 * j)
+  pub count_blue : length x ≡ min (slice_index counts 0) (BLOCK_BITS * j)
+  pub count_green : length y ≡ min (slice_index counts 1) (BLOCK_BITS * j)
+  pub count_red : length z ≡ min (slice_index counts 2) (BLOCK_BITS * j)
   pub taken_is : taken ≡ head ++ blocks_below j (packed x) (packed y) (packed z)
   pub place_is : place ≡ length taken
 
@@ -153,9 +154,9 @@ header_size version = if version == 2 then 16 else 8
 abbrev pub place_at : ℕ → List ℕ → ℕ → ℕ
 place_at version counts j =
     header_size version
-    + min ((slice_index counts 0 + 7) / 8) (4096 * j)
-    + min ((slice_index counts 1 + 7) / 8) (4096 * j)
-    + min ((slice_index counts 2 + 7) / 8) (4096 * j)
+    + min ((slice_index counts 0 + 7) / 8) (BLOCK_BYTES * j)
+    + min ((slice_index counts 1 + 7) / 8) (BLOCK_BYTES * j)
+    + min ((slice_index counts 2 + 7) / 8) (BLOCK_BYTES * j)
 
 -- what a reader stands for that is at block j of a capture of a version: bytes that were taken so far, and the bits of the
 -- blocks that it gave, for each lane

@@ -1,8 +1,9 @@
 -- How the bits of lanes lie in the bytes of a capture: packed, and block after block; and the header of version 1, whose lanes
 -- are all of one length. It is this project's own format. `Captures` says what a capture of either version is.
-use Rattle.std.specs.Prelude.{ℕ, ◌+◌, ◌*◌, ◌/◌, ◌%◌, ◌^◌, Bool, List, [], ◌∷◌, ◌++◌, length, take, drop, codes}
+use Rattle.std.specs.Prelude.{ℕ, ◌+◌, ◌-◌, ◌*◌, ◌/◌, ◌%◌, ◌^◌, Bool, List, [], ◌∷◌, ◌++◌, length, take, drop, codes}
 use Rattle.std.proofs.Common.{suc, zero}
 use Rattle.tmds_word.specs.Bits.{bytes_of, number}
+use Rattle.capture_file.specs.declared.TheConstants.{BLOCK_BYTES}
 
 -- a lane's bits eight to a byte: bit i is bit i mod 8 of byte i / 8, and the spare bits of the last byte are 0
 unfoldable pub packed : List Bool → List ℕ
@@ -16,9 +17,9 @@ high_first n = n / 2 ^ 24 % 256 ∷ n / 2 ^ 16 % 256 ∷ n / 2 ^ 8 % 256 ∷ n %
 unfoldable pub header : ℕ → List ℕ
 header count = codes "TMC1" ++ high_first count
 
--- chunk j of a lane's bytes: at most 4096 of them, from byte 4096 j on
+-- chunk j of a lane's bytes: those of its bits in block j
 unfoldable pub chunk : ℕ → List ℕ → List ℕ
-chunk j lane = take 4096 (drop (4096 * j) lane)
+chunk j lane = take BLOCK_BYTES (drop (BLOCK_BYTES * j) lane)
 
 -- block j: the chunks j of the three lanes, one after another
 unfoldable pub block : ℕ → List ℕ → List ℕ → List ℕ → List ℕ
@@ -31,4 +32,4 @@ blocks_below (suc j) a b c = blocks_below j a b c ++ block j a b c
 
 -- how many blocks lanes of so many bytes have
 abbrev pub blocks_of : ℕ → ℕ
-blocks_of bytes = (bytes + 4095) / 4096
+blocks_of bytes = (bytes + (BLOCK_BYTES - 1)) / BLOCK_BYTES

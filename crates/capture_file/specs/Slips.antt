@@ -18,12 +18,12 @@ slipped lane place count own row = if own == lane then without place count row e
 
 -- the capture in version 2 of the lanes of a capture, of which one is without so many bits from a place on, which it has
 pub record IsSlippedCapture (bytes : List ℕ) (lane place count : ℕ) (whole : List ℕ) : Type 0 where
-  pub x : List Bool
-  pub y : List Bool
-  pub z : List Bool
-  pub holds : IsCaptureOf x y z bytes
-  pub fits : place + count ≤ slice_index (counts_of x y z) lane
-  pub whole_is : whole ≡ layout 2 (slipped lane place count 0 x) (slipped lane place count 1 y) (slipped lane place count 2 z)
+  pub blue : List Bool
+  pub green : List Bool
+  pub red : List Bool
+  pub holds : IsCaptureOf blue green red bytes
+  pub fits : place + count ≤ slice_index (counts_of blue green red) lane
+  pub whole_is : whole ≡ layout 2 (slipped lane place count 0 blue) (slipped lane place count 1 green) (slipped lane place count 2 red)
 
 -- where the bytes have a whole header, the bits lie within their lane as that header says it
 abbrev pub IsWithinLane : List ℕ → ℕ → ℕ → ℕ → Type 0
@@ -44,11 +44,11 @@ pub record IsReadPart (read : List ℕ) (lane place count : ℕ) : Type 0 where
   pub block : ℕ
   pub taken : List ℕ
   pub more : List ℕ
-  pub x : List Bool
-  pub y : List Bool
-  pub z : List Bool
+  pub blue : List Bool
+  pub green : List Bool
+  pub red : List Bool
   pub read_is : read ≡ taken ++ more
-  pub stands : Stands version counts block taken x y z
+  pub stands : Stands version counts block taken blue green red
   pub short : (length more < block_size block counts) ⊎ (more ≡ [])
   pub fits : place + count ≤ slice_index counts lane
 

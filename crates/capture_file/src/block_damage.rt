@@ -13,7 +13,7 @@ ghost use Rattle.capture_file.specs.declared.damaging.DamageError.TheVariants.{P
 use crate::chunk::{Chunk, Chunks};
 use crate::heading::{Heading, read_heading};
 use crate::writing::{write_header, write_piece};
-use crate::{DamageError, Hit};
+use crate::{BLOCK_BITS, BLOCK_BYTES, DamageError, Hit};
 use outside_io::{Sink, Source, Wrote};
 use tmds_word::Word;
 
@@ -69,14 +69,14 @@ impl Chunk {
 impl Chunks {
     /// Replaces what hits, one after another, replace in block `j`.
     fn hit_all(&mut self, j: u32, hits: &[Hit])
-        requires { 32768 * j < 2 ^ 32 }
-        ensures blue { DamagedChunk 0 (32768 * j) hits.now self.old.blue self.new.blue }
-        ensures green { DamagedChunk 1 (32768 * j) hits.now self.old.green self.new.green }
-        ensures red { DamagedChunk 2 (32768 * j) hits.now self.old.red self.new.red }
+        requires { BLOCK_BITS * j < 2 ^ 32 }
+        ensures blue { DamagedChunk 0 (BLOCK_BITS * j) hits.now self.old.blue self.new.blue }
+        ensures green { DamagedChunk 1 (BLOCK_BITS * j) hits.now self.old.green self.new.green }
+        ensures red { DamagedChunk 2 (BLOCK_BITS * j) hits.now self.old.red self.new.red }
     {
-        self.blue.hit_all(32768 * j, 0, hits);
-        self.green.hit_all(32768 * j, 1, hits);
-        self.red.hit_all(32768 * j, 2, hits);
+        self.blue.hit_all(BLOCK_BITS * j, 0, hits);
+        self.green.hit_all(BLOCK_BITS * j, 1, hits);
+        self.red.hit_all(BLOCK_BITS * j, 2, hits);
     }
 
     /// Writes the block.
@@ -120,10 +120,10 @@ fn first_past_lane(hits: &[Hit], bits: [u32; 3]) -> Option<u32>
 }
 
 /// Sets a bit of packed bytes.
-fn set_bit(bytes: &mut [u8; 4096], i: usize, value: bool)
-    requires { i < 32768 }
+fn set_bit(bytes: &mut [u8; BLOCK_BYTES], i: usize, value: bool)
+    requires { i < BLOCK_BITS }
     ensures bits { bytes_bits bytes.new ≡ slice_set (bytes_bits bytes.old) i value }
-    ensures length { length bytes.new ≡ 4096 }
+    ensures length { length bytes.new ≡ BLOCK_BYTES }
     ensures range { AreBytes bytes.new }
 {
     let at = i / 8;
@@ -153,7 +153,7 @@ fn damage_block<S: Source, K: Sink>(
     out: &mut K,
 ) -> Result<bool, DamageError>
     requires fits { AllFitLanes heading.bits hits.now }
-    ensures below { IfOk result (λ more. more ≡ true → 32768 * j < 2 ^ 32) }
+    ensures below { IfOk result (λ more. more ≡ true → BLOCK_BITS * j < 2 ^ 32) }
     ensures ok { (taken : List ℕ) (before : Option (List ℕ)) → Halfway heading.version heading.bits hits.now j taken before (K.held out.old)
         → IfOk result (λ more. more ≡ true → (part : List ℕ) × Consumes (S.left source.old) (S.left source.new) part × Halfway heading.version heading.bits hits.now (j + 1) (taken ++ part) before (K.held out.new)) }
     ensures none { IfOk result (λ more. more ≡ false → (block_size j heading.bits ≡ 0) × Consumes (S.left source.old) (S.left source.new) [] × IsAtEnd (S.left source.new) × (K.held out.new ≡ K.held out.old)) }

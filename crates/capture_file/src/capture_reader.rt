@@ -7,24 +7,11 @@ ghost use Rattle.capture_file.specs.Layout.{packed};
 ghost use Rattle.capture_file.specs.Faults.{IsCaused};
 ghost use Rattle.capture_file.specs.Captures.{IsFault, IsHeaderPart, IsBlockPart, IsEarlyFault, IsCaptureOf, Stands, StopsIn, SaysOf, SaysRead, place_of, CanSay, bits_in, block_size};
 
-use crate::CaptureError;
 use crate::chunk::{Chunks, chunk_len};
 use crate::heading::{Heading, read_heading};
+use crate::{BLOCK_BITS, CaptureError};
 use outside_io::Source;
-
-/// A block of a capture: of each lane the bytes of its bits there, eight bits to a byte, and how many bits
-/// they are. A lane that has ended has none.
-#[derive(Clone, Copy)]
-pub struct Block<'a> {
-    /// Lane 0, blue.
-    pub a: &'a [u8],
-    /// Lane 1, green.
-    pub b: &'a [u8],
-    /// Lane 2, red.
-    pub c: &'a [u8],
-    /// How many bits each lane has.
-    pub bits: [u32; 3],
-}
+use tmds_word::LaneBits;
 
 /// Reads a capture of either version, and lends its blocks. It takes no memory: its block is within it.
 #[derive(Drop)]
@@ -110,7 +97,7 @@ impl<'a, S: Source> CaptureReader<'a, S> {
         ensures bits { self.new.bits ≡ self.old.bits }
         ensures open { IfOk result (λ more. self.new.is_open ≡ more) }
         ensures spent { OnErr result (self.new.is_open ≡ false) }
-        ensures block { IfOk result (λ more. more ≡ true → (self.new.block ≡ self.old.block + 1) × (32768 * self.old.block < 2 ^ 32)) }
+        ensures block { IfOk result (λ more. more ≡ true → (self.new.block ≡ self.old.block + 1) × (BLOCK_BITS * self.old.block < 2 ^ 32)) }
         ensures blue { IfOk result (λ more. more ≡ true → length self.new.lanes.blue ≡ bits_in self.old.block (slice_index self.old.bits 0)) }
         ensures green { IfOk result (λ more. more ≡ true → length self.new.lanes.green ≡ bits_in self.old.block (slice_index self.old.bits 1)) }
         ensures red { IfOk result (λ more. more ≡ true → length self.new.lanes.red ≡ bits_in self.old.block (slice_index self.old.bits 2)) }
@@ -136,29 +123,29 @@ impl<'a, S: Source> CaptureReader<'a, S> {
         Ok(self.is_open)
     }
 
-    /// Lends the next block, and takes exactly its bytes from the source. Where all blocks were given it reads
+    /// Lends the bits of the next block, and takes exactly its bytes from the source. Where all blocks were given it reads
     /// on, and answers none where the input ends there: the bytes taken are a capture then, and the bits of all
-    /// blocks are its lanes.
+    /// blocks are its lanes. A lane that has ended has none in a block.
     ///
     /// # Errors
     ///
     /// `Bad` where the bytes are no capture, with the least place that shows it; `Read` where the source
     /// fails after bytes with which some capture begins. The blocks that were given are the whole blocks
     /// before that place, or of the bytes that were read.
-    pub fn next(&mut self) -> Result<Option<Block<'_>>, CaptureError>
+    pub fn next(&mut self) -> Result<Option<LaneBits<'_>>, CaptureError>
         requires { self.old.is_open ≡ true }
         ensures bits { IfOk result (λ o. IfSome o (λ block.
             (slice_index block.bits 0 ≡ bits_in self.old.block (slice_index self.old.bits 0))
             × (slice_index block.bits 1 ≡ bits_in self.old.block (slice_index self.old.bits 1))
             × (slice_index block.bits 2 ≡ bits_in self.old.block (slice_index self.old.bits 2)))) }
         ensures sizes { IfOk result (λ o. IfSome o (λ block.
-            (length block.a.now ≡ (slice_index block.bits 0 + 7) / 8)
-            × (length block.b.now ≡ (slice_index block.bits 1 + 7) / 8)
-            × (length block.c.now ≡ (slice_index block.bits 2 + 7) / 8))) }
+            (length block.blue.now ≡ (slice_index block.bits 0 + 7) / 8)
+            × (length block.green.now ≡ (slice_index block.bits 1 + 7) / 8)
+            × (length block.red.now ≡ (slice_index block.bits 2 + 7) / 8))) }
         ensures some { IfOk result (λ o. IfSome o (λ block. 0 < block_size self.old.block self.old.bits)) }
         ensures stands { (taken : List ℕ) (x y z : List Bool) → Stands self.old.version self.old.bits self.old.block taken x y z
-            → IfOk result (λ o. IfSome o (λ block. Stands self.old.version self.old.bits (self.old.block + 1) (taken ++ ((block.a.now ++ block.b.now) ++ block.c.now))
-            (x ++ take (slice_index block.bits 0) (bytes_bits block.a.now)) (y ++ take (slice_index block.bits 1) (bytes_bits block.b.now)) (z ++ take (slice_index block.bits 2) (bytes_bits block.c.now)))) }
+            → IfOk result (λ o. IfSome o (λ block. Stands self.old.version self.old.bits (self.old.block + 1) (taken ++ ((block.blue.now ++ block.green.now) ++ block.red.now))
+            (x ++ take (slice_index block.bits 0) (bytes_bits block.blue.now)) (y ++ take (slice_index block.bits 1) (bytes_bits block.green.now)) (z ++ take (slice_index block.bits 2) (bytes_bits block.red.now)))) }
         ensures whole { (taken : List ℕ) (x y z : List Bool) → Stands self.old.version self.old.bits self.old.block taken x y z
             → IfOk result (λ o. IfNone o (IsCaptureOf x y z taken)) }
         ensures err { (bytes taken : List ℕ) (x y z : List Bool) → S.left self.old.source.now ≡ Some bytes → Stands self.old.version self.old.bits self.old.block taken x y z
@@ -168,7 +155,7 @@ impl<'a, S: Source> CaptureReader<'a, S> {
             × (S.faults self.old.source.now ≤ S.faults v.source.now)
             × IfOk result (λ o. MatchOption o
             ((v.is_open ≡ false) × Consumes (S.left self.old.source.now) (S.left v.source.now) [] × IsAtEnd (S.left v.source.now))
-            (λ block. (v.is_open ≡ true) × (v.block ≡ self.old.block + 1) × Consumes (S.left self.old.source.now) (S.left v.source.now) ((block.a.now ++ block.b.now) ++ block.c.now)))
+            (λ block. (v.is_open ≡ true) × (v.block ≡ self.old.block + 1) × Consumes (S.left self.old.source.now) (S.left v.source.now) ((block.blue.now ++ block.green.now) ++ block.red.now)))
             × IfErr result (λ e. (v.is_open ≡ false) × IsCaused (S.faults self.old.source.now) (S.faults v.source.now) e
             × SaysRead ((part : List ℕ) × IsBlockPart self.old.bits self.old.block part × Consumes (S.left self.old.source.now) (S.left v.source.now) part) e
             × ((taken : List ℕ) × Consumes (S.left self.old.source.now) (S.left v.source.now) taken)))) }
@@ -182,17 +169,17 @@ impl<'a, S: Source> CaptureReader<'a, S> {
     }
 
     /// The block that was read, whose number is `j`.
-    fn lent(&self, j: u32) -> Block<'_>
-        requires { 32768 * j < 2 ^ 32 }
-        ensures a { result.a.now ≡ packed self.now.lanes.blue }
-        ensures b { result.b.now ≡ packed self.now.lanes.green }
-        ensures c { result.c.now ≡ packed self.now.lanes.red }
+    fn lent(&self, j: u32) -> LaneBits<'_>
+        requires { BLOCK_BITS * j < 2 ^ 32 }
+        ensures blue { result.blue.now ≡ packed self.now.lanes.blue }
+        ensures green { result.green.now ≡ packed self.now.lanes.green }
+        ensures red { result.red.now ≡ packed self.now.lanes.red }
         ensures bits { (slice_index result.bits 0 ≡ bits_in j (slice_index self.now.bits 0)) × (slice_index result.bits 1 ≡ bits_in j (slice_index self.now.bits 1)) × (slice_index result.bits 2 ≡ bits_in j (slice_index self.now.bits 2)) }
     {
-        Block {
-            a: self.lanes.blue.as_bytes(),
-            b: self.lanes.green.as_bytes(),
-            c: self.lanes.red.as_bytes(),
+        LaneBits {
+            blue: self.lanes.blue.as_bytes(),
+            green: self.lanes.green.as_bytes(),
+            red: self.lanes.red.as_bytes(),
             bits: [
                 chunk_len(self.bits[0], j),
                 chunk_len(self.bits[1], j),

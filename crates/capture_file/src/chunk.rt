@@ -1,34 +1,34 @@
 //! The bits of a block: some of each lane.
-ghost use Rattle.std.specs.Prelude.{◌≡◌, ℕ, ◌+◌, ◌*◌, ◌/◌, ◌^◌, ◌<◌, ◌≤◌, Bool, List, [], ◌++◌, length, take, slice_index, Some, IfErr, OnOk, IsTrue, ◌↔◌};
+ghost use Rattle.std.specs.Prelude.{◌≡◌, ℕ, ◌+◌, ◌-◌, ◌*◌, ◌/◌, ◌^◌, ◌<◌, ◌≤◌, Bool, List, [], ◌++◌, length, take, slice_index, Some, IfErr, OnOk, IsTrue, ◌↔◌};
 ghost use Rattle.std.specs.Io.KnownBytes.{Consumes};
 ghost use Rattle.tmds_word.specs.Bits.{bytes_bits};
 ghost use Rattle.capture_file.specs.Layout.{packed};
 ghost use Rattle.capture_file.specs.Faults.{IsCaused};
 ghost use Rattle.capture_file.specs.Captures.{AreBytes, Awaits, IsFault, IsBlockPart, HasRead, SaysOf, SaysRead, IsWithin, place_of, bits_in, block_size};
 
-use crate::{CaptureError, CaptureFault};
+use crate::{BLOCK_BITS, BLOCK_BYTES, CaptureError, CaptureFault};
 use outside_io::{Source, read_full};
 use std::marker::Model;
 
 /// How many blocks lanes of so many bits have.
 pub(crate) fn blocks_for(bits: u32) -> u32
-    ensures { result ≡ ((bits + 7) / 8 + 4095) / 4096 }
+    ensures { result ≡ ((bits + 7) / 8 + (BLOCK_BYTES - 1)) / BLOCK_BYTES }
 {
-    bits.div_ceil(8).div_ceil(4096)
+    bits.div_ceil(8).div_ceil(BLOCK_BYTES as u32)
 }
 
 /// How many bits block `j` has of a lane of so many.
 pub(crate) fn chunk_len(bits: u32, j: u32) -> u32
-    requires { 32768 * j < 2 ^ 32 }
+    requires { BLOCK_BITS * j < 2 ^ 32 }
     ensures { result ≡ bits_in j bits }
 {
-    bits.saturating_sub(32768 * j).min(32768)
+    bits.saturating_sub(BLOCK_BITS * j).min(BLOCK_BITS)
 }
 
 /// The bits of one lane in one block, packed eight to a byte. It is seen as these bits.
 #[derive(Drop)]
 pub(crate) struct Chunk {
-    pub(crate) bytes: [u8; 4096],
+    pub(crate) bytes: [u8; BLOCK_BYTES],
     pub(crate) count: u32,
 }
 
@@ -36,14 +36,15 @@ impl Model for Chunk {
     ghost use Rattle.std.specs.Prelude.{◌≡◌, ◌+◌, ◌/◌, ◌≤◌, List, Bool, length, take};
     ghost use Rattle.tmds_word.specs.Bits.{bytes_bits};
     ghost use Rattle.capture_file.specs.Layout.{packed};
+    ghost use Rattle.capture_file.specs.declared.TheConstants.{BLOCK_BITS, BLOCK_BYTES};
 
     ghost Value = { List Bool };
 
     ghost view = { λ c. take c.count (bytes_bits c.bytes) };
 
     ghost invariant = { λ c. record {
-      few : c.count ≤ 32768;
-      size : length c.bytes ≡ 4096;
+      few : c.count ≤ BLOCK_BITS;
+      size : length c.bytes ≡ BLOCK_BYTES;
       spared : take ((c.count + 7) / 8) c.bytes ≡ packed (take c.count (bytes_bits c.bytes));
     } };
 }
@@ -54,7 +55,7 @@ impl Chunk {
         ensures { result ≡ [] }
     {
         Chunk {
-            bytes: [0; 4096],
+            bytes: [0; BLOCK_BYTES],
             count: 0,
         }
     }
@@ -62,7 +63,7 @@ impl Chunk {
     /// The bits, packed.
     pub(crate) fn as_bytes(&self) -> &[u8]
         ensures bytes { result.now ≡ packed self.now }
-        ensures few { length result.now ≤ 4096 }
+        ensures few { length result.now ≤ BLOCK_BYTES }
     {
         &self.bytes[..self.count.div_ceil(8) as usize]
     }
@@ -74,7 +75,7 @@ impl Chunk {
         count: u32,
         place: u64,
     ) -> Result<(), CaptureError>
-        requires few { count ≤ 32768 }
+        requires few { count ≤ BLOCK_BITS }
         requires place { place < 2 ^ 63 }
         ensures count { OnOk result (length self.new ≡ count) }
         ensures ok { OnOk result (Consumes (S.left source.old) (S.left source.new) (packed self.new)) }
@@ -95,13 +96,13 @@ impl Chunk {
 /// Reads the bytes of `count` bits, which begin at a place, into the front of `bytes`.
 fn read_front<S: Source>(
     source: &mut S,
-    bytes: &mut [u8; 4096],
+    bytes: &mut [u8; BLOCK_BYTES],
     count: u32,
     place: u64,
 ) -> Result<(), CaptureError>
-    requires few { count ≤ 32768 }
+    requires few { count ≤ BLOCK_BITS }
     requires place { place < 2 ^ 63 }
-    ensures size { length bytes.new ≡ 4096 }
+    ensures size { length bytes.new ≡ BLOCK_BYTES }
     ensures spared { OnOk result (take ((count + 7) / 8) bytes.new ≡ packed (take count (bytes_bits bytes.new))) }
     ensures ok { OnOk result (Consumes (S.left source.old) (S.left source.new) (take ((count + 7) / 8) bytes.new)) }
     ensures err { (bytes front : List ℕ) → S.left source.old ≡ Some bytes → (0 < count → Awaits front count) → place ≡ length front → IfErr result (λ e. SaysOf (λ fault. IsFault (front ++ bytes) fault) e) }
@@ -122,7 +123,7 @@ fn read_part<S: Source>(
     count: u32,
     place: u64,
 ) -> Result<(), CaptureError>
-    requires few { count ≤ 32768 }
+    requires few { count ≤ BLOCK_BITS }
     requires size { length part.old ≡ (count + 7) / 8 }
     requires place { place < 2 ^ 63 }
     ensures size { length part.new ≡ length part.old }
@@ -189,7 +190,7 @@ impl Chunks {
         j: u32,
         place: u64,
     ) -> Result<(), CaptureError>
-        requires below { 32768 * j < 2 ^ 32 }
+        requires below { BLOCK_BITS * j < 2 ^ 32 }
         requires place { place < 2 ^ 62 }
         ensures blue { OnOk result (length self.new.blue ≡ bits_in j (slice_index bits 0)) }
         ensures green { OnOk result (length self.new.green ≡ bits_in j (slice_index bits 1)) }

@@ -5,7 +5,7 @@ ghost use Rattle.capture_file.specs.Layout.{high_first};
 ghost use Rattle.capture_file.specs.Faults.{IsCaused};
 ghost use Rattle.capture_file.specs.Captures.{header_of, CanSay, BeginsCapture, IsHeaderPart, IsEarlyFault, SaysOf, SaysRead, AreBytes, place_at};
 
-use crate::{CaptureError, CaptureFault};
+use crate::{BLOCK_BYTES, CaptureError, CaptureFault};
 use outside_io::{Source, read_full};
 
 /// The version of a capture, and how many bits each lane has.
@@ -26,10 +26,10 @@ pub(crate) fn block_place(version: u8, bits: [u32; 3], j: u32) -> u64
 
 /// How many bytes the blocks before block `j` have of a lane of so many bits.
 fn bytes_below(bits: u32, j: u32) -> u64
-    ensures size { result ≡ min ((bits + 7) / 8) (4096 * j) }
+    ensures size { result ≡ min ((bits + 7) / 8) (BLOCK_BYTES * j) }
     ensures small { result ≤ 2 ^ 29 }
 {
-    u64::from(bits.div_ceil(8)).min(4096 * u64::from(j))
+    u64::from(bits.div_ceil(8)).min(BLOCK_BYTES as u64 * u64::from(j))
 }
 
 /// Reads a header. A fault that the bytes which arrived show is answered, also where the next read fails.

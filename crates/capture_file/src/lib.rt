@@ -14,9 +14,15 @@ mod walking;
 mod writing;
 
 pub use block_damage::damage;
-pub use capture_reader::{Block, CaptureReader};
+pub use capture_reader::CaptureReader;
 pub use damaging::{DamageError, Hit};
 pub use fault::{CaptureError, CaptureFault};
 pub use lanes::Lanes;
 pub use slipping::{SlipError, slip};
 pub use writing::{Tap, write_capture};
+
+/// How many bytes of each lane a block of a capture has, but for the last ones.
+pub const BLOCK_BYTES: usize = 4_096;
+
+/// How many bits that are: as many as a sink takes in one feed.
+pub const BLOCK_BITS: u32 = 32_768;

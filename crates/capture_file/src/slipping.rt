@@ -9,7 +9,7 @@ ghost use Rattle.capture_file.specs.declared.slipping.SlipError.TheVariants.{Pla
 use crate::chunk::Chunks;
 use crate::heading::{Heading, read_heading};
 use crate::writing::{copy_packed, write_rows};
-use crate::{CaptureError, CaptureFault};
+use crate::{BLOCK_BITS, CaptureError, CaptureFault};
 use outside_io::{NoMemory, Sink, Source, Wrote};
 use std::alloc::Global;
 use tmds_word::BitRow;
@@ -89,13 +89,13 @@ impl Rows {
         j: u32,
         chunks: &mut Chunks,
     ) -> Result<bool, SlipError>
-        requires blue { length self.old.blue ≡ min (slice_index heading.bits 0) (32768 * j) }
-        requires green { length self.old.green ≡ min (slice_index heading.bits 1) (32768 * j) }
-        requires red { length self.old.red ≡ min (slice_index heading.bits 2) (32768 * j) }
-        ensures below { IfOk result (λ more. more ≡ true → 32768 * j < 2 ^ 32) }
-        ensures blue { IfOk result (λ more. more ≡ true → length self.new.blue ≡ min (slice_index heading.bits 0) (32768 * (j + 1))) }
-        ensures green { IfOk result (λ more. more ≡ true → length self.new.green ≡ min (slice_index heading.bits 1) (32768 * (j + 1))) }
-        ensures red { IfOk result (λ more. more ≡ true → length self.new.red ≡ min (slice_index heading.bits 2) (32768 * (j + 1))) }
+        requires blue { length self.old.blue ≡ min (slice_index heading.bits 0) (BLOCK_BITS * j) }
+        requires green { length self.old.green ≡ min (slice_index heading.bits 1) (BLOCK_BITS * j) }
+        requires red { length self.old.red ≡ min (slice_index heading.bits 2) (BLOCK_BITS * j) }
+        ensures below { IfOk result (λ more. more ≡ true → BLOCK_BITS * j < 2 ^ 32) }
+        ensures blue { IfOk result (λ more. more ≡ true → length self.new.blue ≡ min (slice_index heading.bits 0) (BLOCK_BITS * (j + 1))) }
+        ensures green { IfOk result (λ more. more ≡ true → length self.new.green ≡ min (slice_index heading.bits 1) (BLOCK_BITS * (j + 1))) }
+        ensures red { IfOk result (λ more. more ≡ true → length self.new.red ≡ min (slice_index heading.bits 2) (BLOCK_BITS * (j + 1))) }
         ensures ok { (taken : List ℕ) → Stands heading.version heading.bits j taken self.old.blue self.old.green self.old.red
             → IfOk result (λ more. more ≡ true → (part : List ℕ) × Consumes (S.left source.old) (S.left source.new) part × Stands heading.version heading.bits (j + 1) (taken ++ part) self.new.blue self.new.green self.new.red) }
         ensures none { IfOk result (λ more. more ≡ false → (block_size j heading.bits ≡ 0) × Consumes (S.left source.old) (S.left source.new) [] × IsAtEnd (S.left source.new) × (self.new ≡ self.old)) }

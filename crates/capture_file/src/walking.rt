@@ -8,7 +8,7 @@ ghost use Rattle.capture_file.specs.declared.fault.CaptureFault.TheVariants.{Tra
 
 use crate::chunk::{Chunks, blocks_for};
 use crate::heading::{Heading, block_place};
-use crate::{CaptureError, CaptureFault};
+use crate::{BLOCK_BITS, CaptureError, CaptureFault};
 use outside_io::{Source, read_full};
 
 impl Chunks {
@@ -20,7 +20,7 @@ impl Chunks {
         heading: Heading,
         j: u32,
     ) -> Result<bool, CaptureError>
-        ensures below { IfOk result (λ more. more ≡ true → 32768 * j < 2 ^ 32) }
+        ensures below { IfOk result (λ more. more ≡ true → BLOCK_BITS * j < 2 ^ 32) }
         ensures blue { IfOk result (λ more. more ≡ true → length self.new.blue ≡ bits_in j (slice_index heading.bits 0)) }
         ensures green { IfOk result (λ more. more ≡ true → length self.new.green ≡ bits_in j (slice_index heading.bits 1)) }
         ensures red { IfOk result (λ more. more ≡ true → length self.new.red ≡ bits_in j (slice_index heading.bits 2)) }
@@ -47,7 +47,7 @@ impl Chunks {
 /// Whether lanes of so many bits have no block `j`.
 fn is_past(bits: [u32; 3], j: u32) -> bool
     ensures past { IsTrue result ↔ (block_size j bits ≡ 0) }
-    ensures below { result ≡ false → 32768 * j < 2 ^ 32 }
+    ensures below { result ≡ false → BLOCK_BITS * j < 2 ^ 32 }
 {
     let most = bits[0].max(bits[1].max(bits[2]));
     j >= blocks_for(most)

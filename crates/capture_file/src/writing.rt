@@ -6,8 +6,8 @@ ghost use Rattle.capture_file.specs.Layout.{packed, header, chunk};
 ghost use Rattle.capture_file.specs.Captures.{header_of, header_two};
 ghost use Rattle.capture_file.specs.Taps.{limited, tap_lag, tapped_capture, HasBits, part_capture, part_block};
 
-use crate::Lanes;
 use crate::chunk::{blocks_for, chunk_len};
+use crate::{BLOCK_BITS, BLOCK_BYTES, Lanes};
 use outside_io::{Sink, Wrote, write_all};
 use tmds_word::BitRow;
 
@@ -162,7 +162,7 @@ pub(crate) fn write_rows<K: Sink>(
 {
     let most = bits[0].max(bits[1].max(bits[2]));
     let mut gone = write_header(version, bits, out)?;
-    let mut room = [0; 4096];
+    let mut room = [0; BLOCK_BYTES];
     for j in 0..blocks_for(most) {
         match write_block(blue, green, red, starts, bits, j, &mut room, out) {
             Ok(count) => gone += count,
@@ -185,10 +185,10 @@ fn write_block<K: Sink>(
     starts: [u32; 3],
     bits: [u32; 3],
     j: u32,
-    room: &mut [u8; 4096],
+    room: &mut [u8; BLOCK_BYTES],
     out: &mut K,
 ) -> Result<usize, Wrote>
-    requires below { 32768 * j < 2 ^ 32 }
+    requires below { BLOCK_BITS * j < 2 ^ 32 }
     requires blue { HasBits blue.now (slice_index starts 0) (slice_index bits 0) }
     requires green { HasBits green.now (slice_index starts 1) (slice_index bits 1) }
     requires red { HasBits red.now (slice_index starts 2) (slice_index bits 2) }
@@ -223,17 +223,17 @@ fn write_chunk<K: Sink>(
     from: u32,
     bits: u32,
     j: u32,
-    room: &mut [u8; 4096],
+    room: &mut [u8; BLOCK_BYTES],
     out: &mut K,
 ) -> Result<usize, Wrote>
-    requires below { 32768 * j < 2 ^ 32 }
+    requires below { BLOCK_BITS * j < 2 ^ 32 }
     requires has { HasBits row.now from bits }
     ensures size { IfOk result (λ n. n ≡ length (chunk j (packed (take bits (drop from row.now))))) }
-    ensures small { IfOk result (λ n. n ≤ 4096) }
+    ensures small { IfOk result (λ n. n ≤ BLOCK_BYTES) }
     ensures whole { OnOk result (Appends (K.held out.old) (K.held out.new) (chunk j (packed (take bits (drop from row.now))))) }
     ensures part { IfErr result (λ w. Appends (K.held out.old) (K.held out.new) (take w.gone (chunk j (packed (take bits (drop from row.now)))))) }
     ensures missing { IfErr result (λ w. w.gone < length (chunk j (packed (take bits (drop from row.now))))) }
-    ensures few { IfErr result (λ w. w.gone < 4096) }
+    ensures few { IfErr result (λ w. w.gone < BLOCK_BYTES) }
     ensures cause { HasCause (K.faults out.old) (K.faults out.new) result }
 {
     let count = chunk_len(bits, j);
@@ -241,7 +241,7 @@ fn write_chunk<K: Sink>(
         return Ok(0);
     }
     let part = &mut room[..count.div_ceil(8) as usize];
-    copy_packed(row, from + 32768 * j, count, part);
+    copy_packed(row, from + BLOCK_BITS * j, count, part);
     write_piece(out, part)
 }
 

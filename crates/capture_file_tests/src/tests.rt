@@ -173,9 +173,9 @@ fn read_blocks(source: &mut MemSource) -> Result<(u32, usize), CaptureError> {
         if let Some(block) = reader.next()? {
             blocks = blocks.wrapping_add(1);
             bytes = bytes
-                .wrapping_add(block.a.len())
-                .wrapping_add(block.b.len())
-                .wrapping_add(block.c.len());
+                .wrapping_add(block.blue.len())
+                .wrapping_add(block.green.len())
+                .wrapping_add(block.red.len());
         }
     }
     Ok((blocks, bytes))
@@ -199,11 +199,11 @@ fn first_block(alloc: Global, source: &mut MemSource, sink: &mut MemSink) -> Res
     let Ok(Some(block)) = reader.next() else {
         return Err("a block")?;
     };
-    for lane in [block.a, block.b, block.c] {
+    for lane in [block.blue, block.green, block.red] {
         write_all(sink, lane).ok().ok_or("room")?;
     }
     let bits = block.bits;
-    let sizes = [block.a.len(), block.b.len(), block.c.len()];
+    let sizes = [block.blue.len(), block.green.len(), block.red.len()];
     Ok(format!(in alloc; "{bits:?} {sizes:?}")?)
 }
 

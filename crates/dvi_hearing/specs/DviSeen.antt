@@ -1,5 +1,6 @@
 -- What contracts see of a hearing of a stream without guard columns.
 use Rattle.std.specs.Prelude.{◌≡◌, ◌≤◌, ◌+◌, ℕ, Bool, List, length}
+use Rattle.tmds_word.specs.declared.TheConstants.{MOST_COLUMNS}
 use Rattle.period_grammar.specs.LineSeen.{LineSeen}
 use Rattle.period_grammar.specs.ControlAfter.{IsCounted}
 use Rattle.period_grammar.specs.Noted.{events, lent}
@@ -29,7 +30,7 @@ pub record IsSound (columns : ℕ) (phase : Phase) (control : ControlState) (lin
   pub few : control.columns ≤ columns
   pub placed : IsPlaced phase line.count columns
   pub reported : length notes ≤ 8
-  pub short : columns ≤ 429496730
+  pub short : columns ≤ MOST_COLUMNS
 
 -- what the last call reported
 abbrev pub last_reported : DviSeen → List Event

@@ -15,7 +15,7 @@ use period_grammar::{
 };
 use std::marker::Model;
 use terc4::is_control_column;
-use tmds_word::{Columns, Word};
+use tmds_word::{Columns, MOST_COLUMNS, Word};
 
 /// Hears the columns of a stream without guard columns one after another. It keeps a few numbers of them and the bytes
 /// of one line.
@@ -73,7 +73,7 @@ impl DviHearing {
 
     /// Hears one column, the words of lanes 0, 1 and 2; `tells` and `reported` then say what is reported at it.
     pub fn hear(&mut self, column: &[Word; 3])
-        requires few { self.old.columns < 429496730 }
+        requires few { self.old.columns < MOST_COLUMNS }
         requires open { self.old.finished ≡ false }
         ensures columns { self.new.columns ≡ self.old.columns + 1 }
         ensures open { self.new.finished ≡ false }
@@ -113,7 +113,7 @@ impl DviHearing {
     /// Hears columns from the first on, as long as they go on with the run or the line that is open, and answers how many
     /// these are: none where none is open. Nothing is reported. `hear` takes the column that follows.
     pub fn hear_while(&mut self, columns: Columns<'_>) -> usize
-        requires few { self.old.columns + length (columns_in columns) ≤ 429496730 }
+        requires few { self.old.columns + length (columns_in columns) ≤ MOST_COLUMNS }
         requires open { self.old.finished ≡ false }
         ensures within { result ≤ length (columns_in columns.entry) }
         ensures columns { self.new.columns ≡ self.old.columns + result }
@@ -132,7 +132,7 @@ impl DviHearing {
     /// Hears control columns of the last run, and answers how many these are.
     fn hear_run(&mut self, columns: Columns<'_>) -> usize
         requires phase { self.old.phase ≡ Control }
-        requires few { self.old.columns + length (columns_in columns) ≤ 429496730 }
+        requires few { self.old.columns + length (columns_in columns) ≤ MOST_COLUMNS }
         ensures within { result ≤ length (columns_in columns.entry) }
         ensures columns { self.new.columns ≡ self.old.columns + result }
         ensures open { self.new.finished ≡ self.old.finished }
@@ -149,7 +149,7 @@ impl DviHearing {
     /// Hears pixels of the line that is open, and answers how many these are.
     fn hear_line(&mut self, columns: Columns<'_>) -> usize
         requires phase { (start : ℕ) × (self.old.phase ≡ Pixels start) }
-        requires few { self.old.columns + length (columns_in columns) ≤ 429496730 }
+        requires few { self.old.columns + length (columns_in columns) ≤ MOST_COLUMNS }
         ensures within { result ≤ length (columns_in columns.entry) }
         ensures columns { self.new.columns ≡ self.old.columns + result }
         ensures open { self.new.finished ≡ self.old.finished }

@@ -39,7 +39,7 @@ record IsCheckOf (cs : List Column) (o : RunOutcome) : Type 0 where
 reported_check : (blue green red : List Bool) (d e f columns : ℕ) (events : List Event) (o : RunOutcome) → IsFirst blue green red d e f → IsAlignedReported blue green red columns events
     → o ≡ record { status = status_with (fault_lines events); output = check_text events; note = [] } → IsCheckOf (aligned_columns blue green red d e f) o
 reported_check blue green red d e f columns events o first reported is =
-    let one = one_first blue green red reported.d reported.e reported.f d e f reported.first first in
+    let one = one_first blue green red reported.blue reported.green reported.red d e f reported.first first in
     grind arith
 
 lanes_check : (blue green red : List Bool) (d e f : ℕ) (o : RunOutcome) → IsFirst blue green red d e f → ListsLanes link_grammar check_listing blue green red o → IsCheckOf (aligned_columns blue green red d e f) o

@@ -40,7 +40,7 @@ Lends version counts j a b d bits = (taken : List ℕ) (x y z : List Bool) → S
 
 pub at_its_length : (version : ℕ) (counts : List ℕ) (j : ℕ) (taken : List ℕ) (x y z : List Bool) → Stands version counts j taken x y z → HasRead counts j (length taken) taken x y z
 at_its_length version counts j taken x y z h =
-    record { head = h.head; headed = h.headed; count_x = h.count_x; count_y = h.count_y; count_z = h.count_z; taken_is = h.taken_is; place_is = refl }
+    record { head = h.head; headed = h.headed; count_blue = h.count_blue; count_green = h.count_green; count_red = h.count_red; taken_is = h.taken_is; place_is = refl }
 
 pub heard_more : {A H : Type 0} (g : Grammar) (goes_on : H → List Column → Type 0) (took : A → A → List Event → Type 0) → Joins took → (version : ℕ) (counts : List ℕ) (j : ℕ) (from left0 left1 : Option (List ℕ)) (sink0 sink1 : LaneSinkSeen H) (a b d bits : List ℕ) (first old new : A)
     → HasHeard g goes_on took version counts j from left0 sink0 first old → Consumes left0 left1 ((a ++ b) ++ d) → Lends version counts j a b d bits → Adds goes_on sink0 sink1 a b d bits

@@ -95,9 +95,9 @@ pub record BeginsReported (g : Grammar) (fed : Fed) (events : List Event) : Type
 
 pub begins_reported : (g : Grammar) (fed : Fed) (columns : ℕ) (events : List Event) → IsGrammar g → IsAlignedBy g fed.blue fed.green fed.red columns events → BeginsReported g fed events
 begins_reported g fed columns events is all =
-    let columns_are = aligned_columns fed.blue fed.green fed.red all.d all.e all.f in
+    let columns_are = aligned_columns fed.blue fed.green fed.red all.blue all.green all.red in
     let end = is.ended columns_are in
-    record { first = g.so_far columns_are; reported = inl (all.d, all.e, all.f, all.first, refl); goes = record { mid = end.0; is = all.reported ∙ end.1 } }
+    record { first = g.so_far columns_are; reported = inl (all.blue, all.green, all.red, all.first, refl); goes = record { mid = end.0; is = all.reported ∙ end.1 } }
 
 -- what holds from one value to another, said of values that they are
 pub between : {A : Type 0} (P : A → A → Type 0) (a b c d : A) → b ≡ a → d ≡ c → P b c → P a d

@@ -38,7 +38,7 @@ lanes_asked (t ∷ texts) [] are = absurd are
 lanes_asked (t ∷ texts) (w ∷ words) are = λ (k : ℕ) (d : Hit) lt. asked_at w words are.0.lane (lanes_asked texts words are.1) k d lt
 
 damaged_capture : (bytes : List ℕ) (hits : List Hit) (whole : List ℕ) → IsDamagedCapture bytes hits whole → IsCapture bytes
-damaged_capture bytes hits whole is = record { blue = is.x; green = is.y; red = is.z; holds = is.holds }
+damaged_capture bytes hits whole is = record { blue = is.blue; green = is.green; red = is.red; holds = is.holds }
 
 misplaced_within : (bytes : List ℕ) (hits : List Hit) (i : ℕ) (fault : CaptureFault) (out : List ℕ) → IsMisplacedIn bytes hits i → IsFaultyDamage bytes hits fault out → ⊥
 misplaced_within bytes hits i fault out a b = a.first.passes (b.within a.head a.counts a.tail a.headed a.bytes_are i a.first.hit a.first.here)
@@ -62,11 +62,11 @@ damages_once hits bytes o p lanes (inr (inr (fault, out, a, is))) (inr (inr (oth
 -- ---- a slip
 
 slipped_capture : (bytes : List ℕ) (slip : SlipWord) (whole : List ℕ) → IsSlippedCapture bytes slip.lane slip.place slip.bits whole → IsCapture bytes
-slipped_capture bytes slip whole is = record { blue = is.x; green = is.y; red = is.z; holds = is.holds }
+slipped_capture bytes slip whole is = record { blue = is.blue; green = is.green; red = is.red; holds = is.holds }
 
 fits_within : (bytes : List ℕ) (slip : SlipWord) (whole : List ℕ) → slip.lane < 3 → IsSlippedCapture bytes slip.lane slip.place slip.bits whole → IsPastEnd slip bytes → ⊥
 fits_within bytes slip whole lane a (head, counts, tail, headed, is, past) =
-    let same = one_header bytes head tail counts a.holds.head (lane_blocks a.x a.y a.z) (counts_of a.x a.y a.z) headed is a.holds.headed a.holds.bytes_are in
+    let same = one_header bytes head tail counts a.holds.head (lane_blocks a.blue a.green a.red) (counts_of a.blue a.green a.red) headed is a.holds.headed a.holds.bytes_are in
     let fits = a.fits in
     omega (arith, past, fits, same.count slip.lane lane)
 

@@ -46,10 +46,10 @@ one_before bytes place f g (inr (taken, rest, counts, j, split, read, stops)) (i
 
 one_listing : (g : Grammar) (listing : Listing) (x y z : List Bool) (o p : RunOutcome) → ListsLanes g listing x y z o → ListsLanes g listing x y z p → o ≡ p
 one_listing g listing x y z o p (inl (columns, events, a, is)) (inl (others, all, b, are)) =
-    let same : events ≡ all = a.reported ∙ ap g.whole (aligned_same x y z a.d a.e a.f b.d b.e b.f a.first b.first) ∙ sym b.reported in
+    let same : events ≡ all = a.reported ∙ ap g.whole (aligned_same x y z a.blue a.green a.red b.blue b.green b.red a.first b.first) ∙ sym b.reported in
     is ∙ ap (λ (es : List Event). record { status = status_with (listing.faults es); output = listing.text es; note = [] }) same ∙ sym are
-one_listing g listing x y z o p (inl (columns, events, a, is)) (inr (others, all, b, are)) = absurd (b.nowhere a.d a.e a.f a.first.triple)
-one_listing g listing x y z o p (inr (columns, events, a, is)) (inl (others, all, b, are)) = absurd (a.nowhere b.d b.e b.f b.first.triple)
+one_listing g listing x y z o p (inl (columns, events, a, is)) (inr (others, all, b, are)) = absurd (b.nowhere a.blue a.green a.red a.first.triple)
+one_listing g listing x y z o p (inr (columns, events, a, is)) (inl (others, all, b, are)) = absurd (a.nowhere b.blue b.green b.red b.first.triple)
 one_listing g listing x y z o p (inr (columns, events, a, is)) (inr (others, all, b, are)) = is ∙ sym are
 
 one_refusal : (g : Grammar) (listing : Listing) (bytes : List ℕ) (f h : CaptureFault) (o p : RunOutcome) → ListsBefore g listing bytes f o → ListsBefore g listing bytes h p → o ≡ p

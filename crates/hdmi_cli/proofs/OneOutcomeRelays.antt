@@ -101,7 +101,7 @@ passes_before bytes fault p r = elim (p.reported) [
 
 within_limit : (x y z : List Bool) (columns : ℕ) (events : List Event) (output bytes : List ℕ) → IsCaptureOf x y z bytes → IsAlignedReported x y z columns events → IsRelayed events output → PassesLimit bytes → ⊥
 within_limit x y z columns events output bytes captured aligned is p =
-    let passes = passes_whole x y z aligned.d aligned.e aligned.f bytes captured aligned.first p in
+    let passes = passes_whole x y z aligned.blue aligned.green aligned.red bytes captured aligned.first p in
     let few = subst (λ (es : List Event). columns_of (relayed es) ≤ 20000000) aligned.reported is.few in
     omega (arith, passes, few)
 
@@ -113,12 +113,12 @@ one_relayed events a b h k = h.output_is ∙ ap (λ (cs : List Column). tapped_c
 one_reported : (x y z u v w : List Bool) (m n : ℕ) (us vs : List Event) (bytes : List ℕ) → IsCaptureOf x y z bytes → IsCaptureOf u v w bytes → IsAlignedReported x y z m us → IsAlignedReported u v w n vs → us ≡ vs
 one_reported x y z u v w m n us vs bytes is are a b =
     let own = same_reported x y z u v w n vs (one_capture x y z u v w bytes is are) b in
-    a.reported ∙ ap heard (aligned_same x y z a.d a.e a.f own.d own.e own.f a.first own.first) ∙ sym own.reported
+    a.reported ∙ ap heard (aligned_same x y z a.blue a.green a.red own.blue own.green own.red a.first own.first) ∙ sym own.reported
 
 aligned_nowhere : (x y z u v w : List Bool) (m n : ℕ) (us vs : List Event) (bytes : List ℕ) → IsCaptureOf x y z bytes → IsCaptureOf u v w bytes → IsAlignedReported x y z m us → IsNowhereReported u v w n vs → ⊥
 aligned_nowhere x y z u v w m n us vs bytes is are a b =
     let own = same_reported u v w x y z m us (one_capture u v w x y z bytes are is) a in
-    b.nowhere own.d own.e own.f own.first.triple
+    b.nowhere own.blue own.green own.red own.first.triple
 
 pub relays_once : (bytes : List ℕ) (o p : RunOutcome) → Relays bytes o → Relays bytes p → o ≡ p
 relays_once bytes o p (inl (x, y, z, m, us, out, captured, aligned, relays, is)) (inl (u, v, w, n, vs, other, again, reported, others, are)) =

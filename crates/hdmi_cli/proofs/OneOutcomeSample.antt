@@ -26,10 +26,10 @@ use Rattle.hdmi_cli.proofs.Headline.{aligned_same}
 -- of lanes one count of columns and one list of events is reported
 one_hearing : (x y z : List Bool) (a b : Bool) (m n : ℕ) (us vs : List Event) → reported_by a x y z m us → reported_by b x y z n vs → (m ≡ n) × (us ≡ vs)
 one_hearing x y z true true m n us vs s t =
-    let same = aligned_same x y z s.d s.e s.f t.d t.e t.f s.first t.first in
+    let same = aligned_same x y z s.blue s.green s.red t.blue t.green t.red s.first t.first in
     (s.columns_are ∙ ap length same ∙ sym t.columns_are, s.reported ∙ ap heard same ∙ sym t.reported)
-one_hearing x y z true false m n us vs s t = absurd (t.nowhere s.d s.e s.f s.first.triple)
-one_hearing x y z false true m n us vs s t = absurd (s.nowhere t.d t.e t.f t.first.triple)
+one_hearing x y z true false m n us vs s t = absurd (t.nowhere s.blue s.green s.red s.first.triple)
+one_hearing x y z false true m n us vs s t = absurd (s.nowhere t.blue t.green t.red t.first.triple)
 one_hearing x y z false false m n us vs s t = (s.columns_are ∙ sym t.columns_are, s.reported ∙ sym t.reported)
 
 same_heard : (x y z u v w : List Bool) (outcome : Outcome) (events : List Event) → AreSame x y z u v w → AreReported u v w outcome events → AreReported x y z outcome events

@@ -122,14 +122,14 @@ own_aligns runs q ps columns good more =
 -- With an edge.
 
 pub record IsOwn (runs : List ControlRun) (ps : List Period) (columns : List Column) : Type 0 where
-  pub d : ℕ
-  pub e : ℕ
-  pub f : ℕ
-  pub first : IsFirst (blue_of columns) (green_of columns) (red_of columns) d e f
+  pub blue : ℕ
+  pub green : ℕ
+  pub red : ℕ
+  pub first : IsFirst (blue_of columns) (green_of columns) (red_of columns) blue green red
   pub a : ℕ
   pub from : a + 12 ≡ length (values_of runs)
-  pub aligned : aligned_columns (blue_of columns) (green_of columns) (red_of columns) d e f ≡ drop a columns
-  pub reported : heard (aligned_columns (blue_of columns) (green_of columns) (red_of columns) d e f) ≡ account (control runs ∷ ps) columns columns a (length (drop a columns))
+  pub aligned : aligned_columns (blue_of columns) (green_of columns) (red_of columns) blue green red ≡ drop a columns
+  pub reported : heard (aligned_columns (blue_of columns) (green_of columns) (red_of columns) blue green red) ≡ account (control runs ∷ ps) columns columns a (length (drop a columns))
 
 -- from the end of its first control period on it is aligned
 pub own_aligned : (runs : List ControlRun) (q : Period) (ps : List Period) (columns : List Column) → IsConforming (control runs ∷ (q ∷ ps)) → Spells (control runs ∷ (q ∷ ps)) columns

@@ -54,7 +54,7 @@ columns_more runs q ps h = grind arith
 pub record IsHeardAgain (runs : List ControlRun) (ps : List Period) (columns : List Column) : Type 0 where
   pub own : IsOwn runs ps columns
   pub events : List Event
-  pub reported : heard (aligned_columns (blue_of columns) (green_of columns) (red_of columns) own.d own.e own.f) ≡ events
+  pub reported : heard (aligned_columns (blue_of columns) (green_of columns) (red_of columns) own.blue own.green own.red) ≡ events
   pub back : relayed events ≡ cut_first own.a (control runs ∷ ps)
   pub few : columns_of (relayed events) ≤ 20000000
   pub front : IsFront (drop own.a columns)
@@ -106,7 +106,7 @@ comes_back law events runs q ps columns o status old new are few spelled is writ
     let reported = again.events in
     let back = again.back in
     let clean_columns = again.faultless_is in
-    elim (capture_relay reported (blue_of columns) (green_of columns) (red_of columns) own.d own.e own.f (tapped_capture columns whole_tap) o again.captured own.first again.reported does) [
+    elim (capture_relay reported (blue_of columns) (green_of columns) (red_of columns) own.blue own.green own.red (tapped_capture columns whole_tap) o again.captured own.first again.reported does) [
       | inl long ↦ let passes = long.passes in absurd (omega (arith, passes, again.few))
       | inr sent ↦ grind arith
     ]

@@ -119,9 +119,9 @@ blocks_begin x y z u v w bytes taken rest counts j place c split h =
     sym c.bytes_are ∙ split ∙ ap (λ bs. bs ++ rest) h.taken_is ∙ append_assoc h.head blocks rest in
     let heads = same_heads c.head h.head (counts_of x y z) counts (lane_blocks x y z) (blocks ++ rest) c.headed h.headed all in
     let tails : lane_blocks x y z ≡ blocks ++ rest = same_rest c.head (lane_blocks x y z) h.head (blocks ++ rest) all (ap (λ (hs : List ℕ). length hs) heads.same) in
-    let a : length (first_bits j x) ≡ length u = length-take (32768 * j) x ∙ min_by j (length x) (slice_index counts 0) (heads.count 0 (omega arith)) ∙ sym h.count_x in
-    let b : length (first_bits j y) ≡ length v = length-take (32768 * j) y ∙ min_by j (length y) (slice_index counts 1) (heads.count 1 (omega arith)) ∙ sym h.count_y in
-    let d : length (first_bits j z) ≡ length w = length-take (32768 * j) z ∙ min_by j (length z) (slice_index counts 2) (heads.count 2 (omega arith)) ∙ sym h.count_z in
+    let a : length (first_bits j x) ≡ length u = length-take (32768 * j) x ∙ min_by j (length x) (slice_index counts 0) (heads.count 0 (omega arith)) ∙ sym h.count_blue in
+    let b : length (first_bits j y) ≡ length v = length-take (32768 * j) y ∙ min_by j (length y) (slice_index counts 1) (heads.count 1 (omega arith)) ∙ sym h.count_green in
+    let d : length (first_bits j z) ≡ length w = length-take (32768 * j) z ∙ min_by j (length z) (slice_index counts 2) (heads.count 2 (omega arith)) ∙ sym h.count_red in
     let f = piece_of (three x y z) in
     let g = piece_of (three u v w) in
     let first = piece_of (three (first_bits j x) (first_bits j y) (first_bits j z)) in
@@ -133,9 +133,9 @@ blocks_begin x y z u v w bytes taken rest counts j place c split h =
     ∙ ap (λ (bs : List ℕ). length bs) (sym near) in
     let is = pieces_front (3 * j) (3 * blocks_in (length x) (length y) (length z)) f g rest long (sym (all_pieces x y z) ∙ tails ∙ ap (λ bs. bs ++ rest) (blocks-pieces j u v w)) in
     let few = h.headed.said.small in
-    let m0 = h.count_x in
-    let m1 = h.count_y in
-    let m2 = h.count_z in
+    let m0 = h.count_blue in
+    let m1 = h.count_green in
+    let m2 = h.count_red in
     let s0 = few 0 (omega arith) in
     let s1 = few 1 (omega arith) in
     let s2 = few 2 (omega arith) in

@@ -90,9 +90,9 @@ clean_capture =
       blue_of sent,
       green_of sent,
       red_of sent,
-      own.d,
-      own.e,
-      own.f,
+      own.blue,
+      own.green,
+      own.red,
       tapped_capture sent whole_tap,
       record {
         captured = record { captured = own_captured sent (omega (arith, long)); first = own.first };
@@ -148,11 +148,11 @@ relayed_twice law =
           blue_of columns,
           green_of columns,
           red_of columns,
-          length (aligned_columns (blue_of columns) (green_of columns) (red_of columns) own.d own.e own.f),
+          length (aligned_columns (blue_of columns) (green_of columns) (red_of columns) own.blue own.green own.red),
           again.events,
           output,
           again.captured,
-          record { d = own.d; e = own.e; f = own.f; first = own.first; columns_are = refl; reported = sym again.reported },
+          record { blue = own.blue; green = own.green; red = own.red; first = own.first; columns_are = refl; reported = sym again.reported },
           record { columns = next.0; few = again.few; spelled = next.1; output_is = refl },
           ap (λ (b : Bool). record { status = relay_status b; output = output; note = [] }) (sym again.faultless_is),
         );

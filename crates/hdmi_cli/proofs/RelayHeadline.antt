@@ -78,7 +78,7 @@ pub nowhere_relay : (blue green red : List Bool) (bytes : List ℕ) (o : RunOutc
     → (o.status ≡ 7) × (o.output ≡ [])
 nowhere_relay blue green red bytes o captured none (inl (x, y, z, columns, events, output, is, reported, relays, same)) =
     let own = same_reported blue green red x y z columns events (one_capture blue green red x y z bytes captured is) reported in
-    absurd (none own.d own.e own.f own.first.triple)
+    absurd (none own.blue own.green own.red own.first.triple)
 nowhere_relay blue green red bytes o captured none (inr (inl (x, y, z, columns, events, is, nowhere, same))) = (ap (λ (p : RunOutcome). p.status) same, ap (λ (p : RunOutcome). p.output) same)
 nowhere_relay blue green red bytes o captured none (inr (inr (inl (passes, same)))) = absurd (passes_nowhere blue green red bytes captured none passes)
 nowhere_relay blue green red bytes o captured none (inr (inr (inr (fault, before, same)))) =

@@ -45,11 +45,11 @@ passes_whole x y z d e f bytes captured first p = elim (p.reported) [
   | inl (taken, rest, counts, j, split, has, reported) ↦
       let begin = blocks_begin x y z p.fed.blue p.fed.green p.fed.red bytes taken rest counts j _ captured split has in
       let whole = whole_grows link_grammar link_is_grammar p.fed (lanes x y z) (length (aligned_columns x y z d e f)) p.events (heard (aligned_columns x y z d e f)) (grown x y z p.fed begin) reported
-      (record { d = d; e = e; f = f; first = first; columns_are = refl; reported = refl }) in
+      (record { blue = d; green = e; red = f; first = first; columns_are = refl; reported = refl }) in
       more_passes p.events (heard (aligned_columns x y z d e f)) whole p.passes
   | inr (columns, is, reported) ↦
       let own = same_reported x y z p.fed.blue p.fed.green p.fed.red columns p.events (one_capture x y z p.fed.blue p.fed.green p.fed.red bytes captured is) reported in
-      let all : p.events ≡ heard (aligned_columns x y z d e f) = own.reported ∙ ap heard (aligned_same x y z own.d own.e own.f d e f own.first first) in
+      let all : p.events ≡ heard (aligned_columns x y z d e f) = own.reported ∙ ap heard (aligned_same x y z own.blue own.green own.red d e f own.first first) in
       subst (λ ts. 20000000 < columns_of (relayed ts)) all p.passes
 ]
 
@@ -70,5 +70,5 @@ passes_nowhere x y z bytes captured nowhere p = elim (p.reported) [
       omega (arith, passes, none_columns)
   | inr (columns, is, reported) ↦
       let own = same_reported x y z p.fed.blue p.fed.green p.fed.red columns p.events (one_capture x y z p.fed.blue p.fed.green p.fed.red bytes captured is) reported in
-      nowhere own.d own.e own.f own.first.triple
+      nowhere own.blue own.green own.red own.first.triple
 ]

@@ -46,10 +46,10 @@ record IsOf (columns : List Column) (x y z : List Bool) : Type 0 where
   red : length z ≡ tap_count sample_tap (length columns) 2
 
 record Lanes (columns : List Column) : Type 0 where
-  x : List Bool
-  y : List Bool
-  z : List Bool
-  are : IsOf columns x y z
+  blue : List Bool
+  green : List Bool
+  red : List Bool
+  are : IsOf columns blue green red
 
 length_part : (words : List ℕ) (from count : ℕ) → from + count ≤ 10 * length words → length (part_of words from count) ≡ count
 length_part words from count within =
@@ -61,9 +61,9 @@ long_lanes columns long few =
     let n = length columns in
     let t = tap_of columns sample_tap in
     record {
-      x = t.blue;
-      y = t.green;
-      z = t.red;
+      blue = t.blue;
+      green = t.green;
+      red = t.red;
       are = record {
         captured = tap_is_captured columns sample_tap (omega arith) (omega arith);
         blue = length_part (blues columns) 123457 (tap_count sample_tap n 0) (omega (arith, length-map columns (λ c. c.blue)));
@@ -97,9 +97,9 @@ short_lanes columns short =
     let g = no_part (greens columns) 123527 (tap_count sample_tap n 1) (omega arith) in
     let r = no_part (reds columns) 123492 (tap_count sample_tap n 2) (omega arith) in
     record {
-      x = [];
-      y = [];
-      z = [];
+      blue = [];
+      green = [];
+      red = [];
       are = record {
         captured =
             subst (λ (bs : List Bool). IsCaptureOf [] [] [] (layout 1 bs (tap_of columns sample_tap).green (tap_of columns sample_tap).red)) (sym b)
@@ -117,7 +117,7 @@ lanes columns few = grind (arith, cases_lt, short_lanes, long_lanes)
 pub tapped_is_capture : (frames : ℕ) (bytes : List ℕ) (hits : List Hit) → IsSampleCapture frames bytes hits → IsCapture bytes
 tapped_is_capture frames bytes hits t =
     let l = lanes t.sent t.is_sent.few_columns in
-    subst IsCapture (sym t.bytes_are) (record { blue = l.x; green = l.y; red = l.z; holds = l.are.captured })
+    subst IsCapture (sym t.bytes_are) (record { blue = l.blue; green = l.green; red = l.red; holds = l.are.captured })
 
 -- its hits lie within its lanes as every header of it says them
 pub placed : (frames : ℕ) (bytes : List ℕ) (hits : List Hit) (left rest : Option (List ℕ)) (i : ℕ) → IsSampleCapture frames bytes hits → left ≡ Some bytes → IsMisplacedLane left rest hits i → ⊥
@@ -125,9 +125,9 @@ placed frames bytes hits left rest i t is m =
     let l = lanes t.sent t.is_sent.few_columns in
     let own = l.are.captured in
     let tail = consumed left rest bytes m.head is m.took in
-    let heads = same_heads own.head m.head (counts_of l.x l.y l.z) m.counts (lane_blocks l.x l.y l.z) tail.0 own.headed m.headed (sym own.bytes_are ∙ sym t.bytes_are ∙ tail.1) in
+    let heads = same_heads own.head m.head (counts_of l.blue l.green l.red) m.counts (lane_blocks l.blue l.green l.red) tail.0 own.headed m.headed (sym own.bytes_are ∙ sym t.bytes_are ∙ tail.1) in
     let counts : (c : ℕ) → c < 3 → slice_index (tap_counts sample_tap t.sent) c ≡ slice_index m.counts c =
-    λ c lt. sym (counted l.x l.y l.z t.sent l.are c lt) ∙ heads.count c lt in
+    λ c lt. sym (counted l.blue l.green l.red t.sent l.are c lt) ∙ heads.count c lt in
     m.first.passes (fits_same (tap_counts sample_tap t.sent) m.counts hits counts t.is_sent.lanes t.is_sent.fits i m.first.hit m.first.here)
   where
     counted : (x y z : List Bool) (columns : List Column) → IsOf columns x y z → (c : ℕ) → c < 3 → slice_index (counts_of x y z) c ≡ slice_index (tap_counts sample_tap columns) c
@@ -143,14 +143,14 @@ bad_of says e fault h is = subst (SaysBad says) is h
 -- a damaged capture is a capture
 pub struck_is_capture : (bytes : List ℕ) (hits : List Hit) (whole : List ℕ) → IsDamagedCapture bytes hits whole → IsCapture whole
 struck_is_capture bytes hits whole d =
-    let counts = counts_of d.x d.y d.z in
-    let x = damaged_all 0 hits d.x (lane_fits counts hits 0 (length d.x) d.fits refl) in
-    let y = damaged_all 1 hits d.y (lane_fits counts hits 1 (length d.y) d.fits refl) in
-    let z = damaged_all 2 hits d.z (lane_fits counts hits 2 (length d.z) d.fits refl) in
+    let counts = counts_of d.blue d.green d.red in
+    let x = damaged_all 0 hits d.blue (lane_fits counts hits 0 (length d.blue) d.fits refl) in
+    let y = damaged_all 1 hits d.green (lane_fits counts hits 1 (length d.green) d.fits refl) in
+    let z = damaged_all 2 hits d.red (lane_fits counts hits 2 (length d.red) d.fits refl) in
     record {
-      blue = damaged 0 hits d.x;
-      green = damaged 1 hits d.y;
-      red = damaged 2 hits d.z;
+      blue = damaged 0 hits d.blue;
+      green = damaged 1 hits d.green;
+      red = damaged 2 hits d.red;
       holds = grind (arith, header_same, by_lane);
     }
 

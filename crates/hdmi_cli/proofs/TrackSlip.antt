@@ -55,7 +55,7 @@ twice_whole y lane start aligned track_events h =
 -- what is reported of lanes with a full alignment
 reported_at : (b : Bool) (xs ys zs : List Bool) (columns : ℕ) (events : List Event) (d e f : ℕ) → reported_by b xs ys zs columns events → IsFirst xs ys zs d e f
     → events ≡ heard (aligned_columns xs ys zs d e f)
-reported_at true xs ys zs columns events d e f reported first = reported.reported ∙ ap heard (aligned_same xs ys zs reported.d reported.e reported.f d e f reported.first first)
+reported_at true xs ys zs columns events d e f reported first = reported.reported ∙ ap heard (aligned_same xs ys zs reported.blue reported.green reported.red d e f reported.first first)
 reported_at false xs ys zs columns events d e f reported first = absurd (reported.nowhere d e f first.triple)
 
 both_or : (a b : Bool) → (a || b) ≡ true → one_if a + one_if b ≡ 0 → ⊥

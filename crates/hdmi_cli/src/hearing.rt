@@ -65,7 +65,7 @@ pub(crate) fn hear_block<R: Threads, S: Source, H: Hears, E: Ear, G: Gate>(
     ensures ear_later { E.faults ear.old ≤ E.faults ear.new }
 {
     match reader.next() {
-        Ok(Some(block)) => match sink.feed(rt, block.a, block.b, block.c, block.bits, gate, ear) {
+        Ok(Some(block)) => match sink.feed(rt, block, gate, ear) {
             Ok(()) => Ok(true),
             Err(_) => Err(HearError::Ear),
         },

@@ -45,7 +45,7 @@ fn follow_block<R: Threads, S: Source, E: TrackEar>(
     ensures ear_later { E.faults ear.old ≤ E.faults ear.new }
 {
     match reader.next() {
-        Ok(Some(block)) => match sink.feed(rt, block.a, block.b, block.c, block.bits, ear) {
+        Ok(Some(block)) => match sink.feed(rt, block, ear) {
             Ok(()) => Ok(true),
             Err(_) => Err(HearError::Ear),
         },

@@ -145,7 +145,13 @@ fn has_control(row: &BitRow, p: u32) -> bool
 /// The three characters of a column, lane 0 first: the windows of the lanes at 120 bits before their
 /// edges and `10 * j` bits on, where `at` is the rows' alignment. None exactly where not all three
 /// lanes have such a window.
-pub(crate) fn column(blue: &BitRow, green: &BitRow, red: &BitRow, at: &Aligned, j: u32) -> Option<[Word; 3]>
+pub(crate) fn column(
+    blue: &BitRow,
+    green: &BitRow,
+    red: &BitRow,
+    at: &Aligned,
+    j: u32,
+) -> Option<[Word; 3]>
     requires { IsAlignment blue.now green.now red.now at.now.edges }
     ensures { MatchOption result (column_at blue.now green.now red.now at.now.edges j ≡ None) (λ words. column_at blue.now green.now red.now at.now.edges j ≡ Some (column_of words)) }
 {

@@ -1,7 +1,8 @@
 -- What a team has of its three lanes, and what a feed adds to it.
-use Rattle.std.specs.Prelude.{◌≡◌, ℕ, ◌+◌, ◌/◌, ◌%◌, ◌^◌, ◌<◌, ◌≤◌, ◌++◌, ◌⊎◌, Bool, List, [], length, take, None}
+use Rattle.std.specs.Prelude.{◌≡◌, ℕ, ◌+◌, ◌/◌, ◌%◌, ◌^◌, ◌<◌, ◌≤◌, ◌++◌, ◌⊎◌, Bool, List, [], length, take, slice_index, None}
 use Rattle.std.proofs.Common.{suc, zero}
 use Rattle.tmds_word.specs.Bits.{bytes_bits}
+use Rattle.tmds_word.specs.declared.lane_bits.LaneBits.{LaneBits}
 use Rattle.lane_align.specs.Words.{AreWords, lane_words}
 use Rattle.lane_align.specs.declared.TheConstants.{FEED_BITS}
 use Rattle.lane_align.specs.Aligners.{AlignerRepresents, fed_of, lock_of}
@@ -50,3 +51,14 @@ pub record HasTaken (old : Side) (bytes : List ℕ) (bits : ℕ) (new : Side) : 
   pub stands : (xs : List Bool) → AlignerRepresents old.aligner xs → AlignerRepresents new.aligner (xs ++ take bits (bytes_bits bytes))
   pub words : (xs : List Bool) → AlignerRepresents old.aligner xs
       → lane_words (lock_of old.aligner) xs ++ new.words ≡ lane_words (lock_of new.aligner) (xs ++ take bits (bytes_bits bytes))
+
+-- the same of each of three lanes
+pub record CanTakeLanes (sides : Sides) (lanes : LaneBits) : Type 0 where
+  pub blue : CanTake sides.blue lanes.blue.now (slice_index lanes.bits 0)
+  pub green : CanTake sides.green lanes.green.now (slice_index lanes.bits 1)
+  pub red : CanTake sides.red lanes.red.now (slice_index lanes.bits 2)
+
+pub record HaveTaken (old : Sides) (lanes : LaneBits) (new : Sides) : Type 0 where
+  pub blue : HasTaken old.blue lanes.blue.now (slice_index lanes.bits 0) new.blue
+  pub green : HasTaken old.green lanes.green.now (slice_index lanes.bits 1) new.green
+  pub red : HasTaken old.red lanes.red.now (slice_index lanes.bits 2) new.red

@@ -1,14 +1,15 @@
 //! Three lanes aligned side by side, each by a worker of its own, or one after another.
 #![tactic(auto)]
 
-ghost use Rattle.std.specs.Prelude.{◌≡◌, ◌<◌, List, Bool, slice_index};
+ghost use Rattle.std.specs.Prelude.{◌≡◌, ◌<◌, List, Bool};
 ghost use Rattle.lane_align.specs.Lanes.{IsLockOf};
 ghost use Rattle.lane_align.specs.Aligners.{AlignerRepresents, lock_of};
-ghost use Rattle.lane_team.specs.Sides.{IsFresh, AreFresh, CanTake, HasTaken, side_at};
+ghost use Rattle.lane_team.specs.Sides.{IsFresh, AreFresh, CanTake, CanTakeLanes, HasTaken, HaveTaken, side_at};
 
 use lane_align::{LaneAligner, ROW_WORDS};
 use std::marker::Model;
 use std::thread::{Threads, join_mut};
+use tmds_word::LaneBits;
 
 #[cfg(test)]
 mod tests;
@@ -114,72 +115,55 @@ impl Team {
         }
     }
 
-    /// Takes bits of each lane, each lane its own number of them: bit i is bit `i % 8` of byte `i / 8`. One
-    /// worker for each lane passes the gate and then feeds the lane; returns when all three have ended.
-    pub fn feed_three<R: Threads, G: Gate>(
-        &mut self,
-        rt: &R,
-        a: &[u8],
-        b: &[u8],
-        c: &[u8],
-        bits: [u32; 3],
-        gate: &G,
-    )
-        requires blue { CanTake self.old.blue a.now (slice_index bits 0) }
-        requires green { CanTake self.old.green b.now (slice_index bits 1) }
-        requires red { CanTake self.old.red c.now (slice_index bits 2) }
-        ensures blue { HasTaken self.old.blue a.now (slice_index bits 0) self.new.blue }
-        ensures green { HasTaken self.old.green b.now (slice_index bits 1) self.new.green }
-        ensures red { HasTaken self.old.red c.now (slice_index bits 2) self.new.red }
+    /// Takes the bits of each lane. One worker for each lane passes the gate and then feeds the lane; returns when all
+    /// three have ended.
+    pub fn feed_three<R: Threads, G: Gate>(&mut self, rt: &R, lanes: LaneBits<'_>, gate: &G)
+        requires { CanTakeLanes self.old lanes }
+        ensures { HaveTaken self.old lanes.entry self.new }
     {
-        let [x, y, z] = bits;
+        let [x, y, z] = lanes.bits;
         let blue = &mut self.blue;
         let green = &mut self.green;
         let red = &mut self.red;
         join_mut(
             rt,
             &mut ||
-                requires { CanTake blue.now a.now x }
+                requires { CanTake blue.now lanes.blue.now x }
             {
                 gate.pass(0);
-                blue.feed(a, x)
+                blue.feed(lanes.blue, x)
             },
             &mut ||
-                requires green { CanTake green.now b.now y }
-                requires red { CanTake red.now c.now z }
+                requires green { CanTake green.now lanes.green.now y }
+                requires red { CanTake red.now lanes.red.now z }
             {
                 join_mut(
                     rt,
                     &mut ||
-                        requires { CanTake green.now b.now y }
+                        requires { CanTake green.now lanes.green.now y }
                     {
                         gate.pass(1);
-                        green.feed(b, y)
+                        green.feed(lanes.green, y)
                     },
                     &mut ||
-                        requires { CanTake red.now c.now z }
+                        requires { CanTake red.now lanes.red.now z }
                     {
                         gate.pass(2);
-                        red.feed(c, z)
+                        red.feed(lanes.red, z)
                     },
                 );
             },
         );
     }
 
-    /// Takes bits of each lane as `feed_three` does, one lane after another: for so few that workers take longer.
-    pub fn feed_in_turn(&mut self, a: &[u8], b: &[u8], c: &[u8], bits: [u32; 3])
-        requires blue { CanTake self.old.blue a.now (slice_index bits 0) }
-        requires green { CanTake self.old.green b.now (slice_index bits 1) }
-        requires red { CanTake self.old.red c.now (slice_index bits 2) }
-        ensures blue { HasTaken self.old.blue a.now (slice_index bits 0) self.new.blue }
-        ensures green { HasTaken self.old.green b.now (slice_index bits 1) self.new.green }
-        ensures red { HasTaken self.old.red c.now (slice_index bits 2) self.new.red }
+    /// Takes the bits of each lane as `feed_three` does, one lane after another: for so few that workers take longer.
+    pub fn feed_in_turn(&mut self, lanes: LaneBits<'_>)
+        requires { CanTakeLanes self.old lanes }
+        ensures { HaveTaken self.old lanes.entry self.new }
     {
-        let [blue, green, red] = bits;
-        self.blue.feed(a, blue);
-        self.green.feed(b, green);
-        self.red.feed(c, red);
+        self.blue.feed(lanes.blue, lanes.bits[0]);
+        self.green.feed(lanes.green, lanes.bits[1]);
+        self.red.feed(lanes.red, lanes.bits[2]);
     }
 
     /// The characters that the last feed gave of a lane.

@@ -6,6 +6,7 @@ use lane_align::LaneAligner;
 use std::process::Abort;
 use std::sync::atomic::{AtomicU64, Ordering};
 use std::test::*;
+use tmds_word::LaneBits;
 
 /// For how many turns a lane looks for another at most.
 const TURNS: u64 = 1_000_000_000;
@@ -78,13 +79,19 @@ fn lanes_meet(rt: HostRuntime) -> Result<(), Fail> {
         passes: [AtomicU64::new(0), AtomicU64::new(0), AtomicU64::new(0)],
         missed: AtomicU64::new(0),
     };
+    let lanes = LaneBits {
+        blue: &LANES[0],
+        green: &LANES[1],
+        red: &LANES[2],
+        bits: [120; 3],
+    };
     let mut team = Team::open();
-    team.feed_three(&rt, &LANES[0], &LANES[1], &LANES[2], [120; 3], &gate);
+    team.feed_three(&rt, lanes, &gate);
     expect_words(&rt, &team, 12);
-    team.feed_three(&rt, &LANES[0], &LANES[1], &LANES[2], [120; 3], &gate);
+    team.feed_three(&rt, lanes, &gate);
     expect_words(&rt, &team, 12);
     team.restart();
-    team.feed_three(&rt, &LANES[0], &LANES[1], &LANES[2], [120; 3], &gate);
+    team.feed_three(&rt, lanes, &gate);
     expect_words(&rt, &team, 12);
     assert_eq!(rt; gate.missed.load(Ordering::SeqCst), 0);
     for lane in 0..3usize {
@@ -95,8 +102,14 @@ fn lanes_meet(rt: HostRuntime) -> Result<(), Fail> {
 
 #[test]
 fn lanes_end_apart(rt: HostRuntime) -> Result<(), Fail> {
+    let lanes = LaneBits {
+        blue: &LANES[0],
+        green: &LANES[1][..14],
+        red: &[],
+        bits: [120, 112, 0],
+    };
     let mut team = Team::open();
-    team.feed_three(&rt, &LANES[0], &LANES[1][..14], &[], [120, 112, 0], &Open);
+    team.feed_three(&rt, lanes, &Open);
     let mut aligner = LaneAligner::new();
     let mut row = [0; 25];
     let count = aligner.feed(&LANES[1][..14], 112, &mut row);

@@ -38,8 +38,8 @@ reported_grows g is before now us vs h (inr (nowhere, reported)) now_reported = 
 
 pub whole_grows : WholeGrows
 whole_grows g is before now columns us vs h was all =
-    let so_far = reported_grows g is before now us (g.so_far (columns_at now all.d all.e all.f)) h was (inl (all.d, all.e, all.f, all.first, refl)) in
-    let end = is.ended (columns_at now all.d all.e all.f) in (
+    let so_far = reported_grows g is before now us (g.so_far (columns_at now all.blue all.green all.red)) h was (inl (all.blue, all.green, all.red, all.first, refl)) in
+    let end = is.ended (columns_at now all.blue all.green all.red) in (
       so_far.0 ++ end.0,
       all.reported ∙ end.1 ∙ ap (λ ts. ts ++ end.0) so_far.1 ∙ append_assoc us so_far.0 end.0,
     )

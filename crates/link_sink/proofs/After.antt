@@ -104,9 +104,9 @@ last_at : (g : Grammar) → IsGrammar g → (fed : Fed) (o : Option Aligned) (co
     → g.whole (columns_from fed o) ≡ g.so_far (columns_from fed o) ++ events → IsLastBy g fed (record { aligned = true; columns = columns }) events
 last_at g is fed None columns events found some many all = absurd cc
 last_at g is fed (Some at) columns events found some many all = λ reported so_far. record {
-  d = _;
-  e = _;
-  f = _;
+  blue = _;
+  green = _;
+  red = _;
   first = found;
   columns_are = many;
   reported = ap (λ ts. ts ++ events) (reported_one g fed reported _ so_far (reported_at g is fed (Some at) found)) ∙ sym all;
@@ -148,6 +148,9 @@ pub fed_after_at : {H : Type 0} (stands : H → List Column → Type 0) (s t : H
     → ((f : Fed) (taken : ℕ) → ReceiverRepresents s.receiver f taken → ReceiverRepresents r (grown f a b c bits) taken) → aligned ≡ is_some r.deskew.found
     → IsAfter stands (record { receiver = r; hearing = k; outcome = record { aligned = aligned; columns = s.outcome.columns } }) fed (grown fed a b c bits)
 fed_after_at {H = H} stands s t e k same fed a b c bits r aligned h can received is = grind (arith, fed_after)
+
+pub heard_at : {H : Type 0} (stands : H → List Column → Type 0) (s t : HearingStream H) → s ≡ t → (fed : Fed) → IsHeard stands s fed → IsHeard stands t fed
+heard_at {H = H} stands s t e fed h = subst (λ (x : HearingStream H). IsHeard stands x fed) e h
 
 pub ends_heard_at : {H : Type 0} (stands : H → List Column → Type 0) (g : Grammar) → IsGrammar g → (s t : HearingStream H) → s ≡ t → (k : H) → k ≡ s.hearing → (fed : Fed) (events : List Event) → IsHeard stands t fed → s.outcome.aligned ≡ true
     → ((cs : List Column) → stands k cs → g.whole cs ≡ g.so_far cs ++ events) → IsLastBy g fed s.outcome events

@@ -8,12 +8,12 @@ use Rattle.link_sink.specs.declared.hear.Outcome.{Outcome}
 
 -- of the lanes is reported what a grammar hears of their aligned columns
 pub record IsAlignedBy (g : Grammar) (xs ys zs : List Bool) (columns : ℕ) (events : List Event) : Type 0 where
-  pub d : ℕ
-  pub e : ℕ
-  pub f : ℕ
-  pub first : IsFirst xs ys zs d e f
-  pub columns_are : columns ≡ length (aligned_columns xs ys zs d e f)
-  pub reported : events ≡ g.whole (aligned_columns xs ys zs d e f)
+  pub blue : ℕ
+  pub green : ℕ
+  pub red : ℕ
+  pub first : IsFirst xs ys zs blue green red
+  pub columns_are : columns ≡ length (aligned_columns xs ys zs blue green red)
+  pub reported : events ≡ g.whole (aligned_columns xs ys zs blue green red)
 
 -- the lanes are aligned nowhere, and nothing is reported of them
 pub record IsNowhereReported (xs ys zs : List Bool) (columns : ℕ) (events : List Event) : Type 0 where

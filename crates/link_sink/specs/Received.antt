@@ -1,10 +1,11 @@
 -- What is kept of three lanes whose bits arrive feed after feed.
-use Rattle.std.specs.Prelude.{◌≡◌, ◌⊎◌, ◌++◌, ℕ, ◌+◌, ◌/◌, ◌%◌, ◌^◌, ◌<◌, ◌≤◌, max, Bool, true, false, List, length, Option, MatchOption}
+use Rattle.std.specs.Prelude.{◌≡◌, ◌⊎◌, ◌++◌, ℕ, ◌+◌, ◌/◌, ◌%◌, ◌^◌, ◌<◌, ◌≤◌, max, Bool, true, false, List, length, Option, MatchOption, slice_index}
+use Rattle.tmds_word.specs.declared.lane_bits.LaneBits.{LaneBits}
 use Rattle.lane_align.specs.Lanes.{IsLockOf}
 use Rattle.lane_align.specs.Words.{AreWords, lane_words}
 use Rattle.lane_align.specs.Aligners.{AlignerRepresents as IsAlignerOf, fed_of, lock_of}
 use Rattle.lane_align.specs.declared.TheConstants.{FEED_BITS}
-use Rattle.lane_team.specs.Sides.{Side, Sides}
+use Rattle.lane_team.specs.Sides.{Side, Sides, HaveTaken, side_at}
 use Rattle.lane_deskew.specs.Triples.{IsTriple, IsAlignment}
 use Rattle.lane_deskew.specs.Growing.{HasGrown}
 use Rattle.lane_deskew.specs.Pushed.{Pushed, History, over, DeskewRepresents as IsDeskewOf, kept_of}
@@ -22,6 +23,22 @@ pub record CanFeed (fed longest : ℕ) (bytes : List ℕ) (bits : ℕ) : Type 0 
   pub whole : (bits ≡ 0) ⊎ (fed % 8 ≡ 0)
   pub going : (bits ≡ 0) ⊎ (fed ≡ longest)
   pub total : fed + bits < 2 ^ 32
+
+-- the same of each of three lanes, of which each was fed so many
+pub record CanFeedLanes (fed : ℕ → ℕ) (longest : ℕ) (lanes : LaneBits) : Type 0 where
+  pub blue : CanFeed (fed 0) longest lanes.blue.now (slice_index lanes.bits 0)
+  pub green : CanFeed (fed 1) longest lanes.green.now (slice_index lanes.bits 1)
+  pub red : CanFeed (fed 2) longest lanes.red.now (slice_index lanes.bits 2)
+
+-- each of three lanes was fed so many bits more
+pub record AreFedMore (before now : ℕ → ℕ) (lanes : LaneBits) : Type 0 where
+  pub blue : now 0 ≡ before 0 + slice_index lanes.bits 0
+  pub green : now 1 ≡ before 1 + slice_index lanes.bits 1
+  pub red : now 2 ≡ before 2 + slice_index lanes.bits 2
+
+-- how many bits a lane of a team was fed
+abbrev pub team_fed : Sides → ℕ → ℕ
+team_fed team lane = fed_of (side_at team lane).aligner
 
 -- how many bits the longest lane was fed
 abbrev pub longest : Sides → ℕ
@@ -42,6 +59,11 @@ pub record IsLane (side : Side) (xs : List Bool) (n : ℕ) (lane : Pushed) : Typ
 abbrev pub IsFoundAt : Fed → Option Aligned → Type 0
 IsFoundAt fed at =
     MatchOption at ((d e f : ℕ) → IsTriple fed.blue fed.green fed.red d e f → ⊥) (λ here. IsAlignment fed.blue fed.green fed.red here.edges)
+
+-- a team took bits that may arrive
+pub record IsTeamFed (before : Sides) (lanes : LaneBits) (now : Sides) : Type 0 where
+  pub can : CanFeedLanes (team_fed before) (longest before) lanes
+  pub taken : HaveTaken before lanes now
 
 -- a receiver stands for the bits of three lanes, of which so many columns were taken
 pub record ReceiverRepresents (receiver : Receiver) (fed : Fed) (taken : ℕ) : Type 0 where

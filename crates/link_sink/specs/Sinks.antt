@@ -1,6 +1,7 @@
 -- What a sink is fed, what it reports in addition at each feed, and what it reports at the end.
 use Rattle.std.specs.Prelude.{◌≡◌, ◌⊎◌, ℕ, Bool, List, [], ◌++◌, take, slice_index}
 use Rattle.tmds_word.specs.Bits.{bytes_bits}
+use Rattle.tmds_word.specs.declared.lane_bits.LaneBits.{LaneBits}
 use Rattle.lane_deskew.specs.Triples.{IsTriple, IsFirst}
 use Rattle.lane_deskew.specs.Aligned.{aligned_columns}
 use Rattle.period_grammar.specs.Events.{Event}
@@ -32,6 +33,10 @@ grown fed a b c bits = record {
   green = fed.green ++ take (slice_index bits 1) (bytes_bits b);
   red = fed.red ++ take (slice_index bits 2) (bytes_bits c);
 }
+
+-- the same of bits that are lent
+abbrev pub grown_by : Fed → LaneBits → Fed
+grown_by fed lanes = grown fed lanes.blue.now lanes.green.now lanes.red.now lanes.bits
 
 -- what is reported in addition
 abbrev pub IsGainBy : Grammar → Fed → Fed → List Event → Type 0

@@ -1,14 +1,12 @@
 -- What a sink that streams stands for: the bits of three lanes that it was fed.
 use Rattle.std.specs.Prelude.{◌≡◌, ℕ, ◌^◌, ◌<◌, Bool, true, length, List, Option, is_some}
 use Rattle.tmds_word.specs.Column.{Column}
-use Rattle.lane_align.specs.Aligners.{fed_of}
-use Rattle.lane_team.specs.Sides.{side_at}
 use Rattle.lane_deskew.specs.Pushed.{ready_of}
 use Rattle.lane_deskew.specs.Growing.{HasGrown}
 use Rattle.lane_deskew.specs.declared.Aligned.{Aligned}
 use Rattle.link_sink.specs.Sinks.{Fed}
 use Rattle.link_sink.specs.Progress.{columns_from}
-use Rattle.link_sink.specs.Received.{IsFoundAt, ReceiverRepresents, longest}
+use Rattle.link_sink.specs.Received.{IsFoundAt, ReceiverRepresents, longest, team_fed}
 use Rattle.period_grammar.specs.Seen.{Seen}
 use Rattle.link_sink.specs.Hearings.{GoesOn}
 use Rattle.link_sink.specs.Seen.{HearingStream}
@@ -52,7 +50,7 @@ SinkRepresents sink fed = StandsBy GoesOn sink fed
 
 -- how many bits it was fed of a lane, and of the longest
 abbrev pub bits_fed : {H : Type 0} → LaneSinkSeen H → ℕ → ℕ
-bits_fed sink lane = fed_of (side_at sink.stream.receiver.team lane).aligner
+bits_fed sink lane = team_fed sink.stream.receiver.team lane
 
 abbrev pub most_bits : {H : Type 0} → LaneSinkSeen H → ℕ
 most_bits sink = longest sink.stream.receiver.team

@@ -9,7 +9,7 @@ use crate::Ear;
 use crate::hears::Hears;
 use crate::telling::tell;
 use outside_io::Failed;
-use tmds_word::Columns;
+use tmds_word::{Columns, MOST_COLUMNS};
 
 /// Hears columns, and reports to an ear what they say.
 pub fn hear_columns<H: Hears, E: Ear>(
@@ -17,7 +17,7 @@ pub fn hear_columns<H: Hears, E: Ear>(
     hearing: &mut H,
     ear: &mut E,
 ) -> Result<(), Failed>
-    requires few { H.counted hearing.old + length (columns_in columns) ≤ 429496730 }
+    requires few { H.counted hearing.old + length (columns_in columns) ≤ MOST_COLUMNS }
     requires heard { (cs : List Column) × H.goes_on hearing.old cs }
     ensures heard { OnOk result ((cs : List Column) → H.goes_on hearing.old cs → H.goes_on hearing.new (cs ++ columns_in columns.entry)) }
     ensures reported { OnOk result ((cs : List Column) → H.goes_on hearing.old cs → TookMore H.grammar E.took ear.old ear.new cs (columns_in columns.entry)) }
@@ -39,7 +39,7 @@ fn hear_part<H: Hears, E: Ear>(
     ear: &mut E,
 ) -> Result<usize, Failed>
     requires some { 0 < length (columns_in columns) }
-    requires few { H.counted hearing.old + length (columns_in columns) ≤ 429496730 }
+    requires few { H.counted hearing.old + length (columns_in columns) ≤ MOST_COLUMNS }
     requires heard { (cs : List Column) × H.goes_on hearing.old cs }
     ensures count { IfOk result (λ n. (0 < n) × (n ≤ length (columns_in columns.entry))) }
     ensures heard { IfOk result (λ n. (cs : List Column) → H.goes_on hearing.old cs → H.goes_on hearing.new (cs ++ take n (columns_in columns.entry))) }

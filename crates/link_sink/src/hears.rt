@@ -8,7 +8,7 @@ ghost use Rattle.link_sink.specs.Grammar.{Grammar};
 ghost use Rattle.link_sink.specs.Hearings.{IsGrammar};
 
 use period_grammar::EventRef;
-use tmds_word::{Columns, Word};
+use tmds_word::{Columns, MOST_COLUMNS, Word};
 
 /// Hears columns one after another, and reports what they say.
 pub trait Hears: Drop {
@@ -36,7 +36,7 @@ pub trait Hears: Drop {
 
     /// Hears one column.
     fn hear(&mut self, column: &[Word; 3])
-        requires few { counted self.old < 429496730 }
+        requires few { counted self.old < MOST_COLUMNS }
         requires heard { (cs : List Column) × goes_on self.old cs }
         ensures heard { (cs : List Column) → goes_on self.old cs → goes_on self.new (cs ++ column_of column.now ∷ []) }
         ensures reported { (cs : List Column) → goes_on self.old cs → grammar.so_far (cs ++ column_of column.now ∷ []) ≡ grammar.so_far cs ++ last self.new };
@@ -44,7 +44,7 @@ pub trait Hears: Drop {
     /// Hears columns from the first on, as long as nothing is reported of them, or fewer of them, and answers how many
     /// these are.
     fn hear_while(&mut self, columns: Columns<'_>) -> usize
-        requires few { counted self.old + length (columns_in columns) ≤ 429496730 }
+        requires few { counted self.old + length (columns_in columns) ≤ MOST_COLUMNS }
         requires heard { (cs : List Column) × goes_on self.old cs }
         ensures within { result ≤ length (columns_in columns.entry) }
         ensures heard { (cs : List Column) → goes_on self.old cs → goes_on self.new (cs ++ take result (columns_in columns.entry)) }

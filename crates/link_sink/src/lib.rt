@@ -9,11 +9,9 @@ mod hears;
 mod link_hearing;
 mod receiver;
 mod sink;
-mod streaming;
 mod telling;
 
 pub use ear::Ear;
-pub use feeds::Order;
 pub use hear::Outcome;
 pub use hears::Hears;
 pub use receiver::Receiver;

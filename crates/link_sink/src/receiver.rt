@@ -1,23 +1,21 @@
 //! Three lanes whose bits arrive feed after feed, and the columns that they carry from their first full alignment on.
-ghost use Rattle.std.specs.Prelude.{◌≡◌, ◌<◌, ◌≤◌, ◌+◌, ◌-◌, ℕ, List, Bool, length, drop, IfOk, None, is_some, slice_index};
+ghost use Rattle.std.specs.Prelude.{◌≡◌, ◌<◌, ◌≤◌, ◌+◌, ◌-◌, ℕ, List, Bool, length, drop, IfOk, None, is_some};
 ghost use Rattle.tmds_word.specs.Lent.{columns_in};
-ghost use Rattle.lane_align.specs.Aligners.{fed_of};
-ghost use Rattle.lane_team.specs.Sides.{side_at, AreFresh};
+ghost use Rattle.lane_team.specs.Sides.{Sides, side_at, AreFresh};
 ghost use Rattle.lane_deskew.specs.Pushed.{Pushed, History, no_history, change, DeskewRepresents, ready_of};
 ghost use Rattle.lane_deskew.specs.Fed.{past_at};
-ghost use Rattle.link_sink.specs.Sinks.{Fed, grown};
+ghost use Rattle.link_sink.specs.Sinks.{Fed, grown_by};
 ghost use Rattle.link_sink.specs.Pieces.{no_bits};
 ghost use Rattle.link_sink.specs.Progress.{columns_from};
-ghost use Rattle.link_sink.specs.Received.{CanFeed, longest, ReceiverRepresents, MayPush, HasPushed, end_if};
+ghost use Rattle.link_sink.specs.Received.{CanFeedLanes, AreFedMore, IsTeamFed, team_fed, longest, ReceiverRepresents, MayPush, HasPushed, end_if};
 
-use crate::feeds::{Order, feed_team};
 use lane_deskew::Deskew;
 use lane_team::{Gate, Team};
 use outside_io::NoMemory;
 use std::alloc::Global;
 use std::marker::Model;
 use std::thread::Threads;
-use tmds_word::Columns;
+use tmds_word::{Columns, LaneBits};
 
 /// Cuts three lanes into characters, and lines them up.
 #[derive(Drop)]
@@ -56,40 +54,31 @@ impl Receiver {
         self.deskew.restart();
     }
 
-    /// Takes bits of each lane, each lane its own number of them, the lanes fed in this order, and says whether they are
-    /// aligned. All columns that the feeds before gave are consumed.
-    pub fn feed<R: Threads, G: Gate>(
-        &mut self,
-        rt: &R,
-        a: &[u8],
-        b: &[u8],
-        c: &[u8],
-        bits: [u32; 3],
-        gate: &G,
-        order: Order,
-    ) -> bool
+    /// Takes the bits of each lane, and says whether the lanes are aligned. A worker of each lane passes the gate. All
+    /// columns that the feeds before gave are consumed.
+    pub fn feed<R: Threads, G: Gate>(&mut self, rt: &R, lanes: LaneBits<'_>, gate: &G) -> bool
         requires received { (fed : Fed) × (taken : ℕ) × ReceiverRepresents self.old fed taken }
         requires consumed { ready_of self.old.deskew ≡ 0 }
-        requires blue { CanFeed (fed_of self.old.team.blue.aligner) (longest self.old.team) a.now (slice_index bits 0) }
-        requires green { CanFeed (fed_of self.old.team.green.aligner) (longest self.old.team) b.now (slice_index bits 1) }
-        requires red { CanFeed (fed_of self.old.team.red.aligner) (longest self.old.team) c.now (slice_index bits 2) }
-        ensures received { (fed : Fed) (taken : ℕ) → ReceiverRepresents self.old fed taken → ReceiverRepresents self.new (grown fed a.now b.now c.now bits) taken }
+        requires lanes { CanFeedLanes (team_fed self.old.team) (longest self.old.team) lanes }
+        ensures received { (fed : Fed) (taken : ℕ) → ReceiverRepresents self.old fed taken → ReceiverRepresents self.new (grown_by fed lanes.entry) taken }
         ensures aligned { result ≡ is_some self.new.deskew.found }
-        ensures blue { fed_of self.new.team.blue.aligner ≡ fed_of self.old.team.blue.aligner + slice_index bits 0 }
-        ensures green { fed_of self.new.team.green.aligner ≡ fed_of self.old.team.green.aligner + slice_index bits 1 }
-        ensures red { fed_of self.new.team.red.aligner ≡ fed_of self.old.team.red.aligner + slice_index bits 2 }
+        ensures more { AreFedMore (team_fed self.old.team) (team_fed self.new.team) lanes.entry }
     {
-        feed_parts(
-            &mut self.team,
-            &mut self.deskew,
-            rt,
-            a,
-            b,
-            c,
-            bits,
-            gate,
-            order,
-        )
+        self.team.feed_three(rt, lanes, gate);
+        push_fed(&self.team, &mut self.deskew, lanes)
+    }
+
+    /// Takes the bits of each lane as `feed` does, one lane after another, by no worker.
+    pub fn feed_in_turn(&mut self, lanes: LaneBits<'_>) -> bool
+        requires received { (fed : Fed) × (taken : ℕ) × ReceiverRepresents self.old fed taken }
+        requires consumed { ready_of self.old.deskew ≡ 0 }
+        requires lanes { CanFeedLanes (team_fed self.old.team) (longest self.old.team) lanes }
+        ensures received { (fed : Fed) (taken : ℕ) → ReceiverRepresents self.old fed taken → ReceiverRepresents self.new (grown_by fed lanes.entry) taken }
+        ensures aligned { result ≡ is_some self.new.deskew.found }
+        ensures more { AreFedMore (team_fed self.old.team) (team_fed self.new.team) lanes.entry }
+    {
+        self.team.feed_in_turn(lanes);
+        push_fed(&self.team, &mut self.deskew, lanes)
     }
 
     /// The columns that are not consumed: none before the alignment.
@@ -113,32 +102,15 @@ impl Receiver {
     }
 }
 
-/// Feeds a team, and pushes what it gains to a deskew, whose columns are all consumed. Says whether the lanes are aligned.
-fn feed_parts<R: Threads, G: Gate>(
-    team: &mut Team,
-    deskew: &mut Deskew,
-    rt: &R,
-    a: &[u8],
-    b: &[u8],
-    c: &[u8],
-    bits: [u32; 3],
-    gate: &G,
-    order: Order,
-) -> bool
-    requires received { (fed : Fed) × (taken : ℕ) × ReceiverRepresents (record { team = team.old; deskew = deskew.old }) fed taken }
+/// Pushes what a team took last to a deskew, whose columns are all consumed. Says whether the lanes are aligned.
+fn push_fed(team: &Team, deskew: &mut Deskew, lanes: LaneBits<'_>) -> bool
+    requires received { (before : Sides) × (fed : Fed) × (taken : ℕ) × IsTeamFed before lanes team.now × ReceiverRepresents (record { team = before; deskew = deskew.old }) fed taken }
     requires consumed { ready_of deskew.old ≡ 0 }
-    requires blue { CanFeed (fed_of team.old.blue.aligner) (longest team.old) a.now (slice_index bits 0) }
-    requires green { CanFeed (fed_of team.old.green.aligner) (longest team.old) b.now (slice_index bits 1) }
-    requires red { CanFeed (fed_of team.old.red.aligner) (longest team.old) c.now (slice_index bits 2) }
-    ensures received { (fed : Fed) (taken : ℕ) → ReceiverRepresents (record { team = team.old; deskew = deskew.old }) fed taken
-        → ReceiverRepresents (record { team = team.new; deskew = deskew.new }) (grown fed a.now b.now c.now bits) taken }
+    ensures received { (before : Sides) (fed : Fed) (taken : ℕ) → IsTeamFed before lanes.entry team.now → ReceiverRepresents (record { team = before; deskew = deskew.old }) fed taken
+        → ReceiverRepresents (record { team = team.now; deskew = deskew.new }) (grown_by fed lanes.entry) taken }
     ensures aligned { result ≡ is_some deskew.new.found }
-    ensures blue { fed_of team.new.blue.aligner ≡ fed_of team.old.blue.aligner + slice_index bits 0 }
-    ensures green { fed_of team.new.green.aligner ≡ fed_of team.old.green.aligner + slice_index bits 1 }
-    ensures red { fed_of team.new.red.aligner ≡ fed_of team.old.red.aligner + slice_index bits 2 }
 {
-    feed_team(team, rt, a, b, c, bits, gate, order);
-    let [x, y, z] = bits;
+    let [x, y, z] = lanes.bits;
     push_gained(team, deskew, 0, x);
     push_gained(team, deskew, 1, y);
     push_gained(team, deskew, 2, z);

@@ -1,26 +1,29 @@
 //! A sink of the bits of three lanes, which arrive feed after feed. Of what it took it keeps what is still to be
 //! reported: the last bits of each lane, the characters that wait for those of another lane, and the period
 //! that goes on.
-ghost use Rattle.std.specs.Prelude.{◌≡◌, ◌+◌, List, true, false, IfOk, OnOk, OnErr, slice_index};
+ghost use Rattle.std.specs.Prelude.{◌≡◌, List, [], true, false, IfOk, OnOk, OnErr};
 ghost use Rattle.outside_io.specs.Causes.{HasCause};
 ghost use Rattle.period_grammar.specs.Events.{Event};
 ghost use Rattle.link_sink.specs.Ears.{StopsIn};
-ghost use Rattle.link_sink.specs.Sinks.{Fed, grown, IsGainBy, IsLastBy};
+ghost use Rattle.link_sink.specs.Sinks.{Fed, grown_by, IsGainBy, IsLastBy};
 ghost use Rattle.link_sink.specs.Pieces.{no_bits};
-ghost use Rattle.link_sink.specs.Received.{CanFeed};
-ghost use Rattle.link_sink.specs.Streams.{StandsBy, bits_fed, most_bits};
+ghost use Rattle.link_sink.specs.Received.{CanFeedLanes, AreFedMore};
+ghost use Rattle.link_sink.specs.Streams.{StandsBy, IsHeard, IsAfter, bits_fed, most_bits};
 
 use crate::Ear;
-use crate::feeds::{Order, order_for};
+use crate::columns::hear_columns;
+use crate::feeds::are_few;
 use crate::hear::Outcome;
 use crate::hears::Hears;
-use crate::streaming::HearingStream;
+use crate::receiver::Receiver;
+use crate::telling::hear_end;
 use lane_team::{Gate, Open};
 use outside_io::{Failed, NoMemory};
 use period_grammar::Hearing;
 use std::alloc::Global;
 use std::marker::Model;
 use std::thread::Threads;
+use tmds_word::LaneBits;
 
 /// Hears the columns of a link.
 pub type LinkSink = LaneSink<Hearing>;
@@ -29,18 +32,30 @@ pub type LinkSink = LaneSink<Hearing>;
 /// alignment on. It has taken all its memory when it is opened.
 #[derive(Drop)]
 pub struct LaneSink<H: Hears> {
-    stream: HearingStream<H>,
+    receiver: Receiver,
+    hearing: Box<H>,
+    /// What it would answer if the lanes ended.
+    outcome: Outcome,
     is_open: bool,
 }
+
+/// Before any column.
+const NOTHING: Outcome = Outcome {
+    aligned: false,
+    columns: 0,
+};
 
 impl<H: Hears> Model for LaneSink<H> {
     ghost use Rattle.link_sink.specs.Streams.{LaneSinkSeen, IsKept};
 
     ghost Value = { LaneSinkSeen H };
 
-    ghost view = { λ s. record { stream = s.stream; is_open = s.is_open } };
+    ghost view = { λ s. record {
+      stream = record { receiver = s.receiver; hearing = s.hearing.value; outcome = s.outcome };
+      is_open = s.is_open;
+    } };
 
-    ghost invariant = { λ s. IsKept H.goes_on s.is_open s.stream };
+    ghost invariant = { λ s. IsKept H.goes_on s.is_open (record { receiver = s.receiver; hearing = s.hearing.value; outcome = s.outcome }) };
 }
 
 impl<H: Hears> LaneSink<H> {
@@ -50,8 +65,12 @@ impl<H: Hears> LaneSink<H> {
         ensures fed { IfOk result (λ s. StandsBy H.goes_on s no_bits) }
         ensures bits { IfOk result (λ s. most_bits s ≡ 0) }
     {
+        let receiver = Receiver::open(alloc)?;
+        let hearing = open_hearing(alloc)?;
         Ok(LaneSink {
-            stream: HearingStream::open(alloc)?,
+            receiver,
+            hearing,
+            outcome: NOTHING,
             is_open: true,
         })
     }
@@ -62,7 +81,9 @@ impl<H: Hears> LaneSink<H> {
         ensures fed { StandsBy H.goes_on self.new no_bits }
         ensures bits { most_bits self.new ≡ 0 }
     {
-        self.stream.restart();
+        self.receiver.restart();
+        self.hearing.restart();
+        self.outcome = NOTHING;
         self.is_open = true;
     }
 
@@ -73,9 +94,8 @@ impl<H: Hears> LaneSink<H> {
         self.is_open
     }
 
-    /// Takes bits of each lane, each lane its own number of them, and reports to the ear what they decide: bit i is bit
-    /// `i % 8` of byte `i / 8`. A worker of each lane passes the gate. Of a lane that had fewer bits than another no more
-    /// arrive.
+    /// Takes the bits of each lane, and reports to the ear what they decide. A worker of each lane passes the gate. Of a
+    /// lane that had fewer bits than another no more arrive.
     ///
     /// # Errors
     ///
@@ -83,38 +103,67 @@ impl<H: Hears> LaneSink<H> {
     pub fn feed<R: Threads, E: Ear, G: Gate>(
         &mut self,
         rt: &R,
-        a: &[u8],
-        b: &[u8],
-        c: &[u8],
-        bits: [u32; 3],
+        lanes: LaneBits<'_>,
         gate: &G,
         ear: &mut E,
     ) -> Result<(), Failed>
         requires open { self.old.is_open ≡ true }
-        requires blue { CanFeed (bits_fed self.old 0) (most_bits self.old) a.now (slice_index bits 0) }
-        requires green { CanFeed (bits_fed self.old 1) (most_bits self.old) b.now (slice_index bits 1) }
-        requires red { CanFeed (bits_fed self.old 2) (most_bits self.old) c.now (slice_index bits 2) }
+        requires lanes { CanFeedLanes (bits_fed self.old) (most_bits self.old) lanes }
         ensures open { OnOk result (self.new.is_open ≡ true) }
-        ensures blue { OnOk result (bits_fed self.new 0 ≡ bits_fed self.old 0 + slice_index bits 0) }
-        ensures green { OnOk result (bits_fed self.new 1 ≡ bits_fed self.old 1 + slice_index bits 1) }
-        ensures red { OnOk result (bits_fed self.new 2 ≡ bits_fed self.old 2 + slice_index bits 2) }
-        ensures fed { (fed : Fed) → StandsBy H.goes_on self.old fed → OnOk result (StandsBy H.goes_on self.new (grown fed a.now b.now c.now bits)) }
+        ensures more { OnOk result (AreFedMore (bits_fed self.old) (bits_fed self.new) lanes.entry) }
+        ensures fed { (fed : Fed) → StandsBy H.goes_on self.old fed → OnOk result (StandsBy H.goes_on self.new (grown_by fed lanes.entry)) }
         ensures reported { (fed : Fed) → StandsBy H.goes_on self.old fed
-            → OnOk result ((events : List Event) × IsGainBy H.grammar fed (grown fed a.now b.now c.now bits) events × E.took ear.old ear.new events) }
+            → OnOk result ((events : List Event) × IsGainBy H.grammar fed (grown_by fed lanes.entry) events × E.took ear.old ear.new events) }
         ensures spent { OnErr result (self.new.is_open ≡ false) }
         ensures stopped { (fed : Fed) → StandsBy H.goes_on self.old fed
-            → OnErr result ((events : List Event) × IsGainBy H.grammar fed (grown fed a.now b.now c.now bits) events × StopsIn E.took E.broke ear.old ear.new events) }
+            → OnErr result ((events : List Event) × IsGainBy H.grammar fed (grown_by fed lanes.entry) events × StopsIn E.took E.broke ear.old ear.new events) }
         ensures cause { HasCause (E.faults ear.old) (E.faults ear.new) result }
     {
         self.is_open = false;
-        self.stream
-            .feed(rt, a, b, c, bits, gate, Order::SideBySide, ear)?;
+        self.outcome.aligned = self.receiver.feed(rt, lanes, gate);
+        hear_parts(
+            &mut self.receiver,
+            &mut *self.hearing,
+            &mut self.outcome,
+            ear,
+        )?;
         self.is_open = true;
         Ok(())
     }
 
-    /// Takes bits of each lane as `feed` does with no gate to pass. Where they are few the lanes are fed one after another,
-    /// by no worker.
+    /// Takes the bits of each lane as `feed` does, one lane after another: by the caller's own thread, however many they
+    /// are.
+    ///
+    /// # Errors
+    ///
+    /// Where a call of the ear failed; the sink is then spent.
+    pub fn feed_in_turn<E: Ear>(&mut self, lanes: LaneBits<'_>, ear: &mut E) -> Result<(), Failed>
+        requires open { self.old.is_open ≡ true }
+        requires lanes { CanFeedLanes (bits_fed self.old) (most_bits self.old) lanes }
+        ensures open { OnOk result (self.new.is_open ≡ true) }
+        ensures more { OnOk result (AreFedMore (bits_fed self.old) (bits_fed self.new) lanes.entry) }
+        ensures fed { (fed : Fed) → StandsBy H.goes_on self.old fed → OnOk result (StandsBy H.goes_on self.new (grown_by fed lanes.entry)) }
+        ensures reported { (fed : Fed) → StandsBy H.goes_on self.old fed
+            → OnOk result ((events : List Event) × IsGainBy H.grammar fed (grown_by fed lanes.entry) events × E.took ear.old ear.new events) }
+        ensures spent { OnErr result (self.new.is_open ≡ false) }
+        ensures stopped { (fed : Fed) → StandsBy H.goes_on self.old fed
+            → OnErr result ((events : List Event) × IsGainBy H.grammar fed (grown_by fed lanes.entry) events × StopsIn E.took E.broke ear.old ear.new events) }
+        ensures cause { HasCause (E.faults ear.old) (E.faults ear.new) result }
+    {
+        self.is_open = false;
+        self.outcome.aligned = self.receiver.feed_in_turn(lanes);
+        hear_parts(
+            &mut self.receiver,
+            &mut *self.hearing,
+            &mut self.outcome,
+            ear,
+        )?;
+        self.is_open = true;
+        Ok(())
+    }
+
+    /// Takes the bits of each lane as `feed` does with no gate to pass. Where they are few the lanes are fed one after
+    /// another, by no worker.
     ///
     /// # Errors
     ///
@@ -122,33 +171,26 @@ impl<H: Hears> LaneSink<H> {
     pub fn feed_ungated<R: Threads, E: Ear>(
         &mut self,
         rt: &R,
-        a: &[u8],
-        b: &[u8],
-        c: &[u8],
-        bits: [u32; 3],
+        lanes: LaneBits<'_>,
         ear: &mut E,
     ) -> Result<(), Failed>
         requires open { self.old.is_open ≡ true }
-        requires blue { CanFeed (bits_fed self.old 0) (most_bits self.old) a.now (slice_index bits 0) }
-        requires green { CanFeed (bits_fed self.old 1) (most_bits self.old) b.now (slice_index bits 1) }
-        requires red { CanFeed (bits_fed self.old 2) (most_bits self.old) c.now (slice_index bits 2) }
+        requires lanes { CanFeedLanes (bits_fed self.old) (most_bits self.old) lanes }
         ensures open { OnOk result (self.new.is_open ≡ true) }
-        ensures blue { OnOk result (bits_fed self.new 0 ≡ bits_fed self.old 0 + slice_index bits 0) }
-        ensures green { OnOk result (bits_fed self.new 1 ≡ bits_fed self.old 1 + slice_index bits 1) }
-        ensures red { OnOk result (bits_fed self.new 2 ≡ bits_fed self.old 2 + slice_index bits 2) }
-        ensures fed { (fed : Fed) → StandsBy H.goes_on self.old fed → OnOk result (StandsBy H.goes_on self.new (grown fed a.now b.now c.now bits)) }
+        ensures more { OnOk result (AreFedMore (bits_fed self.old) (bits_fed self.new) lanes.entry) }
+        ensures fed { (fed : Fed) → StandsBy H.goes_on self.old fed → OnOk result (StandsBy H.goes_on self.new (grown_by fed lanes.entry)) }
         ensures reported { (fed : Fed) → StandsBy H.goes_on self.old fed
-            → OnOk result ((events : List Event) × IsGainBy H.grammar fed (grown fed a.now b.now c.now bits) events × E.took ear.old ear.new events) }
+            → OnOk result ((events : List Event) × IsGainBy H.grammar fed (grown_by fed lanes.entry) events × E.took ear.old ear.new events) }
         ensures spent { OnErr result (self.new.is_open ≡ false) }
         ensures stopped { (fed : Fed) → StandsBy H.goes_on self.old fed
-            → OnErr result ((events : List Event) × IsGainBy H.grammar fed (grown fed a.now b.now c.now bits) events × StopsIn E.took E.broke ear.old ear.new events) }
+            → OnErr result ((events : List Event) × IsGainBy H.grammar fed (grown_by fed lanes.entry) events × StopsIn E.took E.broke ear.old ear.new events) }
         ensures cause { HasCause (E.faults ear.old) (E.faults ear.new) result }
     {
-        self.is_open = false;
-        self.stream
-            .feed(rt, a, b, c, bits, &Open, order_for(bits), ear)?;
-        self.is_open = true;
-        Ok(())
+        if are_few(lanes.bits) {
+            self.feed_in_turn(lanes, ear)
+        } else {
+            self.feed(rt, lanes, &Open, ear)
+        }
     }
 
     /// Reports to the ear what is left to report at the end, and answers whether the lanes were aligned and how many
@@ -167,6 +209,43 @@ impl<H: Hears> LaneSink<H> {
         ensures cause { HasCause (E.faults ear.old) (E.faults ear.new) result }
     {
         self.is_open = false;
-        self.stream.finish(ear)
+        if !self.outcome.aligned {
+            return Ok(self.outcome);
+        }
+        hear_end(&mut *self.hearing, ear)?;
+        Ok(self.outcome)
     }
+}
+
+/// Hears the received columns, and reports to the ear what they say.
+fn hear_parts<H: Hears, E: Ear>(
+    receiver: &mut Receiver,
+    hearing: &mut H,
+    outcome: &mut Outcome,
+    ear: &mut E,
+) -> Result<(), Failed>
+    requires { (before now : Fed) × IsAfter H.goes_on (record { receiver = receiver.old; hearing = hearing.old; outcome = outcome.old }) before now }
+    ensures heard { (before now : Fed) → IsAfter H.goes_on (record { receiver = receiver.old; hearing = hearing.old; outcome = outcome.old }) before now
+        → OnOk result (IsHeard H.goes_on (record { receiver = receiver.new; hearing = hearing.new; outcome = outcome.new }) now) }
+    ensures reported { (before now : Fed) → IsAfter H.goes_on (record { receiver = receiver.old; hearing = hearing.old; outcome = outcome.old }) before now
+        → OnOk result ((events : List Event) × IsGainBy H.grammar before now events × E.took ear.old ear.new events) }
+    ensures stopped { (before now : Fed) → IsAfter H.goes_on (record { receiver = receiver.old; hearing = hearing.old; outcome = outcome.old }) before now
+        → OnErr result ((events : List Event) × IsGainBy H.grammar before now events × StopsIn E.took E.broke ear.old ear.new events) }
+    ensures team { receiver.new.team ≡ receiver.old.team }
+    ensures cause { HasCause (E.faults ear.old) (E.faults ear.new) result }
+{
+    let columns = receiver.columns();
+    let count = columns.len();
+    hear_columns(columns, hearing, ear)?;
+    receiver.consume(count);
+    outcome.columns += count as u32;
+    Ok(())
+}
+
+/// A hearing in memory of its own: it is too large to be moved about.
+#[inline(never)]
+fn open_hearing<H: Hears>(alloc: Global) -> Result<Box<H>, NoMemory>
+    ensures { IfOk result (λ h. H.goes_on h.value []) }
+{
+    Ok(Box::new(alloc, H::open())?)
 }

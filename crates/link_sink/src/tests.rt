@@ -14,7 +14,7 @@ use std::process::Abort;
 use std::sync::atomic::{AtomicU64, Ordering};
 use std::test::*;
 use std::thread::Threads;
-use tmds_word::BitRow;
+use tmds_word::{BitRow, LaneBits};
 use vectors::{DAMAGED, ISLAND};
 
 /// How many bits of each lane arrive in three feeds, over and over.
@@ -62,15 +62,13 @@ fn feed_next<R: Threads>(
     a.copy_bytes(from, &mut blue[..i]);
     b.copy_bytes(from, &mut green[..j]);
     c.copy_bytes(from, &mut red[..k]);
-    sink.feed(
-        rt,
-        &blue[..i],
-        &green[..j],
-        &red[..k],
-        [x, y, z],
-        &Open,
-        notes,
-    )
+    let lanes = LaneBits {
+        blue: &blue[..i],
+        green: &green[..j],
+        red: &red[..k],
+        bits: [x, y, z],
+    };
+    sink.feed(rt, lanes, &Open, notes)
 }
 
 /// Feeds a sink that was fed nothing all bits of three rows, and finishes it.
@@ -291,12 +289,15 @@ fn lanes_meet(rt: HostRuntime) -> Result<(), Fail> {
     };
     let mut notes = Notes::new(100);
     let mut sink = LinkSink::open(rt.alloc())?;
+    let lanes = LaneBits {
+        blue: &CONTROL,
+        green: &CONTROL,
+        red: &CONTROL,
+        bits: [120; 3],
+    };
     for _ in 0..3 {
         sink.restart();
-        let fed = sink.feed(
-            &rt, &CONTROL, &CONTROL, &CONTROL, [120; 3], &gate, &mut notes,
-        );
-        assert_eq!(&rt; fed, Ok(()));
+        assert_eq!(&rt; sink.feed(&rt, lanes, &gate, &mut notes), Ok(()));
     }
     assert_eq!(&rt; notes.count, 0);
     assert_eq!(&rt; gate.missed.load(Ordering::SeqCst), 0);

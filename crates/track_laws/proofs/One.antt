@@ -12,12 +12,12 @@ use Rattle.track_sink.specs.Epochs.{rest_of, IsEnd, IsTracked, last_epoch, more_
 
 one_reported : (xs ys zs : List Bool) (a b : Bool) (m n : ℕ) (us vs : List Event) → reported_by a xs ys zs m us → reported_by b xs ys zs n vs → (a ≡ b) × (us ≡ vs)
 one_reported xs ys zs true true m n us vs s t =
-    let e = one_first xs ys zs s.d s.e s.f t.d t.e t.f s.first t.first in
-    let same : aligned_columns xs ys zs s.d s.e s.f ≡ aligned_columns xs ys zs t.d t.e t.f = λ i. aligned_columns xs ys zs (e.0 i) (e.1 i) (e.2 i) in
+    let e = one_first xs ys zs s.blue s.green s.red t.blue t.green t.red s.first t.first in
+    let same : aligned_columns xs ys zs s.blue s.green s.red ≡ aligned_columns xs ys zs t.blue t.green t.red = λ i. aligned_columns xs ys zs (e.0 i) (e.1 i) (e.2 i) in
     (refl, s.reported ∙ ap heard same ∙ sym t.reported)
 one_reported xs ys zs false false m n us vs s t = (refl, s.reported ∙ sym t.reported)
-one_reported xs ys zs true false m n us vs s t = absurd (t.nowhere s.d s.e s.f s.first.triple)
-one_reported xs ys zs false true m n us vs s t = absurd (s.nowhere t.d t.e t.f t.first.triple)
+one_reported xs ys zs true false m n us vs s t = absurd (t.nowhere s.blue s.green s.red s.first.triple)
+one_reported xs ys zs false true m n us vs s t = absurd (s.nowhere t.blue t.green t.red t.first.triple)
 
 pub one_end : (fed : Fed) (l m p q : ℕ) → IsEnd fed l p → IsEnd fed m q → (l ≡ m) × (p ≡ q)
 one_end fed l m p q a b =

@@ -175,9 +175,9 @@ some_last fed reported (inl a) =
       record { aligned = true; columns = length cs },
       more.0,
       λ us h. record {
-        d = a.0;
-        e = a.1;
-        f = a.2;
+        blue = a.0;
+        green = a.1;
+        red = a.2;
         first = a.3;
         columns_are = refl;
         reported = ap (λ ts. ts ++ more.0) (reported_one link_grammar fed us reported h (inl a) ∙ a.4) ∙ sym more.1;

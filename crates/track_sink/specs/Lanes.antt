@@ -44,7 +44,7 @@ EndsAt fed stray = IsEnd fed stray.lane stray.place
 
 -- the place of the last lane that has one, as a stray of it
 abbrev pub last_stray : Option ℕ → Option ℕ → Option ℕ → Option Stray
-last_stray first second (Some p) = Some (record { lane = 2; place = p })
-last_stray first (Some p) None = Some (record { lane = 1; place = p })
+last_stray blue green (Some p) = Some (record { lane = 2; place = p })
+last_stray blue (Some p) None = Some (record { lane = 1; place = p })
 last_stray (Some p) None None = Some (record { lane = 0; place = p })
 last_stray None None None = None

@@ -1,9 +1,8 @@
 -- What a sink of lanes that may lose bits stands for.
 use Rattle.std.specs.Prelude.{◌≡◌, ℕ, Bool, true, List}
-use Rattle.std.proofs.Common.{suc, zero}
 use Rattle.link_sink.specs.Sinks.{Fed}
 use Rattle.track_sink.specs.TrackEvents.{TrackEvent}
-use Rattle.track_sink.specs.Trackers.{most_fed, IsSettled}
+use Rattle.track_sink.specs.Trackers.{lane_fed, most_fed, IsSettled}
 use Rattle.track_sink.specs.Tracks.{HasTracked}
 use Rattle.track_sink.specs.declared.tracker.Tracker.{Tracker}
 
@@ -20,9 +19,7 @@ pub record TrackSinkRepresents (sink : TrackSinkSeen) (fed : Fed) (reported : Li
 
 -- how many bits it was fed of a lane, and of the longest
 abbrev pub bits_fed : TrackSinkSeen → ℕ → ℕ
-bits_fed sink zero = sink.tracker.lanes.blue.fed
-bits_fed sink (suc zero) = sink.tracker.lanes.green.fed
-bits_fed sink (suc (suc lane)) = sink.tracker.lanes.red.fed
+bits_fed sink = lane_fed sink.tracker
 
 abbrev pub most_bits : TrackSinkSeen → ℕ
 most_bits sink = most_fed sink.tracker

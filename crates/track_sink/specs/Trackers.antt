@@ -1,6 +1,7 @@
 -- What a tracker stands for: the bits that it was fed, those of them that it handed on, and the events
 -- that it reported.
 use Rattle.std.specs.Prelude.{◌≡◌, ◌⊎◌, ℕ, ◌+◌, ◌-◌, ◌*◌, ◌%◌, ◌^◌, ◌<◌, ◌≤◌, max, min, Bool, true, List, ◌∷◌, ◌++◌, length, drop}
+use Rattle.std.proofs.Common.{suc, zero}
 use Rattle.period_grammar.specs.Events.{Event}
 use Rattle.lane_track.specs.Strays.{IsStray}
 use Rattle.link_sink.specs.Sinks.{Fed, IsReportedSoFar}
@@ -34,6 +35,12 @@ pub record HoldsRest (lane : Lane) (bits start handed : ℕ) (xs : List Bool) : 
   pub held : lane.held.bits ≡ drop (start + handed) xs
   pub fed : lane.fed ≡ length xs
   pub given : bits ≡ min handed (length xs - start)
+
+-- how many bits were fed of a lane
+abbrev pub lane_fed : Tracker → ℕ → ℕ
+lane_fed t zero = t.lanes.blue.fed
+lane_fed t (suc zero) = t.lanes.green.fed
+lane_fed t (suc (suc lane)) = t.lanes.red.fed
 
 -- how many bits were fed of the lane that was fed the most
 abbrev pub most_fed : Tracker → ℕ

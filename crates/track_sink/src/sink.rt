@@ -1,9 +1,9 @@
 //! A sink of the bits of three lanes that may lose some.
-ghost use Rattle.std.specs.Prelude.{ℕ, ◌≡◌, ◌+◌, ◌++◌, List, [], true, false, IfOk, OnOk, OnErr, slice_index};
+ghost use Rattle.std.specs.Prelude.{ℕ, ◌≡◌, ◌++◌, List, [], true, false, IfOk, OnOk, OnErr};
 ghost use Rattle.outside_io.specs.Causes.{HasCause};
-ghost use Rattle.link_sink.specs.Sinks.{Fed, grown};
+ghost use Rattle.link_sink.specs.Sinks.{Fed, grown_by};
 ghost use Rattle.link_sink.specs.Pieces.{no_bits};
-ghost use Rattle.link_sink.specs.Received.{CanFeed};
+ghost use Rattle.link_sink.specs.Received.{CanFeedLanes, AreFedMore};
 ghost use Rattle.track_sink.specs.TrackEvents.{TrackEvent};
 ghost use Rattle.track_sink.specs.Epochs.{IsTrack};
 ghost use Rattle.track_sink.specs.Tracks.{HasTracked};
@@ -16,6 +16,7 @@ use outside_io::{Failed, NoMemory};
 use std::alloc::Global;
 use std::marker::Model;
 use std::thread::Threads;
+use tmds_word::LaneBits;
 
 /// Hears three lanes whose bits arrive feed after feed, begins anew where a lane lost bits, and reports to an ear what
 /// they say. It has taken all its memory when it is opened: a `LinkSink`, and a buffer of 4,224 bytes for each lane.
@@ -57,8 +58,8 @@ impl TrackSink {
         self.is_open
     }
 
-    /// Takes bits of each lane, each lane its own number of them, and reports to the ear what they decide: bit i is bit
-    /// `i % 8` of byte `i / 8`. Of a lane that had fewer bits than another no more arrive.
+    /// Takes the bits of each lane, and reports to the ear what they decide. Of a lane that had fewer bits than another no
+    /// more arrive.
     ///
     /// # Errors
     ///
@@ -67,28 +68,21 @@ impl TrackSink {
     pub fn feed<R: Threads, E: TrackEar>(
         &mut self,
         rt: &R,
-        a: &[u8],
-        b: &[u8],
-        c: &[u8],
-        bits: [u32; 3],
+        lanes: LaneBits<'_>,
         ear: &mut E,
     ) -> Result<(), Failed>
         requires open { self.old.is_open ≡ true }
-        requires blue { CanFeed (bits_fed self.old 0) (most_bits self.old) a.now (slice_index bits 0) }
-        requires green { CanFeed (bits_fed self.old 1) (most_bits self.old) b.now (slice_index bits 1) }
-        requires red { CanFeed (bits_fed self.old 2) (most_bits self.old) c.now (slice_index bits 2) }
+        requires lanes { CanFeedLanes (bits_fed self.old) (most_bits self.old) lanes }
         ensures open { OnOk result (self.new.is_open ≡ true) }
-        ensures blue { OnOk result (bits_fed self.new 0 ≡ bits_fed self.old 0 + slice_index bits 0) }
-        ensures green { OnOk result (bits_fed self.new 1 ≡ bits_fed self.old 1 + slice_index bits 1) }
-        ensures red { OnOk result (bits_fed self.new 2 ≡ bits_fed self.old 2 + slice_index bits 2) }
+        ensures more { OnOk result (AreFedMore (bits_fed self.old) (bits_fed self.new) lanes.entry) }
         ensures reported { (fed : Fed) (reported : List TrackEvent) → TrackSinkRepresents self.old fed reported
-            → OnOk result ((more : List TrackEvent) × E.tracked ear.old ear.new more × TrackSinkRepresents self.new (grown fed a.now b.now c.now bits) (reported ++ more)) }
+            → OnOk result ((more : List TrackEvent) × E.tracked ear.old ear.new more × TrackSinkRepresents self.new (grown_by fed lanes.entry) (reported ++ more)) }
         ensures stopped { (fed : Fed) (reported : List TrackEvent) → TrackSinkRepresents self.old fed reported
-            → OnErr result ((more : List TrackEvent) × Stops E.tracked E.lost ear.old ear.new more × HasTracked (grown fed a.now b.now c.now bits) (reported ++ more)) }
+            → OnErr result ((more : List TrackEvent) × Stops E.tracked E.lost ear.old ear.new more × HasTracked (grown_by fed lanes.entry) (reported ++ more)) }
         ensures spent { OnErr result (self.new.is_open ≡ false) }
         ensures cause { HasCause (E.faults ear.old) (E.faults ear.new) result }
     {
-        self.tracker.append(a, b, c, bits);
+        self.tracker.append(lanes);
         match self.tracker.follow(rt, ear) {
             Ok(()) => Ok(()),
             Err(_) => {

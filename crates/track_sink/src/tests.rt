@@ -15,6 +15,7 @@ use std::alloc::Global;
 use std::process::Abort;
 use std::test::*;
 use std::thread::Threads;
+use tmds_word::LaneBits;
 
 /// How many bits of each lane arrive in a feed.
 static PIECES: [u32; 4] = [8, 40, 1000, 32768];
@@ -42,16 +43,22 @@ fn feed_next<R: Threads>(
     let x = most.min(case.bits[0].saturating_sub(from));
     let y = most.min(case.bits[1].saturating_sub(from));
     let z = most.min(case.bits[2].saturating_sub(from));
-    let a = part(case.bytes[0].as_slice(), from, x);
-    let b = part(case.bytes[1].as_slice(), from, y);
-    let c = part(case.bytes[2].as_slice(), from, z);
-    if a.len() != (x as usize + 7) / 8
-        || b.len() != (y as usize + 7) / 8
-        || c.len() != (z as usize + 7) / 8
+    let blue = part(case.bytes[0].as_slice(), from, x);
+    let green = part(case.bytes[1].as_slice(), from, y);
+    let red = part(case.bytes[2].as_slice(), from, z);
+    if blue.len() != (x as usize + 7) / 8
+        || green.len() != (y as usize + 7) / 8
+        || red.len() != (z as usize + 7) / 8
     {
         return Err(Failed);
     }
-    sink.feed(rt, a, b, c, [x, y, z], notes)
+    let lanes = LaneBits {
+        blue,
+        green,
+        red,
+        bits: [x, y, z],
+    };
+    sink.feed(rt, lanes, notes)
 }
 
 /// The bytes of so many bits from a place on.

@@ -1,18 +1,18 @@
 //! Follows three lanes from epoch to epoch.
-ghost use Rattle.std.specs.Prelude.{ℕ, ◌≡◌, ◌<◌, ◌≤◌, ◌+◌, ◌/◌, ◌*◌, ◌%◌, ◌^◌, ◌||◌, ◌++◌, true, List, [], IfOk, OnOk, OnErr, MatchOption, slice_index};
+ghost use Rattle.std.specs.Prelude.{ℕ, ◌≡◌, ◌<◌, ◌≤◌, ◌+◌, ◌/◌, ◌*◌, ◌%◌, ◌^◌, ◌||◌, ◌++◌, true, List, [], IfOk, OnOk, OnErr, MatchOption};
 ghost use Rattle.outside_io.specs.Causes.{HasCause};
 ghost use Rattle.terc4.specs.Columns.{one_if};
 ghost use Rattle.period_grammar.specs.Events.{Event};
 ghost use Rattle.link_sink.specs.Ears.{StopsIn};
 ghost use Rattle.link_sink.specs.declared.hear.Outcome.{Outcome as OutcomeValue};
-ghost use Rattle.link_sink.specs.Sinks.{Fed, grown, IsGain, IsLast};
+ghost use Rattle.link_sink.specs.Sinks.{Fed, grown_by, IsGain, IsLast};
 ghost use Rattle.link_sink.specs.Pieces.{no_bits};
-ghost use Rattle.link_sink.specs.Received.{CanFeed};
+ghost use Rattle.link_sink.specs.Received.{CanFeedLanes};
 ghost use Rattle.link_sink.specs.Streams.{SinkRepresents, most_bits};
 ghost use Rattle.track_sink.specs.TrackEvents.{TrackEvent};
 ghost use Rattle.track_sink.specs.Epochs.{rest_of, front_of, IsTrack};
 ghost use Rattle.track_sink.specs.Lanes.{AreSought, EndsAt};
-ghost use Rattle.track_sink.specs.Trackers.{most_of, most_fed, Follows, Carries, HasLooked, Stays, CanClose, CanTurn, Stands, IsSettled, Stops, Passes};
+ghost use Rattle.track_sink.specs.Trackers.{most_of, lane_fed, most_fed, Follows, Carries, HasLooked, Stays, CanClose, CanTurn, Stands, IsSettled, Stops, Passes};
 
 use crate::lanes::{Lanes, Stray};
 use crate::{TrackEar, TrackOutcome};
@@ -21,6 +21,7 @@ use link_sink::{LinkSink, Outcome};
 use outside_io::{Failed, NoMemory};
 use std::alloc::Global;
 use std::thread::Threads;
+use tmds_word::LaneBits;
 
 /// How many places of each lane are looked at before those of the next: an epoch that ends early costs no more.
 const STRETCH: u32 = 2560;
@@ -65,18 +66,15 @@ impl Tracker {
         })
     }
 
-    /// Appends bits of each lane.
-    pub(crate) fn append(&mut self, a: &[u8], b: &[u8], c: &[u8], bits: [u32; 3])
+    /// Appends the bits of each lane.
+    pub(crate) fn append(&mut self, lanes: LaneBits<'_>)
         requires settled { (fed : Fed) × (reported : List TrackEvent) × IsSettled self.old fed reported }
-        requires blue { CanFeed self.old.lanes.blue.fed (most_fed self.old) a.now (slice_index bits 0) }
-        requires green { CanFeed self.old.lanes.green.fed (most_fed self.old) b.now (slice_index bits 1) }
-        requires red { CanFeed self.old.lanes.red.fed (most_fed self.old) c.now (slice_index bits 2) }
-        ensures { (fed : Fed) (reported : List TrackEvent) → IsSettled self.old fed reported → Stands self.new (grown fed a.now b.now c.now bits) reported }
+        requires lanes { CanFeedLanes (lane_fed self.old) (most_fed self.old) lanes }
+        ensures { (fed : Fed) (reported : List TrackEvent) → IsSettled self.old fed reported → Stands self.new (grown_by fed lanes.entry) reported }
     {
-        let [x, y, z] = bits;
-        self.lanes.blue.append(a, x);
-        self.lanes.green.append(b, y);
-        self.lanes.red.append(c, z);
+        self.lanes.blue.append(lanes.blue, lanes.bits[0]);
+        self.lanes.green.append(lanes.green, lanes.bits[1]);
+        self.lanes.red.append(lanes.red, lanes.bits[2]);
     }
 
     /// Reports to the ear what the bits decide.
@@ -149,14 +147,13 @@ impl Tracker {
             return Ok(());
         }
         let counts = self.lanes.release(bits);
-        self.link.feed_ungated(
-            rt,
-            self.lanes.blue.held.released(),
-            self.lanes.green.held.released(),
-            self.lanes.red.held.released(),
-            counts,
-            ear,
-        )?;
+        let lanes = LaneBits {
+            blue: self.lanes.blue.held.released(),
+            green: self.lanes.green.held.released(),
+            red: self.lanes.red.held.released(),
+            bits: counts,
+        };
+        self.link.feed_ungated(rt, lanes, ear)?;
         self.handed += bits;
         Ok(())
     }

@@ -9,6 +9,7 @@ use outside_io::MemSink;
 use std::process::Abort;
 use std::sync::atomic::{AtomicU64, Ordering};
 use std::test::*;
+use tmds_word::LaneBits;
 
 /// For how many turns a lane looks for another at most.
 const TURNS: u64 = 1_000_000_000;
@@ -88,12 +89,17 @@ fn lanes_of_a_feed_meet(rt: HostRuntime) -> Result<(), Fail> {
     let alloc = rt.alloc();
     let capture = hex::decode(alloc, SKEWED)?;
     assert_eq!(rt; capture.len(), 158);
-    let (a, b, c) = (&capture[8..58], &capture[58..108], &capture[108..158]);
+    let lanes = LaneBits {
+        blue: &capture[8..58],
+        green: &capture[58..108],
+        red: &capture[108..158],
+        bits: [393; 3],
+    };
     let gate = Meeting::new();
     let mut output = MemSink::new(alloc, 100, 100, Vec::new(alloc))?;
     let mut sink = LinkSink::open(alloc)?;
     let mut ear = LinkLister::open(&mut output);
-    assert_eq!(rt; sink.feed(&rt, a, b, c, [393; 3], &gate, &mut ear), Ok(()));
+    assert_eq!(rt; sink.feed(&rt, lanes, &gate, &mut ear), Ok(()));
     gate.expect_one_pass(&rt);
     assert_eq!(rt; output.bytes(), TEXT);
     Ok(())

@@ -59,7 +59,7 @@ returns-in-Ok-write_header-clause-read g c is =
     record {
       read = head ++ (p.1 ++ p.2);
       took = Consumes-trans _ _ _ head (p.1 ++ p.2) n.ok p.5;
-      begins = subst (λ bs. BeginsCapture bs) (append_assoc head p.1 p.2) (p.4.begins _ _ s.x s.y s.z s.read);
+      begins = subst (λ bs. BeginsCapture bs) (append_assoc head p.1 p.2) (p.4.begins _ _ s.blue s.green s.red s.read);
       wrote = inr (record {
         version = a.version;
         counts = a.bits;

@@ -17,7 +17,7 @@ pub returns-in-Err-clause-err : goal.returns-in-Err-clause-err
 returns-in-Err-clause-err g c bytes taken before e h =
     let a = c.args.heading in
     let p = λ (fault : CaptureFault). IsFault (taken ++ bytes) fault × StopsIn a.bits c.args.j taken (place_of fault) in
-    subst (λ r. SaysFault p r) (sym c.from.ensures) (fault_of p c.in-Err.error (c.in-Err.ensures.err bytes taken h.front.x h.front.y h.front.z e h.front.read))
+    subst (λ r. SaysFault p r) (sym c.from.ensures) (fault_of p c.in-Err.error (c.in-Err.ensures.err bytes taken h.front.blue h.front.green h.front.red e h.front.read))
 
 pub returns-in-Ok-clause-ok : goal.returns-in-Ok-clause-ok
 returns-in-Ok-clause-ok g c taken before h = λ _.

@@ -40,18 +40,18 @@ returns-in-Ok-clause-heard g c =
     let o = c.args.reader.now in
     let v = c.next.follows.lender-at-none in
     let b = c.in-Ok-Some.block in
-    let gone : Consumes (g.S.Source.left o.source.now) (g.S.Source.left v.source.now) ((b.a.now ++ b.b.now) ++ b.c.now) = (block_of _ _ _ _ _ c.next.follows.holds-at-none.4 c.in-Ok-Some.is c.in-Ok-Some.field-0-is).2 in
+    let gone : Consumes (g.S.Source.left o.source.now) (g.S.Source.left v.source.now) ((b.blue.now ++ b.green.now) ++ b.red.now) = (block_of _ _ _ _ _ c.next.follows.holds-at-none.4 c.in-Ok-Some.is c.in-Ok-Some.field-0-is).2 in
     λ from first h _.
-    followed_more g.E.TrackEar.tracked g.met.E.TrackEar.tracked_both o.version o.bits o.block from (g.S.Source.left o.source.now) (g.S.Source.left v.source.now) c.args.sink.now c.feed.new.self b.a.now b.b.now b.c.now b.bits first c.args.ear.now c.feed.new.ear h gone (λ taken x y z s. some_of _ _ _ (c.in-Ok-Some.ensures.stands taken x y z s) c.in-Ok-Some.field-0-is) c.in-Ok.ensures.reported
+    followed_more g.E.TrackEar.tracked g.met.E.TrackEar.tracked_both o.version o.bits o.block from (g.S.Source.left o.source.now) (g.S.Source.left v.source.now) c.args.sink.now c.feed.new.self b.blue.now b.green.now b.red.now b.bits first c.args.ear.now c.feed.new.ear h gone (λ taken x y z s. some_of _ _ _ (c.in-Ok-Some.ensures.stands taken x y z s) c.in-Ok-Some.field-0-is) c.in-Ok.ensures.reported
 
 pub returns-in-Err-feed-clause-short : goal.returns-in-Err-feed-clause-short
 returns-in-Err-feed-clause-short g c =
     let o = c.args.reader.now in
     let v = c.next.follows.lender-at-none in
     let b = c.in-Ok-Some.block in
-    let gone : Consumes (g.S.Source.left o.source.now) (g.S.Source.left v.source.now) ((b.a.now ++ b.b.now) ++ b.c.now) = (block_of _ _ _ _ _ c.next.follows.holds-at-none.4 c.in-Ok-Some.is c.in-Ok-Some.field-0-is).2 in
+    let gone : Consumes (g.S.Source.left o.source.now) (g.S.Source.left v.source.now) ((b.blue.now ++ b.green.now) ++ b.red.now) = (block_of _ _ _ _ _ c.next.follows.holds-at-none.4 c.in-Ok-Some.is c.in-Ok-Some.field-0-is).2 in
     λ from first h.
-    untaken_on g.E.TrackEar.tracked g.E.TrackEar.lost g.met.E.TrackEar.tracked_both o.version o.bits o.block from (g.S.Source.left o.source.now) (g.S.Source.left v.source.now) c.args.sink.now b.a.now b.b.now b.c.now b.bits first c.args.ear.now c.feed.new.ear h gone (λ taken x y z s. some_of _ _ _ (c.in-Ok-Some.ensures.stands taken x y z s) c.in-Ok-Some.field-0-is) c.in-Err-feed.ensures.stopped
+    untaken_on g.E.TrackEar.tracked g.E.TrackEar.lost g.met.E.TrackEar.tracked_both o.version o.bits o.block from (g.S.Source.left o.source.now) (g.S.Source.left v.source.now) c.args.sink.now b.blue.now b.green.now b.red.now b.bits first c.args.ear.now c.feed.new.ear h gone (λ taken x y z s. some_of _ _ _ (c.in-Ok-Some.ensures.stands taken x y z s) c.in-Ok-Some.field-0-is) c.in-Err-feed.ensures.stopped
 
 pub returns-in-Ok-None-clause-whole : goal.returns-in-Ok-None-clause-whole
 returns-in-Ok-None-clause-whole g c =
@@ -73,14 +73,14 @@ returns-in-Err-clause-short g c =
 pub returns-in-Ok-clause-taken : goal.returns-in-Ok-clause-taken
 returns-in-Ok-clause-taken g c =
     let b = c.in-Ok-Some.block in
-    let gone : Consumes (g.S.Source.left c.args.reader.now.source.now) (g.S.Source.left c.next.follows.lender-at-none.source.now) ((b.a.now ++ b.b.now) ++ b.c.now) = (block_of _ _ _ _ _ c.next.follows.holds-at-none.4 c.in-Ok-Some.is c.in-Ok-Some.field-0-is).2 in
-    ((b.a.now ++ b.b.now) ++ b.c.now, gone)
+    let gone : Consumes (g.S.Source.left c.args.reader.now.source.now) (g.S.Source.left c.next.follows.lender-at-none.source.now) ((b.blue.now ++ b.green.now) ++ b.red.now) = (block_of _ _ _ _ _ c.next.follows.holds-at-none.4 c.in-Ok-Some.is c.in-Ok-Some.field-0-is).2 in
+    ((b.blue.now ++ b.green.now) ++ b.red.now, gone)
 
 pub returns-in-Err-feed-clause-taken : goal.returns-in-Err-feed-clause-taken
 returns-in-Err-feed-clause-taken g c =
     let b = c.in-Ok-Some.block in
-    let gone : Consumes (g.S.Source.left c.args.reader.now.source.now) (g.S.Source.left c.next.follows.lender-at-none.source.now) ((b.a.now ++ b.b.now) ++ b.c.now) = (block_of _ _ _ _ _ c.next.follows.holds-at-none.4 c.in-Ok-Some.is c.in-Ok-Some.field-0-is).2 in
-    ((b.a.now ++ b.b.now) ++ b.c.now, gone)
+    let gone : Consumes (g.S.Source.left c.args.reader.now.source.now) (g.S.Source.left c.next.follows.lender-at-none.source.now) ((b.blue.now ++ b.green.now) ++ b.red.now) = (block_of _ _ _ _ _ c.next.follows.holds-at-none.4 c.in-Ok-Some.is c.in-Ok-Some.field-0-is).2 in
+    ((b.blue.now ++ b.green.now) ++ b.red.now, gone)
 
 pub returns-in-Ok-None-clause-taken : goal.returns-in-Ok-None-clause-taken
 returns-in-Ok-None-clause-taken g c =
@@ -150,8 +150,8 @@ returns-in-Ok-None-clause-more g c = (end_of _ _ _ _ c.next.follows.holds-at-non
 pub returns-in-Ok-None-clause-ended : goal.returns-in-Ok-None-clause-ended
 returns-in-Ok-None-clause-ended g c = λ less. (end_of _ _ _ _ c.next.follows.holds-at-none.4 c.in-Ok-None.is c.in-Ok-None.field-0-is).2
 
-pub feed-requires-clause-blue : goal.feed-requires-clause-blue
-feed-requires-clause-blue g c =
+pub feed-requires-clause-lanes : goal.feed-requires-clause-lanes
+feed-requires-clause-lanes g c =
     let block = c.in-Ok-Some.block in
     let bits = some_of _ _ _ c.in-Ok-Some.ensures.bits c.in-Ok-Some.field-0-is in
     let sizes = some_of _ _ _ c.in-Ok-Some.ensures.sizes c.in-Ok-Some.field-0-is in
@@ -160,28 +160,8 @@ feed-requires-clause-blue g c =
     let one = c.requires.fed.first in
     let two = c.requires.fed.second in
     let three = c.requires.fed.third in
-    can_feed (bits_fed c.args.sink.now 0) (most_bits c.args.sink.now) j (slice_index counts 0) (slice_index block.bits 0) block.a.now c.requires.fed.first (omega arith) (omega arith) bits.0 sizes.0 (c.requires.said.small 0 (omega arith))
-
-pub feed-requires-clause-green : goal.feed-requires-clause-green
-feed-requires-clause-green g c =
-    let block = c.in-Ok-Some.block in
-    let bits = some_of _ _ _ c.in-Ok-Some.ensures.bits c.in-Ok-Some.field-0-is in
-    let sizes = some_of _ _ _ c.in-Ok-Some.ensures.sizes c.in-Ok-Some.field-0-is in
-    let counts = c.args.reader.now.bits in
-    let j = c.args.reader.now.block in
-    let one = c.requires.fed.first in
-    let two = c.requires.fed.second in
-    let three = c.requires.fed.third in
-    can_feed (bits_fed c.args.sink.now 1) (most_bits c.args.sink.now) j (slice_index counts 1) (slice_index block.bits 1) block.b.now c.requires.fed.second (omega arith) (omega arith) bits.1 sizes.1 (c.requires.said.small 1 (omega arith))
-
-pub feed-requires-clause-red : goal.feed-requires-clause-red
-feed-requires-clause-red g c =
-    let block = c.in-Ok-Some.block in
-    let bits = some_of _ _ _ c.in-Ok-Some.ensures.bits c.in-Ok-Some.field-0-is in
-    let sizes = some_of _ _ _ c.in-Ok-Some.ensures.sizes c.in-Ok-Some.field-0-is in
-    let counts = c.args.reader.now.bits in
-    let j = c.args.reader.now.block in
-    let one = c.requires.fed.first in
-    let two = c.requires.fed.second in
-    let three = c.requires.fed.third in
-    can_feed (bits_fed c.args.sink.now 2) (most_bits c.args.sink.now) j (slice_index counts 2) (slice_index block.bits 2) block.c.now c.requires.fed.third (omega arith) (omega arith) bits.2 sizes.2 (c.requires.said.small 2 (omega arith))
+    record {
+      blue = can_feed (bits_fed c.args.sink.now 0) (most_bits c.args.sink.now) j (slice_index counts 0) (slice_index block.bits 0) block.blue.now c.requires.fed.first (omega arith) (omega arith) bits.0 sizes.0 (c.requires.said.small 0 (omega arith));
+      green = can_feed (bits_fed c.args.sink.now 1) (most_bits c.args.sink.now) j (slice_index counts 1) (slice_index block.bits 1) block.green.now c.requires.fed.second (omega arith) (omega arith) bits.1 sizes.1 (c.requires.said.small 1 (omega arith));
+      red = can_feed (bits_fed c.args.sink.now 2) (most_bits c.args.sink.now) j (slice_index counts 2) (slice_index block.bits 2) block.red.now c.requires.fed.third (omega arith) (omega arith) bits.2 sizes.2 (c.requires.said.small 2 (omega arith));
+    }

@@ -36,8 +36,8 @@ returns-in-Ok-true g c =
     let lb = e.blue t ∙ sym b0 in
     let lg = e.green t ∙ sym b1 in
     let lr = e.red t ∙ sym b2 in
-    let all : (packed n.lanes.blue ++ packed n.lanes.green) ++ packed n.lanes.red ≡ (r.a.now ++ r.b.now) ++ r.c.now =
-    sym (ap₂ (λ xs ys. (xs ++ ys) ++ r.c.now) l.a l.b ∙ ap (λ zs. (packed n.lanes.blue ++ packed n.lanes.green) ++ zs) l.c) in (
+    let all : (packed n.lanes.blue ++ packed n.lanes.green) ++ packed n.lanes.red ≡ (r.blue.now ++ r.green.now) ++ r.red.now =
+    sym (ap₂ (λ xs ys. (xs ++ ys) ++ r.red.now) l.blue l.green ∙ ap (λ zs. (packed n.lanes.blue ++ packed n.lanes.green) ++ zs) l.red) in (
       (
         refl,
         (λ _. tt),
@@ -52,7 +52,7 @@ returns-in-Ok-true g c =
       ),
       record {
         bits = (b0, b1, b2);
-        sizes = (lane_size r.a.now n.lanes.blue (slice_index r.bits 0) l.a lb, lane_size r.b.now n.lanes.green (slice_index r.bits 1) l.b lg, lane_size r.c.now n.lanes.red (slice_index r.bits 2) l.c lr);
+        sizes = (lane_size r.blue.now n.lanes.blue (slice_index r.bits 0) l.blue lb, lane_size r.green.now n.lanes.green (slice_index r.bits 1) l.green lg, lane_size r.red.now n.lanes.red (slice_index r.bits 2) l.red lr);
         some = e.some t;
         stands = grind (arith, stands_given);
         whole = λ taken x y z s. tt;

@@ -12,17 +12,17 @@ pub returns-then-bits-eq0-clause-reported : goal.returns-then-bits-eq0-clause-re
 returns-then-bits-eq0-clause-reported g c = λ fed carries room.
     ([], none_gained c.args.self.now fed c.args.bits c.if-bits-eq0.true, g.met.E.Ear.took_none c.args.ear.now)
 
-pub feed_ungated-requires-clause-blue : goal.feed_ungated-requires-clause-blue
-feed_ungated-requires-clause-blue g c =
-    can_hand_blue c.args.self.now c.requires.carries.0 c.release-counts.new.self c.released.result.now (slice_index c.release-counts.result 0) c.args.bits c.requires.carries.1 c.requires.whole c.requires.most c.release-counts.ensures.blue c.released.ensures.size
-
-pub feed_ungated-requires-clause-green : goal.feed_ungated-requires-clause-green
-feed_ungated-requires-clause-green g c =
-    can_hand_green c.args.self.now c.requires.carries.0 c.release-counts.new.self c.released-2.result.now (slice_index c.release-counts.result 1) c.args.bits c.requires.carries.1 c.requires.whole c.requires.most c.release-counts.ensures.green c.released-2.ensures.size
-
-pub feed_ungated-requires-clause-red : goal.feed_ungated-requires-clause-red
-feed_ungated-requires-clause-red g c =
-    can_hand_red c.args.self.now c.requires.carries.0 c.release-counts.new.self c.released-3.result.now (slice_index c.release-counts.result 2) c.args.bits c.requires.carries.1 c.requires.whole c.requires.most c.release-counts.ensures.red c.released-3.ensures.size
+pub feed_ungated-requires-clause-lanes : goal.feed_ungated-requires-clause-lanes
+feed_ungated-requires-clause-lanes g c =
+    let t = c.args.self.now in
+    let fed = c.requires.carries.0 in
+    let counts = c.release-counts.result in
+    let carries = c.requires.carries.1 in
+    record {
+      blue = can_hand_blue t fed c.release-counts.new.self c.released.result.now (slice_index counts 0) c.args.bits carries c.requires.whole c.requires.most c.release-counts.ensures.blue c.released.ensures.size;
+      green = can_hand_green t fed c.release-counts.new.self c.released-2.result.now (slice_index counts 1) c.args.bits carries c.requires.whole c.requires.most c.release-counts.ensures.green c.released-2.ensures.size;
+      red = can_hand_red t fed c.release-counts.new.self c.released-3.result.now (slice_index counts 2) c.args.bits carries c.requires.whole c.requires.most c.release-counts.ensures.red c.released-3.ensures.size;
+    }
 
 pub returns-clause-carries : goal.returns-clause-carries
 returns-clause-carries g c = λ fed carries room.
@@ -32,7 +32,7 @@ returns-clause-carries g c = λ fed carries room.
     carries_handed t fed c.feed_ungated.new.self c.release-counts.new.self c.release-counts.result c.args.bits carries room
     c.release-counts.ensures.blue c.release-counts.ensures.green c.release-counts.ensures.red c.in_ok-feed_ungated.ensures.open
     (subst (SinkRepresents c.feed_ungated.new.self) is (c.in_ok-feed_ungated.ensures.fed (front_of t.handed (rest_of t.start fed)) carries.link))
-    c.in_ok-feed_ungated.ensures.blue c.in_ok-feed_ungated.ensures.green c.in_ok-feed_ungated.ensures.red
+    c.in_ok-feed_ungated.ensures.more.blue c.in_ok-feed_ungated.ensures.more.green c.in_ok-feed_ungated.ensures.more.red
 
 pub returns-clause-reported : goal.returns-clause-reported
 returns-clause-reported g c = λ fed carries room.
