@@ -1,8 +1,12 @@
 -- Numbers in which the code moves the bits of several nibbles at once. Only the contracts of private functions cite them.
-use Rattle.std.specs.Prelude.{ℕ, ◌+◌, ◌*◌, Bool, not, ◌&&◌, ◌==◌, List, [], ◌∷◌, map, slice_index}
+use Rattle.std.specs.Prelude.{ℕ, ◌+◌, ◌*◌, Bool, not, ◌&&◌, ◌==◌, List, [], ◌∷◌, map, slice_index, unwrap_or}
 use Rattle.std.specs.Int.{bit_at}
-use Rattle.terc4.specs.Tables.{terc_words}
+use Rattle.terc4.specs.Tables.{terc_words, value_in}
 use Rattle.terc4.specs.Columns.{one_if}
+
+-- the four bits that a word carries; 16 where it is no TERC4 word
+unfoldable pub code_of : ℕ → ℕ
+code_of word = unwrap_or (value_in terc_words word) 16
 
 -- bit b of a nibble in byte b
 unfoldable pub spread_of : ℕ → ℕ
