@@ -1,6 +1,6 @@
 -- Columns that go on with what is open: with the last run of a control period, with the line of a video period, or with
 -- the packet of a data island that is being received. Nothing is reported of them before that ends.
-use Rattle.std.specs.Prelude.{ℕ, ◌+◌, Bool, false, not, ◌&&◌, ◌==◌, nat_lt, List, [], ◌∷◌, ◌++◌, length, if◌then◌else◌}
+use Rattle.std.specs.Prelude.{◌≡◌, ℕ, ◌+◌, Bool, true, false, not, ◌&&◌, ◌==◌, nat_lt, List, [], ◌∷◌, ◌++◌, length, if◌then◌else◌}
 use Rattle.tmds_word.specs.Column.{Column}
 use Rattle.terc4.specs.Tables.{is_control}
 use Rattle.terc4.specs.Columns.{is_control_column}
@@ -42,6 +42,11 @@ goes_on_island rest c = not (is_control_column c) && goes_on_packet (payload res
 abbrev pub count_in_island : List Column → List Column → ℕ
 count_in_island rest [] = 0
 count_in_island rest (c ∷ cs) = if goes_on_island rest c then 1 + count_in_island (rest ++ c ∷ []) cs else 0
+
+-- columns each of which goes on with those of an island before it
+abbrev pub AreGoingOn : List Column → List Column → Type 0
+AreGoingOn rest [] = Unit {0}
+AreGoingOn rest (c ∷ cs) = (goes_on_island rest c ≡ true) × AreGoingOn (rest ++ c ∷ []) cs
 
 -- whether a column goes on with the columns after two that opened this
 abbrev pub goes_on_line : Kind → List Column → Column → Bool

@@ -1,5 +1,5 @@
 //! The columns of an island after its opening guard.
-ghost use Rattle.std.specs.Prelude.{◌≡◌, ◌<◌, ◌≤◌, ◌+◌, ◌*◌, ◌^◌, ◌++◌, ◌∷◌, [], List, ℕ, length, take, Bool, true, false, not, ◌==◌, nat_le};
+ghost use Rattle.std.specs.Prelude.{◌≡◌, ◌↔◌, ◌<◌, ◌≤◌, ◌+◌, ◌*◌, ◌^◌, ◌++◌, ◌∷◌, [], List, ℕ, All, IsTrue, length, map, take, Bool, true, false, not, ◌==◌, nat_le};
 ghost use Rattle.std.specs.Bool.{OnTrue, OnFalse};
 ghost use Rattle.tmds_word.specs.Column.{Column, column_of};
 ghost use Rattle.tmds_word.specs.Lent.{columns_in};
@@ -10,7 +10,8 @@ ghost use Rattle.island_pack.specs.Spelling.{column_words};
 ghost use Rattle.island_pack.specs.Repaired.{packet_of, verdicts_of, packet_in, verdicts_in};
 ghost use Rattle.period_grammar.specs.Island.{Payload, payload, packet_events, closing_events, breaks, if_so, block_fault, packet_faults};
 ghost use Rattle.period_grammar.specs.After.{island_gain, after_payload};
-ghost use Rattle.period_grammar.specs.GoesOn.{goes_on_packet, count_in_island};
+ghost use Rattle.period_grammar.specs.GoesOn.{goes_on_packet, count_in_island, AreGoingOn};
+ghost use Rattle.period_grammar.specs.Balanced.{is_pixel};
 ghost use Rattle.period_grammar.specs.IslandAfter.{IsIslandAfter, IsBlocked, IsPartsAfter, at_some};
 ghost use Rattle.period_grammar.specs.Noted.{events, Lent, lent};
 
@@ -184,6 +185,30 @@ fn put_column(block: &mut [[Word; 3]; 32], at: u32, column: &[Word; 3])
     block[at as usize] = *column;
 }
 
+/// Puts columns at a place after those before it, as long as they are no control columns, and answers how many these are.
+fn put_columns(block: &mut [[Word; 3]; 32], at: u32, columns: Columns<'_>) -> usize
+    requires { at + length (columns_in columns) ≤ 32 }
+    ensures within { result ≤ length (columns_in columns.entry) }
+    ensures pixels { All (λ c. is_pixel c ≡ true) (take result (columns_in columns.entry)) }
+    ensures put { take (at + result) block.new ≡ take at block.old ++ map column_words (take result (columns_in columns.entry)) }
+{
+    for i in 0..columns.len() {
+        let column = columns.get(i);
+        if is_control_column(&column) {
+            return i;
+        }
+        put_column(block, at + i as u32, &column);
+    }
+    columns.len()
+}
+
+/// Whether the columns after the last whole packet are of a packet, and not the first alone.
+fn is_packet(left: &Left) -> bool
+    ensures { IsTrue result ↔ (left.now ≡ Left.Packet) }
+{
+    matches!(left, Left::Packet)
+}
+
 impl WholePacket {
     /// A packet of zeros, which no note names.
     pub fn unused() -> WholePacket {
@@ -299,16 +324,42 @@ impl Island {
         ensures count { (rest : List Column) → IsIslandAfter self.old rest → result ≡ count_in_island rest (columns_in columns.entry) }
         ensures heard { (rest : List Column) → IsIslandAfter self.old rest → IsIslandAfter self.new (rest ++ take result (columns_in columns.entry)) }
     {
-        for i in 0..columns.len() {
-            let column = columns.get(i);
+        let mut at = 0;
+        while at < columns.len() {
+            at += self.hear_within(columns.from(at));
+            if at == columns.len() {
+                return at;
+            }
+            let column = columns.get(at);
             if is_control_column(&column) {
-                return i;
+                return at;
             }
             if !self.hear_on(&column) {
-                return i;
+                return at;
             }
+            at += 1;
         }
-        columns.len()
+        at
+    }
+
+    /// Hears columns of a packet after its first two and before its last, as long as they are no control columns, and
+    /// answers how many these are.
+    fn hear_within(&mut self, columns: Columns<'_>) -> usize
+        requires blocked { IsBlocked self.old }
+        ensures blocked { IsBlocked self.new }
+        ensures within { result ≤ length (columns_in columns.entry) }
+        ensures packets { self.new.packets ≡ self.old.packets }
+        ensures placed { self.new.within ≤ self.old.within + result }
+        ensures going { (rest : List Column) → IsIslandAfter self.old rest → AreGoingOn rest (take result (columns_in columns.entry)) }
+        ensures heard { (rest : List Column) → IsIslandAfter self.old rest → IsIslandAfter self.new (rest ++ take result (columns_in columns.entry)) }
+    {
+        if !is_packet(&self.left) || self.within == 0 {
+            return 0;
+        }
+        let few = columns.len().min(31 - self.within as usize);
+        let count = put_columns(&mut self.block, self.within, columns.first(few));
+        self.within += count as u32;
+        count
     }
 
     /// Hears a column that goes on with the packet that is being received, and says whether it does. Of any other it hears
