@@ -1,5 +1,5 @@
 -- The nibbles of lanes, and how many words have none.
-use Rattle.std.proofs.Common.{◌≡◌, ℕ, ◌+◌, ◌*◌, ◌/◌, ◌%◌, ◌<◌, ◌∙◌, ap, refl, Bool, not, List, [], length, take, get_or, sym, subst, arith, slice_index, Option, Some, None, All}
+use Rattle.std.proofs.Common.{◌≡◌, ℕ, ◌+◌, ◌/◌, ◌%◌, ◌<◌, ◌∙◌, ap, refl, Bool, not, List, [], length, take, get_or, sym, subst, arith, slice_index, Option, Some, None, All}
 use Rattle.std.specs.Prelude.{count_by, unwrap_or, is_some, IfSome}
 use Rattle.std.proofs.lemmas.List.{get_or-map, length-map}
 use Rattle.std.proofs.lemmas.List.Sums.{count_by_more_yes, count_by_more_no}

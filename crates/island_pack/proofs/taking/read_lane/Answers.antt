@@ -1,8 +1,7 @@
-use Rattle.std.proofs.Common.{◌≡◌, ◌/◌, ◌<◌, [], not, get_or, arith, get_or-set_other, get_or-set_same, ap, sym, ◌∙◌, slice_index}
+use Rattle.std.proofs.Common.{◌/◌, [], not, get_or, arith, get_or-set_other, get_or-set_same, ap, ◌∙◌, slice_index}
 use Rattle.std.specs.Prelude.{count_by}
 use Rattle.std.proofs.lemmas.List.{length-set, length-map, get_or-map, take_all}
 use Rattle.std.proofs.lemmas.Grind.{same_number_lists}
-use mir.Val.{bool_byte}
 use Rattle.terc4.specs.Tables.{is_terc}
 use Rattle.island_pack.specs.Nibbles.{nibbles_of, is_foreign, foreign_on}
 use Rattle.island_pack.proofs.Columns.{count_more, nibble_of_code, strange_of_code}
