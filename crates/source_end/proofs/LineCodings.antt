@@ -1,6 +1,6 @@
 -- Pixels coded block after block.
 use Rattle.std.proofs.Common.{◌≡◌, ℕ, suc, zero, ◌+◌, ◌-◌, ◌*◌, ◌/◌, ◌%◌, ◌≤◌, ◌<◌, List, [], ◌∷◌, ◌++◌, length, take, drop, set, map, slice_index, replicate, min, refl, ap, ap₂, sym, subst, ◌∙◌, arith, append_assoc, append-nil, take_all, length-take-le, get_or, ℤ}
-use Rattle.std.proofs.lemmas.List.{take_more_set, map-append, take-replicate, length-map, get_or-map}
+use Rattle.std.proofs.lemmas.List.{take_more_set, map-append, take-replicate}
 use Rattle.std.proofs.Math.Seq.{take-add}
 use Rattle.tmds_word.specs.Column.{Column, column_of}
 use Rattle.tmds_word.specs.Bits.{row_bits, bytes_bits}
@@ -12,7 +12,6 @@ use Rattle.tmds_code.specs.Coding.{Coded, sign_of}
 use Rattle.tmds_code.proofs.TableWords.{coded_below}
 use Rattle.tmds_code.specs.Pasts.{IsCoderAfter}
 use Rattle.island_pack.specs.Periods.{Pixel, pixels_of}
-use Rattle.island_pack.proofs.Parts.{four_from}
 use Rattle.source_end.specs.LineCoding.{GoesOn, AreCodersAfter, byte_of}
 use Rattle.source_end.proofs.Spellings.{pixel_at, lane_more, length-pixels_of}
 
@@ -196,22 +195,6 @@ packed_four into now i a b c d room la lb lc ld e = grind (arith, length-bytes_b
 pub none_packed : (into : List ℕ) → all_words (bytes_bits (take (5 * 0) into)) ≡ []
 unfolding all_words words_of bytes_bits
 none_packed into = refl
-
--- the words of four columns more on a lane
-pub four_columns : (ws : List (List ℕ)) (lane i a b c d : ℕ) → 4 * i + 4 ≤ length ws → a ≡ slice_index (get_or ws (4 * i) []) lane → b ≡ slice_index (get_or ws (4 * i + 1) []) lane
-    → c ≡ slice_index (get_or ws (4 * i + 2) []) lane → d ≡ slice_index (get_or ws (4 * i + 3) []) lane
-    → take (4 * (i + 1)) (map (λ w. slice_index w lane) ws) ≡ take (4 * i) (map (λ w. slice_index w lane) ws) ++ a ∷ b ∷ c ∷ d ∷ []
-four_columns ws lane i a b c d le ea eb ec ed =
-    let f : List ℕ → ℕ = λ w. slice_index w lane in
-    let xs = map f ws in
-    let next : 4 * (i + 1) ≡ 4 * i + 4 = omega arith in
-    let at : (k : ℕ) → k < length ws → get_or xs k 0 ≡ f (get_or ws k []) = λ k lt. get_or-map f ws k [] 0 lt in
-    let e0 = at (4 * i) (omega arith) ∙ sym ea in
-    let e1 = at (4 * i + 1) (omega arith) ∙ sym eb in
-    let e2 = at (4 * i + 2) (omega arith) ∙ sym ec in
-    let e3 = at (4 * i + 3) (omega arith) ∙ sym ed in
-    ap (λ m. take m xs) next ∙ take-add (4 * i) 4 xs
-    ∙ ap (λ ys. take (4 * i) xs ++ ys) (four_from xs (4 * i) (omega (arith, le, length-map ws f)) ∙ λ j. e0 j ∷ e1 j ∷ e2 j ∷ e3 j ∷ [])
 
 -- a coded byte's character
 pub character_below : (d : ℤ) (b w : ℕ) → Coded d b w → b < 256 → w < 1024

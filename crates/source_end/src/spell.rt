@@ -2,9 +2,7 @@
 ghost use Rattle.std.specs.Prelude.{◌≡◌, ◌⊎◌, ◌<◌, ◌+◌, ◌*◌, ◌/◌, ◌%◌, ◌++◌, ◌∷◌, [], List, length, map, replicate, slice_index, OnOk, OnErr, IsTrue, true};
 ghost use Rattle.std.specs.List.{list_all};
 ghost use Rattle.outside_io.specs.Causes.{HasCause};
-ghost use Rattle.tmds_word.specs.Bits.{bytes_bits};
 ghost use Rattle.tmds_word.specs.Column.{Column, column_of};
-ghost use Rattle.tmds_word.specs.Words.{all_words};
 ghost use Rattle.terc4.specs.Tables.{video_guard};
 ghost use Rattle.island_pack.specs.Periods.{values_of, period_columns};
 ghost use Rattle.island_pack.specs.Conforming.{is_run, is_sync_pair, is_packet, is_data_island};
@@ -20,7 +18,7 @@ use crate::line_coding::pixels;
 use crate::{Island, Item, Run};
 use island_pack::{Packet, lay};
 use outside_io::NoMemory;
-use tmds_word::{ColumnSink, Word, pack_four};
+use tmds_word::{ColumnSink, Word};
 
 /// How many equal columns are given at a time.
 const BLOCK: usize = 64;
@@ -189,36 +187,19 @@ fn each<C: ColumnSink>(block: &[[Word; 3]; 32], out: &mut C) -> Result<(), NoMem
     let blue = lane_of(block, 0);
     let green = lane_of(block, 1);
     let red = lane_of(block, 2);
-    out.packed(&blue, &green, &red)
+    out.columns(&blue, &green, &red)
 }
 
-/// The words of one lane of 32 columns, of which each four are packed as five bytes.
-fn lane_of(block: &[[Word; 3]; 32], lane: usize) -> [u8; 40]
+/// The words of one lane of 32 columns.
+fn lane_of(block: &[[Word; 3]; 32], lane: usize) -> [Word; 32]
     requires { lane < 3 }
-    ensures { all_words (bytes_bits result) ≡ map (λ words. slice_index words lane) block.now }
+    ensures { result ≡ map (λ words. slice_index words lane) block.now }
 {
-    let mut bytes = [0; 40];
-    for i in 0..8 {
-        let words = [
-            word_in(&block[4 * i], lane),
-            word_in(&block[4 * i + 1], lane),
-            word_in(&block[4 * i + 2], lane),
-            word_in(&block[4 * i + 3], lane),
-        ];
-        pack_four(words, &mut bytes, 5 * i);
+    let mut lane_words = [Word::of(0); 32];
+    for (i, words) in block.iter().enumerate() {
+        lane_words[i] = words[lane];
     }
-    bytes
-}
-
-/// A column's word on a lane.
-fn word_in(words: &[Word; 3], lane: usize) -> Word
-    requires { lane < 3 }
-    ensures word { result ≡ slice_index words.now lane }
-    ensures below { result < 1024 }
-{
-    let word = words[lane];
-    let _ = word.value();
-    word
+    lane_words
 }
 
 /// The guard words of a video period on lanes 0, 1 and 2.
