@@ -20,6 +20,7 @@ use Rattle.island_pack.specs.Sparse.{IsSparseInPayload}
 use Rattle.island_pack.specs.Spelling.{Spells}
 use Rattle.source_end.proofs.Streams.{Spells-length}
 use Rattle.period_grammar.specs.Heard.{heard}
+use Rattle.link_laws.proofs.Freely.{free_received}
 use Rattle.link_laws.specs.Account.{account}
 use Rattle.link_laws.specs.Laws.{ReceivedOf, AlignsUntil}
 use Rattle.link_laws.proofs.Ends.{edges_end}
@@ -141,7 +142,7 @@ own_aligned runs q ps columns good spelled more =
     let y = green_of columns in
     let z = red_of columns in
     let reception = own_received all columns good spelled in
-    let found = tap_accounted all columns columns reception 0 no_skews (tap_counts whole_tap columns) x y z (own_tap columns) small_skews n (own_aligns runs q ps columns good more) in
+    let found = tap_accounted all columns columns (free_received all columns columns reception) 0 no_skews (tap_counts whole_tap columns) x y z (own_tap columns) small_skews n (own_aligns runs q ps columns good more) in
     let d = found.0 in
     let e = found.1 in
     let f = found.2 in
@@ -175,7 +176,7 @@ own_nowhere runs columns good spelled d e f triple =
     let all = control runs ∷ [] in
     let reception = own_received all columns good spelled in
     let m = 10 * length columns - 0 - 0 in
-    let end = (edges_end all columns columns reception (own_payload all columns reception)).0.edges 0 m d triple.first in
+    let end = (edges_end all columns columns (free_received all columns columns reception) (own_payload all columns reception)).0.edges 0 m d triple.first in
     let n = length (values_of runs) in
     let there = alone_end n end.0 (kinds_of all) (alone_kinds runs) end.1.here end.1.then in
     let within = edge_within (blue_of columns) d triple.first in

@@ -19,7 +19,8 @@ use Rattle.link_laws.proofs.exact.Arrivals.{front_is_clean}
 use Rattle.relay_laws.specs.Own.{RelayedAgain, cut_first}
 use Rattle.relay.specs.Relayed.{relayed}
 use Rattle.relay.proofs.Conforming.{relayed_conforms}
-use Rattle.relay_laws.proofs.Own.{freely_spelled, spelled_long}
+use Rattle.link_laws.proofs.Freely.{free_spelled}
+use Rattle.relay_laws.proofs.Own.{spelled_long}
 use Rattle.command_line.specs.Commands.{IsCommand}
 use Rattle.command_line.specs.declared.command.Command.TheVariants.{Relay}
 use Rattle.hdmi_cli.specs.Endings.{Devices, RunEnds, Unless, status_of}
@@ -67,7 +68,7 @@ heard_again law events runs q ps columns are few spelled =
     let all = control runs ∷ (q ∷ ps) in
     let good : IsConforming all = subst (λ (xs : List Period). IsConforming xs) are (relayed_conforms events) in
     let own_spelled : Spells all columns = subst (λ (xs : List Period). Spells xs columns) are spelled in
-    let free = freely_spelled all columns own_spelled in
+    let free = free_spelled all columns own_spelled in
     let many = spelled_long all columns free in
     let size = ap columns_of are in
     let more = columns_more runs q ps good in
@@ -120,7 +121,7 @@ stays_nowhere events runs columns o status old new are few spelled is written do
     let all = control runs ∷ [] in
     let good : IsConforming all = subst (λ (xs : List Period). IsConforming xs) are (relayed_conforms events) in
     let own_spelled : Spells all columns = subst (λ (xs : List Period). Spells xs columns) are spelled in
-    let many = spelled_long all columns (freely_spelled all columns own_spelled) in
+    let many = spelled_long all columns (free_spelled all columns own_spelled) in
     let size = ap columns_of are in
     let captured = own_captured columns (omega (arith, many, size, few)) in
     let made = nowhere_relay (blue_of columns) (green_of columns) (red_of columns) (tapped_capture columns whole_tap) o captured (own_nowhere runs columns good own_spelled) does in

@@ -23,7 +23,7 @@ use Rattle.track_laws.proofs.SlipStream.{stream, sent, reception}
 use Rattle.relay.specs.Relayed.{without_faults, kept_from, kept, nulled, gathered, announcing, settled, conformed, relayed}
 use Rattle.relay.proofs.Conforming.{relayed_conforms}
 use Rattle.relay_laws.specs.Own.{RelayedAgain, cut_first}
-use Rattle.relay_laws.proofs.Own.{freely_spelled}
+use Rattle.link_laws.proofs.Freely.{free_spelled}
 use Rattle.hdmi_cli.specs.Outcome.{RunOutcome}
 use Rattle.hdmi_cli.specs.RelayClauses.{IsCleanToEnd}
 use Rattle.hdmi_cli.specs.RelayExamples.{HasCleanCapture, HasRelayedTwice}
@@ -72,7 +72,7 @@ clean_end : IsCleanToEnd (drop 12 sent)
 clean_end =
     let spelled : Spells (control first_runs ∷ from_long) sent = subst (λ (ps : List Period). Spells ps sent) starts reception.spelled in
     let n = first_long in
-    let cut = cut_spelled 12 first_runs from_long sent (omega (arith, n)) (freely_spelled (control first_runs ∷ from_long) sent spelled) in
+    let cut = cut_spelled 12 first_runs from_long sent (omega (arith, n)) (free_spelled (control first_runs ∷ from_long) sent spelled) in
     let front : IsFront (drop 12 sent) = record { periods = _; spelled = drop 12 sent; conforming = cut_conforms; spells = cut; rest = []; front = sym (append-nil (drop 12 sent)) } in
     record { clean = (check_is_exact (drop 12 sent)).0 (front_is_clean (drop 12 sent) front); ends = ends_in_control }
 

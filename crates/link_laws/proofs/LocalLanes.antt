@@ -12,12 +12,11 @@ use Rattle.lane_deskew.specs.Triples.{IsFirst}
 use Rattle.lane_deskew.proofs.Fed.{first_stays}
 use Rattle.island_pack.specs.Kinds.{kinds_of}
 use Rattle.island_pack.specs.Sparse.{no_column, column_at}
-use Rattle.link_laws.specs.Freely.{ReceivedFreely}
-use Rattle.link_laws.specs.Laws.{EndsControl, AlignsUntil, HoldsEnd}
+use Rattle.link_laws.specs.Laws.{ReceivedFreely, EndsControl, AlignsUntil, HoldsEnd}
 use Rattle.link_laws.specs.Local.{AlignedWhateverFollows}
 use Rattle.link_laws.proofs.Shapes.{alternating, ends_late}
 use Rattle.link_laws.proofs.Aligned.{columns_taken}
-use Rattle.link_laws.proofs.Aligning.{first_until_freely}
+use Rattle.link_laws.proofs.Aligning.{first_until}
 use Rattle.link_laws.proofs.Tapped.{ends, begin_at, characters}
 
 -- a part that lies in the first words has nothing of those after them
@@ -107,7 +106,7 @@ aligned_whatever_follows ps sent received f h offset skews counts x y z tapped s
       spares = λ i le not_payload. same_column received sent n i within (omega arith) ∙ aligns.spares i le not_payload;
       holds = holds;
     } in
-    let found = first_until_freely ps sent cs reception offset skews few u v w tap small f until in
+    let found = first_until ps sent cs reception offset skews few u v w tap small f until in
     let p = found.0 in
     let q = found.1 in
     let r = found.2 in

@@ -12,10 +12,9 @@ use Rattle.island_pack.specs.Spelling.{SpellsBy, freely}
 use Rattle.island_pack.specs.Sparse.{IsNarrow, column_at, unlike_at, IsSparse}
 use Rattle.period_grammar.specs.Events.{Event, event_of, all_at, reported_before}
 use Rattle.period_grammar.specs.Heard.{other_words, heard_so_far, heard}
-use Rattle.link_laws.specs.Freely.{PeriodReceivedFreely}
 use Rattle.link_laws.specs.Laws.{EndsControl, BeginColumn, AlignsUntil}
 use Rattle.link_laws.specs.Literal.{period_placed}
-use Rattle.link_laws.specs.PeriodLaws.{AreControl}
+use Rattle.link_laws.specs.PeriodLaws.{PeriodReceived, AreControl}
 
 -- columns of a period, after any columns and at least twelve control columns, and before a control column and any columns: all
 -- that is reported from the second of them to that control column is the period's row, and that column's words that are no
@@ -31,18 +30,18 @@ StandsAnywhere p sent received =
 
 abbrev pub VideoAnywhere : Type 0
 VideoAnywhere =
-    (bytes : List ℕ) (sent received : List Column) → is_video_period bytes ≡ true → PeriodReceivedFreely (video bytes) sent received
+    (bytes : List ℕ) (sent received : List Column) → is_video_period bytes ≡ true → PeriodReceived (video bytes) sent received
     → StandsAnywhere (video bytes) sent received
 
 abbrev pub IslandAnywhere : Type 0
 IslandAnywhere =
-    (x : DataIsland) (sent received : List Column) → is_data_island x ≡ true → PeriodReceivedFreely (island x) sent received
+    (x : DataIsland) (sent received : List Column) → is_data_island x ≡ true → PeriodReceived (island x) sent received
     → StandsAnywhere (island x) sent received
 
 -- a data island closes itself: its row is reported by its last column, whatever follows
 abbrev pub IslandClosesAnywhere : Type 0
 IslandClosesAnywhere =
-    (x : DataIsland) (sent received : List Column) → is_data_island x ≡ true → PeriodReceivedFreely (island x) sent received
+    (x : DataIsland) (sent received : List Column) → is_data_island x ≡ true → PeriodReceived (island x) sent received
     → (earlier before later : List Column) → AreControl before
     → let cs = earlier ++ (before ++ (received ++ later)) in
     let b = length earlier + length before in
@@ -64,7 +63,7 @@ is_between (video bytes) = is_video_period bytes
 is_between (island x) = is_data_island x
 
 abbrev pub RowAnywhere : Type 0
-RowAnywhere = (p : Period) (sent received : List Column) → is_between p ≡ true → PeriodReceivedFreely p sent received → HeardAnywhere p sent received
+RowAnywhere = (p : Period) (sent received : List Column) → is_between p ≡ true → PeriodReceived p sent received → HeardAnywhere p sent received
 
 -- the columns of a period that stands at column j
 abbrev pub part_at : ℕ → Period → List Column → List Column

@@ -8,7 +8,7 @@ ghost use Rattle.link_laws.specs.Bytes.{DecodedIsByte};
 ghost use Rattle.link_laws.specs.Calm.{LanesAreCalm};
 ghost use Rattle.link_laws.specs.Exact.{CleanIsFront, FrontIsClean, CheckIsExact};
 ghost use Rattle.link_sink.specs.Sinks.{SomeReported, OneReported};
-ghost use Rattle.link_laws.specs.Freely.{FramingStandsFreely, PeriodsStandFreely, LinkLawFreely, ControlLawFreely, VideoLawFreely, IslandLawFreely, JoiningLawFreely, AccountLiteralFreely, EdgesEndFreely, FirstEndsFreely, FirstUntilFreely, TapAccountedFreely, PayloadAccountedFreely, CleanReceived};
+ghost use Rattle.link_laws.specs.Freely.{FreeReceived, CleanReceived};
 ghost use Rattle.link_laws.specs.Local.{VideoAnywhere, IslandAnywhere, IslandClosesAnywhere, RowAnywhere, StreamAnywhere, AlignedWhateverFollows, HasLocalExample};
 ghost use Rattle.link_laws.specs.Noticed.{Noticed, NoticedReported, FewOnLanes, OneIsAsSent, FewIsAsSent};
 ghost use Rattle.link_laws.specs.Growth.{ReportedGrows, WholeGrows, LinkIsGrammar};
@@ -164,33 +164,12 @@ pub fn lanes_are_calm()
     ensures { LanesAreCalm }
 {}
 
-/// The laws on the framing hold where bit 3 of lane 0 in packet columns is free in the columns that were sent.
-pub fn framed_freely()
-    ensures framing { FramingStandsFreely }
-    ensures periods { PeriodsStandFreely }
+/// Columns that a source spells are received as these laws ask, which leave bit 3 of lane 0 in packet columns free.
+pub fn free_received()
+    ensures { FreeReceived }
 {}
 
-/// So do those on what is reported.
-pub fn reported_freely()
-    ensures link { LinkLawFreely }
-    ensures control { ControlLawFreely }
-    ensures video { VideoLawFreely }
-    ensures island { IslandLawFreely }
-    ensures joining { JoiningLawFreely }
-    ensures literal { AccountLiteralFreely }
-{}
-
-/// And those on edges, first full alignments, and taps.
-pub fn aligned_freely()
-    ensures edges { EdgesEndFreely }
-    ensures first { FirstEndsFreely }
-    ensures until { FirstUntilFreely }
-    ensures tap { TapAccountedFreely }
-    ensures payload { PayloadAccountedFreely }
-{}
-
-/// Clean columns that end in a control period of twelve columns or more meet these with what was received for
-/// what was sent.
+/// So are clean columns that end in a control period of twelve columns or more, with what was received for what was sent.
 pub fn clean_received()
     ensures { CleanReceived }
 {}
