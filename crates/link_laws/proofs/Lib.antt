@@ -44,3 +44,5 @@ pub mod FewWrong
 pub mod LocalExample
 pub mod Noticed
 pub mod LocalStream
+pub mod LocalPackets
+pub mod PacketsBeside

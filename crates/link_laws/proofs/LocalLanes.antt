@@ -34,10 +34,10 @@ part_grows words from few many le =
     (drop few (take many bits), sym (take-append-drop few (take many bits)) ∙ ap (λ bs. bs ++ drop few (take many bits)) (take-take few many bits le))
 
 -- the first n columns with others after them
-abbrev spliced : ℕ → List Column → List Column → List Column
+abbrev pub spliced : ℕ → List Column → List Column → List Column
 spliced n received sent = take n received ++ drop n sent
 
-lane_front : (g : Column → ℕ) (received sent : List Column) (n from count : ℕ) → n ≤ length received → from + count ≤ 10 * n
+pub lane_front : (g : Column → ℕ) (received sent : List Column) (n from count : ℕ) → n ≤ length received → from + count ≤ 10 * n
     → part_of (map g received) from count ≡ part_of (map g (spliced n received sent)) from count
 lane_front g received sent n from count within le =
     let front = take n received in
@@ -49,14 +49,14 @@ lane_front g received sent n from count within le =
     ∙ sym (part_front (map g front) (map g (drop n sent)) from count (omega arith))
     ∙ ap (λ ws. part_of ws from count) (sym (map-append g front (drop n sent)))
 
-lane_grown : (g : Column → ℕ) (received sent : List Column) (n from few many : ℕ) (bits : List Bool) → n ≤ length received → from + few ≤ 10 * n → few ≤ many → bits ≡ part_of (map g received) from many
+pub lane_grown : (g : Column → ℕ) (received sent : List Column) (n from few many : ℕ) (bits : List Bool) → n ≤ length received → from + few ≤ 10 * n → few ≤ many → bits ≡ part_of (map g received) from many
     → HasGrown (part_of (map g (spliced n received sent)) from few) bits
 lane_grown g received sent n from few many bits within le more is =
     subst (λ bs. HasGrown bs bits) (lane_front g received sent n from few within le)
     (subst (HasGrown (part_of (map g received) from few)) (sym is) (part_grows (map g received) from few many more))
 
 -- a part of the spliced columns
-lane_part : (g : Column → ℕ) (received sent : List Column) (n from count : ℕ) → n ≤ length received → from + count ≤ 10 * n
+pub lane_part : (g : Column → ℕ) (received sent : List Column) (n from count : ℕ) → n ≤ length received → from + count ≤ 10 * n
     → IsPart (map g (spliced n received sent)) from count (part_of (map g (spliced n received sent)) from count)
 lane_part g received sent n from count within le =
     let l = length-map (spliced n received sent) g in

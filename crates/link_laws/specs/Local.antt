@@ -1,6 +1,6 @@
 -- Locality: whatever was received before and after it, a period that was received with few words damaged, after control
 -- columns and before one, is reported as its row.
-use Rattle.std.specs.Prelude.{◌≡◌, ℕ, ◌+◌, ◌-◌, ◌<◌, ◌≤◌, Bool, true, false, List, [], ◌∷◌, ◌++◌, length, map, take, drop}
+use Rattle.std.specs.Prelude.{◌≡◌, ℕ, ◌+◌, ◌-◌, ◌*◌, ◌<◌, ◌≤◌, Bool, true, false, List, [], ◌∷◌, ◌++◌, length, map, take, drop}
 use Rattle.tmds_word.specs.Column.{Column}
 use Rattle.tmds_word.specs.Taps.{IsTap, HasSmallSkew}
 use Rattle.terc4.specs.Columns.{is_control_column}
@@ -11,7 +11,8 @@ use Rattle.island_pack.specs.Conforming.{is_video_period, is_data_island, IsConf
 use Rattle.island_pack.specs.Spelling.{SpellsBy, freely}
 use Rattle.island_pack.specs.Sparse.{IsNarrow, column_at, unlike_at, IsSparse}
 use Rattle.period_grammar.specs.Events.{Event, event_of, all_at, reported_before}
-use Rattle.period_grammar.specs.Heard.{other_words, heard_so_far, heard}
+use Rattle.period_grammar.specs.Heard.{other_words, opened, island as opens_island, heard_so_far, heard}
+use Rattle.period_grammar.specs.Island.{begins_close, packet_events}
 use Rattle.link_laws.specs.Laws.{EndsControl, BeginColumn, AlignsUntil}
 use Rattle.link_laws.specs.Literal.{period_placed}
 use Rattle.link_laws.specs.PeriodLaws.{PeriodReceived, AreControl}
@@ -90,6 +91,24 @@ StreamAnywhere =
     let j = columns_of front in
     (more : List Event)
     × (heard cs ≡ map event_of (heard_so_far (take (j - a + 1) cs)) ++ (map event_of (period_placed (j - a) (twelve_before j received) p (part_at j p sent) (part_at j p received)) ++ more))
+
+-- Packet k of a data island that begins at column j, whatever else was received of its columns: a control column before the
+-- island, an opening pair, no control column up to the packet's end, and no packet up to it whose first two columns close the
+-- island.
+pub record PacketStands (received : List Column) (j k : ℕ) : Type 0 where
+  pub after : 1 ≤ j
+  pub control : is_control_column (column_at received (j - 1)) ≡ true
+  pub opens : opened (column_at received j) (column_at received (j + 1)) ≡ opens_island
+  pub going : (i : ℕ) → j ≤ i → i < j + 34 + 32 * k → is_control_column (column_at received i) ≡ false
+  pub unshut : (i : ℕ) → i ≤ k → begins_close (drop (j + 2 + 32 * i) received) ≡ false
+
+-- it is reported at its last column, after what is reported before its first one
+abbrev pub PacketInStream : Type 0
+PacketInStream =
+    (received : List Column) (j k a m : ℕ) → PacketStands received j k → a + 1 ≤ j → j + 34 + 32 * k ≤ a + m → a + m ≤ length received
+    → let cs = take m (drop a received) in
+    let place = j + 2 + 32 * k in
+    (more : List Event) × (heard cs ≡ map event_of (heard_so_far (take (place - a) cs)) ++ (packet_events (place - a) k (take 32 (drop place received)) ++ more))
 
 -- The alignment.
 

@@ -9,7 +9,7 @@ ghost use Rattle.link_laws.specs.Calm.{LanesAreCalm};
 ghost use Rattle.link_laws.specs.Exact.{CleanIsFront, FrontIsClean, CheckIsExact};
 ghost use Rattle.link_sink.specs.Sinks.{SomeReported, OneReported};
 ghost use Rattle.link_laws.specs.Freely.{FreeReceived, CleanReceived};
-ghost use Rattle.link_laws.specs.Local.{VideoAnywhere, IslandAnywhere, IslandClosesAnywhere, RowAnywhere, StreamAnywhere, AlignedWhateverFollows, HasLocalExample};
+ghost use Rattle.link_laws.specs.Local.{VideoAnywhere, IslandAnywhere, IslandClosesAnywhere, RowAnywhere, StreamAnywhere, PacketInStream, AlignedWhateverFollows, HasLocalExample};
 ghost use Rattle.link_laws.specs.Noticed.{Noticed, NoticedReported, FewOnLanes, OneIsAsSent, FewIsAsSent};
 ghost use Rattle.link_laws.specs.Growth.{ReportedGrows, WholeGrows, LinkIsGrammar};
 
@@ -200,13 +200,19 @@ pub fn stream_anywhere()
     ensures { StreamAnywhere }
 {}
 
+/// A packet of a data island is reported at its last column, whatever else was received of the island's columns, where a
+/// control column stands before the island and none in it up to the packet's end, and the island is opened and not closed.
+pub fn packet_in_stream()
+    ensures { PacketInStream }
+{}
+
 /// Where damage is sparse and spares control and guard words until a column that is the first after a control period, the
 /// first full alignment is the end of one control period at or before it, whatever is received after.
 pub fn aligned_whatever_follows()
     ensures { AlignedWhateverFollows }
 {}
 
-/// The premises of the last two are met together, with a column after the alignment of which no word was received as it was
+/// The premises of the last one and of the one on a stream are met together, with a column after the alignment of which no word was received as it was
 /// sent, and skews of 0, 70 and 35.
 pub fn has_local_example()
     ensures { HasLocalExample }
