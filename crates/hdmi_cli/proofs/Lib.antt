@@ -30,6 +30,7 @@ pub mod RelaySettles
 pub mod RelayExamples
 pub mod Local
 pub mod LocalPackets
+pub mod Beside
 pub mod OneOutcomeLists
 pub mod OneOutcomeMakes
 pub mod OneOutcomeCopies

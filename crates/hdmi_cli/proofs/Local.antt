@@ -22,14 +22,14 @@ use Rattle.hdmi_cli.specs.declared.ending.Ending.{Ending}
 use Rattle.hdmi_cli.proofs.Headline.{capture_listing, run_ended}
 
 -- the text of events begins with the lines of the first of them
-begins_with_lines : (listing : ListingOf) (after : List Event → List Event → List ℕ) (last : List Event → List ℕ) → IsText listing after last
+pub begins_with_lines : (listing : ListingOf) (after : List Event → List Event → List ℕ) (last : List Event → List ℕ) → IsText listing after last
     → (all first later : List Event) → all ≡ first ++ later → listing.text all ≡ listing.lines first ++ (after first later ++ last all)
 begins_with_lines listing after last text all first later is =
     text.whole all
     ∙ ap (λ ts. ts ++ last all) (ap listing.lines is ∙ text.both first later)
     ∙ append_assoc (listing.lines first) (after first later) (last all)
 
-rows_stand : (listing : ListingOf) (after : List Event → List Event → List ℕ) (last : List Event → List ℕ) → IsText listing after last
+pub rows_stand : (listing : ListingOf) (after : List Event → List Event → List ℕ) (last : List Event → List ℕ) → IsText listing after last
     → (t : TappedStream) (until a : ℕ) (aligned : List Column) → IsTappedUntil t until → aligned ≡ take (length aligned) (drop a t.received) → HasRows listing t a aligned
 rows_stand listing after last text t until a aligned tapped columns front p back is between alone late past =
     let j = columns_of front in

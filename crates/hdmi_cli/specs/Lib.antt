@@ -26,4 +26,5 @@ pub mod Exact
 pub mod RelaySettles
 pub mod RelayExamples
 pub mod Local
+pub mod Beside
 pub mod Theorem

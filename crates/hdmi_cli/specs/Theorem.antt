@@ -9,6 +9,7 @@ use Rattle.source_end.specs.Raster.{raster_of}
 use Rattle.source_end.specs.RasterRefusals.{raster_fault}
 use Rattle.hdmi_cli.specs.Headline.{TappedStream, IsTapped, AlignsBy, IsFirstOf, IsRecovered, IsRecoveredBy, Aligns, FromFirst, IsDviTapped, IsDviRecovered}
 use Rattle.hdmi_cli.specs.Local.{IsTappedUntil, IsHeardBy, ArePacketsBy}
+use Rattle.hdmi_cli.specs.Beside.{ArePacketsBesideBy}
 use Rattle.hdmi_cli.specs.TrackSlip.{LineSlip, IsSlippedTap, IsNoticed, IsTrackedAcross}
 use Rattle.hdmi_cli.specs.TrackPasses.{IsUnnoticed, IsTrackedAsOne}
 use Rattle.hdmi_cli.specs.RelayClauses.{IsCleanToEnd, IsPassedOn, IsRelayedAgain, IsSentWithin}
@@ -74,6 +75,11 @@ pub record Promises (words : List (List ℕ)) (status : ℕ) (before after : Dev
   pub packets_local : IsCommand words RecoverContent → (t : TappedStream) → (until : ℕ) → IsTappedUntil t until → AlignsBy t until
       → before.left ≡ Some t.bytes
       → Unless (λ status held holds. ArePacketsBy t until held holds) status before after
+  -- Whatever else is received of its island, a packet is reported: where a control column stands before the island and none in it
+  -- up to the packet's end, the island is opened, and no packet up to this one begins with two columns that close it.
+  pub packets_beside : IsCommand words RecoverContent → (t : TappedStream) → (until : ℕ) → IsTappedUntil t until → AlignsBy t until
+      → before.left ≡ Some t.bytes
+      → Unless (λ status held holds. ArePacketsBesideBy t until held holds) status before after
   -- `recover biphase` writes the stream of the samples of the packets that were received whole, each with at most one
   -- damaged word, or few and no fault, as it was sent.
   pub biphase_headline : (pair : ℕ) → IsCommand words (RecoverBiphase pair) → (t : TappedStream) → IsTapped t → Aligns t → before.left ≡ Some t.bytes

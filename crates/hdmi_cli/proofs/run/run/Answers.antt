@@ -6,6 +6,7 @@ use Rattle.hdmi_cli.specs.Listers.{after_link, last_link, link_is_text, after_co
 use Rattle.hdmi_cli.proofs.Ends.{says}
 use Rattle.hdmi_cli.proofs.Exact.{check_is_exact}
 use Rattle.hdmi_cli.proofs.Headline.{headlined, headlined_anywhere, dvi_headlined, recovered}
+use Rattle.hdmi_cli.proofs.Beside.{beside_locally}
 use Rattle.hdmi_cli.proofs.Local.{headlined_locally}
 use Rattle.hdmi_cli.proofs.LocalPackets.{packeted_locally}
 use Rattle.hdmi_cli.proofs.RelayAgain.{relay_again}
@@ -60,6 +61,7 @@ returns g c =
         content_local = headlined_locally content_listing after_content last_link content_is_text RecoverContent (λ bytes o does. does) words ending before after status ends known;
         check_local = headlined_locally check_listing after_check last_check check_is_text Check (λ bytes o does. does) words ending before after status ends known;
         packets_local = packeted_locally words ending before after status ends known;
+        packets_beside = beside_locally words ending before after status ends known;
         biphase_headline = sounded words ending before after status ends known;
         dvi_headline = dvi_headlined words ending before after status ends known;
         track_headline = recovered link_listing RecoverTrack tracks_as_link words ending before after status ends known;
