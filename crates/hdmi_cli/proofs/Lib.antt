@@ -31,6 +31,7 @@ pub mod RelayExamples
 pub mod Local
 pub mod LocalPackets
 pub mod Beside
+pub mod DviLocal
 pub mod OneOutcomeLists
 pub mod OneOutcomeMakes
 pub mod OneOutcomeCopies

@@ -27,4 +27,5 @@ pub mod RelaySettles
 pub mod RelayExamples
 pub mod Local
 pub mod Beside
+pub mod DviLocal
 pub mod Theorem

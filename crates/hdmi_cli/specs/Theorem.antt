@@ -10,6 +10,7 @@ use Rattle.source_end.specs.RasterRefusals.{raster_fault}
 use Rattle.hdmi_cli.specs.Headline.{TappedStream, IsTapped, AlignsBy, IsFirstOf, IsRecovered, IsRecoveredBy, Aligns, FromFirst, IsDviTapped, IsDviRecovered}
 use Rattle.hdmi_cli.specs.Local.{IsTappedUntil, IsHeardBy, ArePacketsBy}
 use Rattle.hdmi_cli.specs.Beside.{ArePacketsBesideBy}
+use Rattle.hdmi_cli.specs.DviLocal.{IsDviTappedUntil, DviAlignsBy, IsDviHeardBy}
 use Rattle.hdmi_cli.specs.TrackSlip.{LineSlip, IsSlippedTap, IsNoticed, IsTrackedAcross}
 use Rattle.hdmi_cli.specs.TrackPasses.{IsUnnoticed, IsTrackedAsOne}
 use Rattle.hdmi_cli.specs.RelayClauses.{IsCleanToEnd, IsPassedOn, IsRelayedAgain, IsSentWithin}
@@ -89,6 +90,12 @@ pub record Promises (words : List (List ℕ)) (status : ℕ) (before after : Dev
   pub dvi_headline : IsCommand words RecoverDvi → (t : TappedStream) → IsDviTapped t
       → (d e f : ℕ) → IsFirstOf t d e f → before.left ≡ Some t.bytes
       → Unless (λ status held holds. (a : ℕ) × IsDviRecovered t d e f a status held holds) status before after
+  -- Whatever is received after a column until which damage is so, where the lanes' bits up to there have a first full alignment:
+  -- each line that was received with at most one damaged word a column, after twelve control columns and before one, is reported as
+  -- its row, and has its lines in what `recover dvi` writes.
+  pub dvi_local : IsCommand words RecoverDvi → (t : TappedStream) → (until d e f : ℕ) → IsDviTappedUntil t until → DviAlignsBy t until d e f
+      → before.left ≡ Some t.bytes
+      → Unless (IsDviHeardBy t until d e f) status before after
   -- `recover track` writes the text of `recover link`: lanes that lost no bits have one epoch.
   pub track_headline : IsCommand words RecoverTrack → (t : TappedStream) → IsTapped t → Aligns t → before.left ≡ Some t.bytes
       → Unless (λ status held holds. FromFirst t (λ d e f a. IsRecovered link_listing t d e f a status held holds)) status before after

@@ -7,6 +7,7 @@ use Rattle.hdmi_cli.proofs.Ends.{says}
 use Rattle.hdmi_cli.proofs.Exact.{check_is_exact}
 use Rattle.hdmi_cli.proofs.Headline.{headlined, headlined_anywhere, dvi_headlined, recovered}
 use Rattle.hdmi_cli.proofs.Beside.{beside_locally}
+use Rattle.hdmi_cli.proofs.DviLocal.{dvi_headlined_locally}
 use Rattle.hdmi_cli.proofs.Local.{headlined_locally}
 use Rattle.hdmi_cli.proofs.LocalPackets.{packeted_locally}
 use Rattle.hdmi_cli.proofs.RelayAgain.{relay_again}
@@ -64,6 +65,7 @@ returns g c =
         packets_beside = beside_locally words ending before after status ends known;
         biphase_headline = sounded words ending before after status ends known;
         dvi_headline = dvi_headlined words ending before after status ends known;
+        dvi_local = dvi_headlined_locally words ending before after status ends known;
         track_headline = recovered link_listing RecoverTrack tracks_as_link words ending before after status ends known;
         track_slip = tracked_across words ending before after status ends known;
         track_slip_passes = tracked_as_one words ending before after status ends known;
