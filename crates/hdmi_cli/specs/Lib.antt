@@ -28,4 +28,5 @@ pub mod RelayExamples
 pub mod Local
 pub mod Beside
 pub mod DviLocal
+pub mod LocalPictures
 pub mod Theorem

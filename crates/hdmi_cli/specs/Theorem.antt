@@ -11,6 +11,7 @@ use Rattle.hdmi_cli.specs.Headline.{TappedStream, IsTapped, AlignsBy, IsFirstOf,
 use Rattle.hdmi_cli.specs.Local.{IsTappedUntil, IsHeardBy, ArePacketsBy}
 use Rattle.hdmi_cli.specs.Beside.{ArePacketsBesideBy}
 use Rattle.hdmi_cli.specs.DviLocal.{IsDviTappedUntil, DviAlignsBy, IsDviHeardBy}
+use Rattle.hdmi_cli.specs.LocalPictures.{ArePicturesBy}
 use Rattle.hdmi_cli.specs.TrackSlip.{LineSlip, IsSlippedTap, IsNoticed, IsTrackedAcross}
 use Rattle.hdmi_cli.specs.TrackPasses.{IsUnnoticed, IsTrackedAsOne}
 use Rattle.hdmi_cli.specs.RelayClauses.{IsCleanToEnd, IsPassedOn, IsRelayedAgain, IsSentWithin}
@@ -72,6 +73,11 @@ pub record Promises (words : List (List ℕ)) (status : ℕ) (before after : Dev
   pub check_local : IsCommand words Check → (t : TappedStream) → (until : ℕ) → IsTappedUntil t until → AlignsBy t until
       → before.left ≡ Some t.bytes
       → Unless (IsHeardBy check_listing t until) status before after
+  -- The pixels of each such line are listed, where a change of VSYNC was heard before it: after the rows and frames that are listed
+  -- of the columns before its second one, and each byte as it was sent where its word was received as sent.
+  pub pictures_local : IsCommand words RecoverContent → (t : TappedStream) → (until : ℕ) → IsTappedUntil t until → AlignsBy t until
+      → before.left ≡ Some t.bytes
+      → Unless (λ status held holds. ArePicturesBy t until held holds) status before after
   -- And the packets of each such island are reported, each with at most one damaged word, or few and no fault, as it was sent.
   pub packets_local : IsCommand words RecoverContent → (t : TappedStream) → (until : ℕ) → IsTappedUntil t until → AlignsBy t until
       → before.left ≡ Some t.bytes

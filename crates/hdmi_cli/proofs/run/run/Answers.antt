@@ -10,6 +10,7 @@ use Rattle.hdmi_cli.proofs.Beside.{beside_locally}
 use Rattle.hdmi_cli.proofs.DviLocal.{dvi_headlined_locally}
 use Rattle.hdmi_cli.proofs.Local.{headlined_locally}
 use Rattle.hdmi_cli.proofs.LocalPackets.{packeted_locally}
+use Rattle.hdmi_cli.proofs.LocalPictures.{pictured_locally}
 use Rattle.hdmi_cli.proofs.RelayAgain.{relay_again}
 use Rattle.hdmi_cli.proofs.RelayClean.{relay_passes}
 use Rattle.hdmi_cli.proofs.RelayHeadline.{relay_headlined}
@@ -61,6 +62,7 @@ returns g c =
         packets = packeted words ending before after status ends known;
         content_local = headlined_locally content_listing after_content last_link content_is_text RecoverContent (λ bytes o does. does) words ending before after status ends known;
         check_local = headlined_locally check_listing after_check last_check check_is_text Check (λ bytes o does. does) words ending before after status ends known;
+        pictures_local = pictured_locally words ending before after status ends known;
         packets_local = packeted_locally words ending before after status ends known;
         packets_beside = beside_locally words ending before after status ends known;
         biphase_headline = sounded words ending before after status ends known;
