@@ -32,6 +32,7 @@ pub mod Local
 pub mod LocalPackets
 pub mod Beside
 pub mod DviLocal
+pub mod RelayLocal
 pub mod LocalPictures
 pub mod OneOutcomeLists
 pub mod OneOutcomeMakes

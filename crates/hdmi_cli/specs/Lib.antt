@@ -28,5 +28,6 @@ pub mod RelayExamples
 pub mod Local
 pub mod Beside
 pub mod DviLocal
+pub mod RelayLocal
 pub mod LocalPictures
 pub mod Theorem

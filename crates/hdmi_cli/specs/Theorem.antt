@@ -15,6 +15,7 @@ use Rattle.hdmi_cli.specs.LocalPictures.{ArePicturesBy}
 use Rattle.hdmi_cli.specs.TrackSlip.{LineSlip, IsSlippedTap, IsNoticed, IsTrackedAcross}
 use Rattle.hdmi_cli.specs.TrackPasses.{IsUnnoticed, IsTrackedAsOne}
 use Rattle.hdmi_cli.specs.RelayClauses.{IsCleanToEnd, IsPassedOn, IsRelayedAgain, IsSentWithin}
+use Rattle.hdmi_cli.specs.RelayLocal.{IsRelayedBy}
 use Rattle.hdmi_cli.specs.RelaySettles.{IsWritten, IsWrittenButBit3}
 use Rattle.hdmi_cli.specs.Relays.{IsRelayed}
 use Rattle.period_grammar.specs.Events.{Event}
@@ -120,6 +121,12 @@ pub record Promises (words : List (List ℕ)) (status : ℕ) (before after : Dev
   -- writes nothing, where that has more than 20,000,000 columns.
   pub relay_headline : IsCommand words Relay → (t : TappedStream) → IsTapped t → Aligns t → before.left ≡ Some t.bytes
       → Unless (λ status held holds. FromFirst t (λ d e f a. IsSentWithin t d e f a status held holds)) status before after
+  -- Whatever is received after a column until which damage is so: each line and each island that was received with few words damaged,
+  -- after twelve control columns and before one, is sent on, its bytes and packets as they were sent or else as they were received,
+  -- after what is relayed of the columns before its second one, with its preamble.
+  pub relay_local : IsCommand words Relay → (t : TappedStream) → (until : ℕ) → IsTappedUntil t until → AlignsBy t until
+      → before.left ≡ Some t.bytes
+      → Unless (IsRelayedBy t until) status before after
   -- Where `check` says `clean` of a capture, and its aligned columns end in a control period of at least twelve, `relay`
   -- writes columns of the same conforming periods as the aligned ones, in which bit 3 of lane 0 in packet columns is free.
   pub relay_clean : IsCommand words Relay

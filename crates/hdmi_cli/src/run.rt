@@ -27,7 +27,7 @@ use crate::track::recover_track;
 use command_line::Command;
 use lane_team::Gate;
 use outside_io::{Sink, Source};
-use relay_laws::{relayed_account, relayed_again, whole_relayed};
+use relay_laws::{alone_relayed, relayed_account, relayed_again, whole_relayed};
 use std::alloc::Global;
 use std::thread::Threads;
 
@@ -110,6 +110,7 @@ pub fn run<R: Threads, S: Source, K: Sink, N: Sink, G: Gate>(
     ensures output_later { K.faults output.old ≤ K.faults output.new }
     ensures notes_later { N.faults notes.old ≤ N.faults notes.new }
 {
+    alone_relayed();
     relayed_account();
     relayed_again();
     whole_relayed();

@@ -14,6 +14,7 @@ use Rattle.hdmi_cli.proofs.LocalPictures.{pictured_locally}
 use Rattle.hdmi_cli.proofs.RelayAgain.{relay_again}
 use Rattle.hdmi_cli.proofs.RelayClean.{relay_passes}
 use Rattle.hdmi_cli.proofs.RelayHeadline.{relay_headlined}
+use Rattle.hdmi_cli.proofs.RelayLocal.{relayed_locally}
 use Rattle.hdmi_cli.proofs.RelaySettles.{relay_agrees, relay_settles}
 use Rattle.hdmi_cli.proofs.Taken.{run_refused, run_wants}
 use Rattle.hdmi_cli.proofs.TrackHeadline.{tracks_as_link}
@@ -72,6 +73,7 @@ returns g c =
         track_slip = tracked_across words ending before after status ends known;
         track_slip_passes = tracked_as_one words ending before after status ends known;
         relay_headline = relay_headlined c.relayed_account.ensures words ending before after status ends known;
+        relay_local = relayed_locally c.alone_relayed.ensures.line c.alone_relayed.ensures.island words ending before after status ends known;
         relay_clean = relay_passes c.whole_relayed.ensures words ending before after status ends known;
         relay_clean_columns = relay_agrees c.whole_relayed.ensures words ending before after status ends known;
         relay_again = relay_again c.relayed_again.ensures words ending before after status ends known;
