@@ -34,6 +34,7 @@ pub mod Beside
 pub mod DviLocal
 pub mod RelayLocal
 pub mod LocalPictures
+pub mod TrackLocal
 pub mod OneOutcomeLists
 pub mod OneOutcomeMakes
 pub mod OneOutcomeCopies

@@ -8,7 +8,7 @@ use Rattle.source_end.specs.Content.{Frame}
 use Rattle.source_end.specs.Raster.{raster_of}
 use Rattle.source_end.specs.RasterRefusals.{raster_fault}
 use Rattle.hdmi_cli.specs.Headline.{TappedStream, IsTapped, AlignsBy, IsFirstOf, IsRecovered, IsRecoveredBy, Aligns, FromFirst, IsDviTapped, IsDviRecovered}
-use Rattle.hdmi_cli.specs.Local.{IsTappedUntil, IsHeardBy, ArePacketsBy}
+use Rattle.hdmi_cli.specs.Local.{IsTappedUntil, IsHeardBy, HasNoStrays, ArePacketsBy}
 use Rattle.hdmi_cli.specs.Beside.{ArePacketsBesideBy}
 use Rattle.hdmi_cli.specs.DviLocal.{IsDviTappedUntil, DviAlignsBy, IsDviHeardBy}
 use Rattle.hdmi_cli.specs.LocalPictures.{ArePicturesBy}
@@ -106,6 +106,11 @@ pub record Promises (words : List (List ℕ)) (status : ℕ) (before after : Dev
   -- `recover track` writes the text of `recover link`: lanes that lost no bits have one epoch.
   pub track_headline : IsCommand words RecoverTrack → (t : TappedStream) → IsTapped t → Aligns t → before.left ≡ Some t.bytes
       → Unless (λ status held holds. FromFirst t (λ d e f a. IsRecovered link_listing t d e f a status held holds)) status before after
+  -- Whatever is received after a column until which damage is so: where no lane has a stray, it writes what `recover link` does, with the
+  -- row of each line and each island that stands alone.
+  pub track_local : IsCommand words RecoverTrack → (t : TappedStream) → (until : ℕ) → IsTappedUntil t until → AlignsBy t until → HasNoStrays t
+      → before.left ≡ Some t.bytes
+      → Unless (IsHeardBy link_listing t until) status before after
   -- Where a lane loses one to nine bits within the pixels of a line, once it was locked, there are two epochs: the second
   -- begins at the control period after the line, what is reported of it is the account from its first full alignment
   -- on, and what is reported in the first, of columns that end before the slip, is the account. The lines of both are

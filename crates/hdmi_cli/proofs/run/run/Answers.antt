@@ -18,6 +18,7 @@ use Rattle.hdmi_cli.proofs.RelayLocal.{relayed_locally}
 use Rattle.hdmi_cli.proofs.RelaySettles.{relay_agrees, relay_settles}
 use Rattle.hdmi_cli.proofs.Taken.{run_refused, run_wants}
 use Rattle.hdmi_cli.proofs.TrackHeadline.{tracks_as_link}
+use Rattle.hdmi_cli.proofs.TrackLocal.{tracked_locally}
 use Rattle.hdmi_cli.proofs.TrackSlip.{tracked_across}
 use Rattle.hdmi_cli.proofs.TrackPasses.{tracked_as_one}
 use Rattle.hdmi_cli.proofs.Pictures.{packeted, pictured}
@@ -70,6 +71,7 @@ returns g c =
         dvi_headline = dvi_headlined words ending before after status ends known;
         dvi_local = dvi_headlined_locally words ending before after status ends known;
         track_headline = recovered link_listing RecoverTrack tracks_as_link words ending before after status ends known;
+        track_local = tracked_locally words ending before after status ends known;
         track_slip = tracked_across words ending before after status ends known;
         track_slip_passes = tracked_as_one words ending before after status ends known;
         relay_headline = relay_headlined c.relayed_account.ensures words ending before after status ends known;
