@@ -46,3 +46,4 @@ pub mod Noticed
 pub mod LocalStream
 pub mod LocalPackets
 pub mod PacketsBeside
+pub mod PacketExample

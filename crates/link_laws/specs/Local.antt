@@ -146,6 +146,18 @@ pub record IsLocalExample (front : List Period) (p : Period) (back : List Period
   pub later : until ≤ columns_of front
   pub within : (a d e f : ℕ) → BeginColumn 7 (0 ∷ 70 ∷ 35 ∷ []) (a + 12) d e f → columns_of front + period_columns p < a + length (aligned_columns x y z d e f)
 
+-- a packet that stands, and is not the first of its island; a control column comes after it, so that the island is broken off
+pub record IsPacketExample (received : List Column) (j k a m : ℕ) : Type 0 where
+  pub stands : PacketStands received j k
+  pub second : 1 ≤ k
+  pub late : a + 1 ≤ j
+  pub within : j + 34 + 32 * k ≤ a + m
+  pub has : a + m ≤ length received
+  pub broken : is_control_column (column_at received (j + 34 + 32 * k)) ≡ true
+
+abbrev pub HasPacketExample : Type 0
+HasPacketExample = (received : List Column) × (j k a m : ℕ) × IsPacketExample received j k a m
+
 abbrev pub HasLocalExample : Type 0
 HasLocalExample =
     (front : List Period) × (p : Period) × (back : List Period) × (sent received : List Column) × (counts : List ℕ) × (until : ℕ) × (x y z : List Bool)

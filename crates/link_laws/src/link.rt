@@ -9,7 +9,7 @@ ghost use Rattle.link_laws.specs.Calm.{LanesAreCalm};
 ghost use Rattle.link_laws.specs.Exact.{CleanIsFront, FrontIsClean, CheckIsExact};
 ghost use Rattle.link_sink.specs.Sinks.{SomeReported, OneReported};
 ghost use Rattle.link_laws.specs.Freely.{FreeReceived, CleanReceived};
-ghost use Rattle.link_laws.specs.Local.{VideoAnywhere, IslandAnywhere, IslandClosesAnywhere, RowAnywhere, StreamAnywhere, PacketInStream, AlignedWhateverFollows, HasLocalExample};
+ghost use Rattle.link_laws.specs.Local.{VideoAnywhere, IslandAnywhere, IslandClosesAnywhere, RowAnywhere, StreamAnywhere, PacketInStream, AlignedWhateverFollows, HasLocalExample, HasPacketExample};
 ghost use Rattle.link_laws.specs.Noticed.{Noticed, NoticedReported, FewOnLanes, OneIsAsSent, FewIsAsSent};
 ghost use Rattle.link_laws.specs.Growth.{ReportedGrows, WholeGrows, LinkIsGrammar};
 
@@ -216,6 +216,11 @@ pub fn aligned_whatever_follows()
 /// sent, and skews of 0, 70 and 35.
 pub fn has_local_example()
     ensures { HasLocalExample }
+{}
+
+/// There is a packet that is reported so, and is not the first of its island, which is broken off after it.
+pub fn has_packet_example()
+    ensures { HasPacketExample }
 {}
 
 /// A packet with at most three damaged words on lane 0 and three on the others is reported with a fault, or as it was sent.
