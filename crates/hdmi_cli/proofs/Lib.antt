@@ -7,6 +7,7 @@ pub mod Headline
 pub mod Pictures
 pub mod Sounds
 pub mod Exact
+pub mod BlockReading
 pub mod Hearings
 pub mod Samples
 pub mod SampleRaster

@@ -4,6 +4,7 @@ pub mod Notes
 pub mod Blocks
 pub mod Listings
 pub mod Listers
+pub mod Reading
 pub mod Hearings
 pub mod Tracking
 pub mod TrackText
