@@ -18,6 +18,7 @@ use Rattle.island_pack.specs.Kinds.{Kind, control_column, first_guard, second_gu
 use Rattle.island_pack.specs.Periods.{ControlRun, Period, control, values_of, period_columns, columns_of}
 use Rattle.island_pack.specs.Sparse.{IsSparseInPayload}
 use Rattle.island_pack.specs.Spelling.{Spells}
+use Rattle.island_pack.specs.declared.ranges.TheConstants.{MOST_COLUMNS}
 use Rattle.source_end.proofs.Streams.{Spells-length}
 use Rattle.period_grammar.specs.Heard.{heard}
 use Rattle.link_laws.specs.Account.{account}
@@ -44,7 +45,7 @@ no_skews = 0 ∷ 0 ∷ 0 ∷ []
 pub own_tap : (columns : List Column) → IsTap columns 0 no_skews (tap_counts whole_tap columns) (blue_of columns) (green_of columns) (red_of columns)
 own_tap columns = tap_is_tap columns whole_tap (omega arith)
 
-pub own_captured : (columns : List Column) → length columns ≤ 20000000 → IsCaptureOf (blue_of columns) (green_of columns) (red_of columns) (tapped_capture columns whole_tap)
+pub own_captured : (columns : List Column) → length columns ≤ MOST_COLUMNS → IsCaptureOf (blue_of columns) (green_of columns) (red_of columns) (tapped_capture columns whole_tap)
 own_captured columns few = tap_is_captured columns whole_tap (omega arith) (omega (arith, few))
 
 small_skews : HasSmallSkew no_skews

@@ -11,6 +11,7 @@ use Rattle.island_pack.specs.Conforming.{IsConforming, conforms}
 use Rattle.island_pack.specs.Periods.{ControlRun, Period, control, video, island, values_of, period_columns, columns_of}
 use Rattle.island_pack.specs.Spelling.{control_column, SpellsBy, Spells, freely}
 use Rattle.island_pack.proofs.Runs.{values_longest}
+use Rattle.island_pack.specs.declared.ranges.TheConstants.{MOST_COLUMNS}
 use Rattle.period_grammar.specs.Exact.{IsFront, faultless}
 use Rattle.period_grammar.specs.Heard.{heard}
 use Rattle.period_grammar.specs.Events.{Event}
@@ -56,13 +57,13 @@ pub record IsHeardAgain (runs : List ControlRun) (ps : List Period) (columns : L
   pub events : List Event
   pub reported : heard (aligned_columns (blue_of columns) (green_of columns) (red_of columns) own.d own.e own.f) ≡ events
   pub back : relayed events ≡ cut_first own.a (control runs ∷ ps)
-  pub few : columns_of (relayed events) ≤ 20000000
+  pub few : columns_of (relayed events) ≤ MOST_COLUMNS
   pub front : IsFront (drop own.a columns)
   pub faultless_is : faultless events ≡ true
   pub captured : IsCaptureOf (blue_of columns) (green_of columns) (red_of columns) (tapped_capture columns whole_tap)
 
 pub heard_again : RelayedAgain → (events : List Event) (runs : List ControlRun) (q : Period) (ps : List Period) (columns : List Column)
-    → relayed events ≡ control runs ∷ (q ∷ ps) → columns_of (relayed events) ≤ 20000000 → Spells (relayed events) columns → IsHeardAgain runs (q ∷ ps) columns
+    → relayed events ≡ control runs ∷ (q ∷ ps) → columns_of (relayed events) ≤ MOST_COLUMNS → Spells (relayed events) columns → IsHeardAgain runs (q ∷ ps) columns
 heard_again law events runs q ps columns are few spelled =
     let all = control runs ∷ (q ∷ ps) in
     let good : IsConforming all = subst (λ (xs : List Period). IsConforming xs) are (relayed_conforms events) in
@@ -93,11 +94,11 @@ heard_again law events runs q ps columns are few spelled =
       few = omega (arith, back_many, cut_many, rest, many, size, few);
       front = front;
       faultless_is = subst (λ (ts : List Event). faultless ts ≡ true) same (front_is_clean (drop a columns) front);
-      captured = own_captured columns (subst (λ n. n ≤ 20000000) (size ∙ sym many) few);
+      captured = own_captured columns (subst (λ n. n ≤ MOST_COLUMNS) (size ∙ sym many) few);
     }
 
 pub comes_back : RelayedAgain → (events : List Event) (runs : List ControlRun) (q : Period) (ps : List Period) (columns : List Column) (o : RunOutcome) (status : ℕ) (old new : Option (List ℕ))
-    → relayed events ≡ control runs ∷ (q ∷ ps) → columns_of (relayed events) ≤ 20000000 → Spells (relayed events) columns → o.status ≡ status → Appends old new o.output
+    → relayed events ≡ control runs ∷ (q ∷ ps) → columns_of (relayed events) ≤ MOST_COLUMNS → Spells (relayed events) columns → o.status ≡ status → Appends old new o.output
     → Relays (tapped_capture columns whole_tap) o → ComesBack runs (q ∷ ps) status old new
 comes_back law events runs q ps columns o status old new are few spelled is written does =
     let again = heard_again law events runs q ps columns are few spelled in
@@ -114,7 +115,7 @@ comes_back law events runs q ps columns o status old new are few spelled is writ
 -- With none.
 
 pub stays_nowhere : (events : List Event) (runs : List ControlRun) (columns : List Column) (o : RunOutcome) (status : ℕ) (old new : Option (List ℕ))
-    → relayed events ≡ control runs ∷ [] → columns_of (relayed events) ≤ 20000000 → Spells (relayed events) columns → o.status ≡ status → Appends old new o.output
+    → relayed events ≡ control runs ∷ [] → columns_of (relayed events) ≤ MOST_COLUMNS → Spells (relayed events) columns → o.status ≡ status → Appends old new o.output
     → Relays (tapped_capture columns whole_tap) o → IsRelayedAgain (control runs ∷ []) status old new
 stays_nowhere events runs columns o status old new are few spelled is written does =
     let all = control runs ∷ [] in
@@ -129,7 +130,7 @@ stays_nowhere events runs columns o status old new are few spelled is written do
 -- Both.
 
 by_periods : RelayedAgain → (events : List Event) (ps : List Period) (columns : List Column) (o : RunOutcome) (status : ℕ) (old new : Option (List ℕ)) → IsConforming ps
-    → relayed events ≡ ps → columns_of (relayed events) ≤ 20000000 → Spells (relayed events) columns → o.status ≡ status → Appends old new o.output
+    → relayed events ≡ ps → columns_of (relayed events) ≤ MOST_COLUMNS → Spells (relayed events) columns → o.status ≡ status → Appends old new o.output
     → Relays (tapped_capture columns whole_tap) o → IsRelayedAgain ps status old new
 unfolding conforms
 by_periods law events [] columns o status old new good are few spelled is written does = absurd cc

@@ -12,6 +12,7 @@ use Rattle.island_pack.specs.Spelling.{Spells}
 use Rattle.island_pack.specs.declared.packet.Packet.{Packet}
 use Rattle.island_pack.specs.declared.packet.PacketVerdicts.{PacketVerdicts}
 use Rattle.island_pack.proofs.Spelled.{conforming_is_spelled}
+use Rattle.island_pack.specs.declared.ranges.TheConstants.{MOST_COLUMNS}
 use Rattle.lane_deskew.specs.Aligned.{aligned_columns}
 use Rattle.period_grammar.specs.Cut.{stretches}
 use Rattle.period_grammar.specs.Events.{Event, line, open_island, packet, close_island}
@@ -125,7 +126,7 @@ are_sent : relayed island_and_line ≡ control (announces ISLAND_PREAMBLE) ∷ (
 unfolding relayed conformed settled gathered nulled kept kept_from without_faults announcing longest is_data_island is_packet is_video_period
 are_sent = refl
 
-few_columns : columns_of (relayed island_and_line) ≤ 20000000
+few_columns : columns_of (relayed island_and_line) ≤ MOST_COLUMNS
 unfolding columns_of period_columns values_of
 few_columns = let e = ap columns_of are_sent in omega (arith, e)
 

@@ -3,6 +3,7 @@
 ghost use Rattle.std.specs.Prelude.{◌≡◌, ◌+◌, ◌*◌, ◌/◌, ◌≤◌, [], Bool, List, true, IfOk, OnErr};
 ghost use Rattle.outside_io.specs.Causes.{Rose};
 ghost use Rattle.island_pack.specs.Spelling.{Spells};
+ghost use Rattle.island_pack.specs.declared.ranges.TheConstants.{MOST_COLUMNS};
 ghost use Rattle.capture_file.specs.Captures.{IsCapture, IsCaptureOf};
 ghost use Rattle.capture_file.specs.Taps.{tap_count};
 ghost use Rattle.period_grammar.specs.Events.{Event};
@@ -129,7 +130,7 @@ fn captured(alloc: Global, frames: u32) -> Result<(MemSink, Vec<Hit>), NoMemory>
 fn sent(alloc: Global, frames: u32) -> Result<(Lanes, u32, Vec<Hit>), NoMemory>
     requires { frames ≤ 20 }
     ensures sent { IfOk result (λ sent. IsSampleSent frames sent.0.columns sent.2.items) }
-    ensures few { IfOk result (λ sent. sent.1 ≤ 20000000) }
+    ensures few { IfOk result (λ sent. sent.1 ≤ MOST_COLUMNS) }
 {
     let stream = stream_of(alloc, frames)?;
     let hits = hits_of(alloc, &stream, &tap())?;
@@ -196,7 +197,7 @@ fn tap() -> Tap
 
 /// How many bytes the capture of so many columns has.
 fn capture_size(columns: u32) -> usize
-    requires { columns ≤ 20000000 }
+    requires { columns ≤ MOST_COLUMNS }
     ensures { result ≡ 8 + 3 * ((tap_count sample_tap columns 0 + 7) / 8) }
 {
     let tap = tap();
