@@ -12,4 +12,4 @@ mod tests;
 
 pub use blocks::{BlockStatus, Blocks};
 pub use encoder::Encoder;
-pub use subframe::{Mark, Subframe, read_subframe, write_subframe};
+pub use subframe::{Mark, Subframe, read_subframe};

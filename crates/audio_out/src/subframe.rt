@@ -37,7 +37,7 @@ pub struct Subframe {
 
 /// Writes a subframe of a value of 24 bits and flags of three: 64 half cells, half cell h as bit h % 8
 /// of byte h / 8, after a half cell of level 0. The last one has level 0 again.
-pub fn write_subframe(sub: &Subframe) -> [u8; 8]
+pub(crate) fn write_subframe(sub: &Subframe) -> [u8; 8]
     requires { IsSound sub.now }
     ensures is { IsSubframe sub.now result }
     ensures bytes { result ≡ subframe_bytes sub.now }

@@ -1,4 +1,4 @@
--- The lines of frames (docs/FORMATS.md): of each the sample that it carries, and of the 192nd of a block the channel status.
+-- The lines of frames (docs/guide/FORMATS.md): of each the sample that it carries, and of the 192nd of a block the channel status.
 use Rattle.std.specs.Prelude.{ℕ, ◌+◌, Bool, List, [], ◌∷◌, ◌++◌, Option, Some, None, codes}
 use Rattle.hex.specs.Hex.{encode_lower}
 use Rattle.audio_packets.specs.declared.sample.Sample.{Sample}

@@ -7,3 +7,6 @@ pub mod Starting
 pub mod Lanes
 pub mod Tapped
 pub mod Example
+pub mod Local
+pub mod LocalStream
+pub mod LocalLanes

@@ -12,7 +12,7 @@ use Rattle.dvi_hearing.specs.DviHeard.{dvi_line, dvi_closing, dvi_gaps}
 use Rattle.dvi_laws.specs.DviAccount.{dvi_video_row, dvi_video_reported}
 use Rattle.dvi_laws.proofs.Walk.{IsGapBy}
 
-closes : (b n : ℕ) (ps : List Pixel) (ss rs : List Column) → 12 ≤ n → length ps ≤ 4096 → ArePixels ps ss rs → dvi_line b n rs ≡ dvi_video_row b ps ss rs
+pub closes : (b n : ℕ) (ps : List Pixel) (ss rs : List Column) → 12 ≤ n → length ps ≤ 4096 → ArePixels ps ss rs → dvi_line b n rs ≡ dvi_video_row b ps ss rs
 unfolding dvi_line dvi_video_row
 closes b n ps ss rs long few h =
     let m = length_received ps ss rs h in
@@ -21,7 +21,7 @@ closes b n ps ss rs long few h =
     ∙ ap (λ q. line (line_bytes rs) ∷ (codes_of b rs ++ if_not q (long_line b))) (le-leb (length rs) 4096 (omega arith))
     ∙ ap₂ (λ (x : List ℕ) (ts : List Event). line x ∷ ts) (bytes_are ps ss rs h) (append-nil (codes_of b rs))
 
-closing_is : (b : ℕ) (before rs : List Column) → 1 ≤ length rs → dvi_closing b before rs ≡ dvi_line b (length before) rs
+pub closing_is : (b : ℕ) (before rs : List Column) → 1 ≤ length rs → dvi_closing b before rs ≡ dvi_line b (length before) rs
 unfolding dvi_closing
 closing_is b before rs h = grind arith
 

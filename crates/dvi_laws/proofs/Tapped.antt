@@ -20,7 +20,7 @@ use Rattle.dvi_laws.proofs.Shape.{alternating}
 use Rattle.dvi_laws.proofs.Starting.{link_law}
 use Rattle.dvi_laws.proofs.Lanes.{first_is_end}
 
-first_of : (x y z p q r : List Bool) (d e f : ℕ) → x ≡ p → y ≡ q → z ≡ r → IsFirst x y z d e f → IsFirst p q r d e f
+pub first_of : (x y z p q r : List Bool) (d e f : ℕ) → x ≡ p → y ≡ q → z ≡ r → IsFirst x y z d e f → IsFirst p q r d e f
 first_of x y z p q r d e f ex ey ez h =
     subst (λ xs. IsFirst xs q r d e f) ex (subst (λ ys. IsFirst x ys r d e f) ey (subst (λ zs. IsFirst x y zs d e f) ez h))
 

@@ -1,2 +1,3 @@
 pub mod DviAccount
 pub mod DviLaws
+pub mod DviLocal

@@ -2,6 +2,7 @@
 #![tactic(auto)]
 
 ghost use Rattle.dvi_laws.specs.DviLaws.{DviLinkLaw, DviEdgesEnd, DviEndsApart, DviFirstEnds, DviTapAccounted, HasDviExample};
+ghost use Rattle.dvi_laws.specs.DviLocal.{DviLineAnywhere, DviStreamAnywhere, DviAlignedWhateverFollows};
 
 /// What is reported of the received columns, from twelve before the end of a control period on, is the account.
 pub fn dvi_link_law()
@@ -32,4 +33,21 @@ pub fn dvi_tap_accounted()
 /// premises and have a first full alignment.
 pub fn dvi_example()
     ensures { HasDviExample }
+{}
+
+/// Whatever was received before and after it, a line received with at most one damaged word a column, after twelve control
+/// columns and before one, is reported as its row.
+pub fn dvi_line_anywhere()
+    ensures { DviLineAnywhere }
+{}
+
+/// So is a line of a stream of which anything else may have been received.
+pub fn dvi_stream_anywhere()
+    ensures { DviStreamAnywhere }
+{}
+
+/// Where damage is sparse until a column, and the lanes' bits up to there have a first full alignment, that is the first one
+/// of the whole lanes, and the end of one control period, whatever is received after.
+pub fn dvi_aligned_whatever_follows()
+    ensures { DviAlignedWhateverFollows }
 {}

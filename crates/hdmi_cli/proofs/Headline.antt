@@ -9,6 +9,7 @@ use Rattle.lane_deskew.proofs.First.{one_first}
 use Rattle.island_pack.specs.Sparse.{IsSparseInPayload}
 use Rattle.period_grammar.specs.Events.{Event}
 use Rattle.link_sink.specs.Grammar.{Grammar, link_grammar}
+use Rattle.link_laws.proofs.Freely.{free_received}
 use Rattle.link_laws.specs.Account.{account}
 use Rattle.dvi_laws.specs.DviAccount.{dvi_account}
 use Rattle.dvi_hearing.specs.DviGrammar.{dvi_grammar}
@@ -124,7 +125,7 @@ run_ended P this words ending before after status (inr (inr (inr (unheld, kept, 
 -- it is at or before each column until which damage spares control, guard and preamble words
 at_or_before : (t : TappedStream) → IsTapped t → (d e f a : ℕ) → IsFirstOf t d e f → BeginColumn t.offset t.skews (a + 12) d e f → (until : ℕ) → AlignsBy t until → a + 12 ≤ until
 at_or_before t tapped d e f a first begins until aligns =
-    let law = tap_accounted t.periods t.sent t.received tapped.reception t.offset t.skews t.counts t.blue t.green t.red tapped.tap tapped.small until aligns in
+    let law = tap_accounted t.periods t.sent t.received (free_received t.periods t.sent t.received tapped.reception) t.offset t.skews t.counts t.blue t.green t.red tapped.tap tapped.small until aligns in
     let one = one_first t.blue t.green t.red d e f law.0 law.1 law.2 first law.3 in
     let same = one.0 in
     let here = begins.blue in
@@ -136,10 +137,10 @@ at_or_before t tapped d e f a first begins until aligns =
 pub first_accounted : (t : TappedStream) → IsTapped t → Aligns t
     → FromFirst t (λ d e f a. IsAccounted t.periods t.sent t.received (aligned_of t d e f) a × BeginColumn t.offset t.skews (a + 12) d e f)
 first_accounted t tapped (inl (alone, (d, e, f, first))) =
-    let law = payload_accounted t.periods t.sent t.received tapped.reception alone t.offset t.skews t.counts t.blue t.green t.red tapped.tap tapped.small d e f first in
+    let law = payload_accounted t.periods t.sent t.received (free_received t.periods t.sent t.received tapped.reception) alone t.offset t.skews t.counts t.blue t.green t.red tapped.tap tapped.small d e f first in
     (d, e, f, first, (law.0, at_or_before t tapped d e f law.0 first law.2, (law.1, law.2)))
 first_accounted t tapped (inr (until, aligns)) =
-    let law = tap_accounted t.periods t.sent t.received tapped.reception t.offset t.skews t.counts t.blue t.green t.red tapped.tap tapped.small until aligns in
+    let law = tap_accounted t.periods t.sent t.received (free_received t.periods t.sent t.received tapped.reception) t.offset t.skews t.counts t.blue t.green t.red tapped.tap tapped.small until aligns in
     (law.0, law.1, law.2, law.3, (law.4.0, at_or_before t tapped law.0 law.1 law.2 law.4.0 law.3 law.4.3, (law.4.2, law.4.3)))
 
 -- what holds of the first full alignment holds of any

@@ -24,10 +24,11 @@ use Rattle.hdmi_cli.specs.Notes.{capture_note, alignment_note}
 use Rattle.hdmi_cli.specs.Outcome.{status_with}
 use Rattle.hdmi_cli.specs.declared.ending.Ending.{Ending}
 use Rattle.hdmi_cli.specs.declared.ending.Ending.TheVariants.{Done, Faulty, Unaligned}
-use Rattle.hdmi_cli.specs.declared.hearing.HearError.{HearError}
-use Rattle.hdmi_cli.specs.declared.hearing.HearError.TheVariants.{Bad, Read, Ear}
+use Rattle.hdmi_cli.specs.declared.reading.HearError.{HearError}
+use Rattle.hdmi_cli.specs.declared.reading.HearError.TheVariants.{Bad, Read, Ear}
 use Rattle.hdmi_cli.specs.Listers.{IsText, Writes}
 use Rattle.hdmi_cli.specs.ListsCommands.{IsLists}
+use Rattle.hdmi_cli.proofs.BlockReading.{rose_after}
 use Rattle.hdmi_cli.proofs.Listings.{kept_none, broken_past, text_past, end_past, begins_reported}
 
 -- a capture was not heard to its end
@@ -161,10 +162,6 @@ no_faults n h = grind arith
 
 pub some_faults : (n m : ℕ) → suc m ≡ counted 0 n → status_with n ≡ 1
 some_faults n m h = grind arith
-
--- a count that rose after it had not fallen has risen
-pub rose_after : (a b c : ℕ) → a ≤ b → Rose b c → Rose a c
-rose_after a b c h k = grind arith
 
 all_answered : (g : Grammar) (listing : Listing) (after : List Event → List Event → List ℕ) (last : List Event → List ℕ) (command : Command) (e : Ending) (fed : Fed) (columns : ℕ) (events : List Event) (mid : Option (List ℕ)) (before now : Devices) (bytes : List ℕ)
     → IsLists g listing command → IsText listing after last → IsAlignedBy g fed.blue fed.green fed.red columns events → IsCaptureOf fed.blue fed.green fed.red bytes

@@ -7,6 +7,7 @@ pub mod Headline
 pub mod Pictures
 pub mod Sounds
 pub mod Exact
+pub mod BlockReading
 pub mod Hearings
 pub mod Samples
 pub mod SampleRaster
@@ -30,6 +31,11 @@ pub mod RelaySettles
 pub mod RelayExamples
 pub mod Local
 pub mod LocalPackets
+pub mod Beside
+pub mod DviLocal
+pub mod RelayLocal
+pub mod LocalPictures
+pub mod TrackLocal
 pub mod OneOutcomeLists
 pub mod OneOutcomeMakes
 pub mod OneOutcomeCopies

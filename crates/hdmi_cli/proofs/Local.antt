@@ -22,14 +22,14 @@ use Rattle.hdmi_cli.specs.declared.ending.Ending.{Ending}
 use Rattle.hdmi_cli.proofs.Headline.{capture_listing, run_ended}
 
 -- the text of events begins with the lines of the first of them
-begins_with_lines : (listing : ListingOf) (after : List Event → List Event → List ℕ) (last : List Event → List ℕ) → IsText listing after last
+pub begins_with_lines : (listing : ListingOf) (after : List Event → List Event → List ℕ) (last : List Event → List ℕ) → IsText listing after last
     → (all first later : List Event) → all ≡ first ++ later → listing.text all ≡ listing.lines first ++ (after first later ++ last all)
 begins_with_lines listing after last text all first later is =
     text.whole all
     ∙ ap (λ ts. ts ++ last all) (ap listing.lines is ∙ text.both first later)
     ∙ append_assoc (listing.lines first) (after first later) (last all)
 
-rows_stand : (listing : ListingOf) (after : List Event → List Event → List ℕ) (last : List Event → List ℕ) → IsText listing after last
+pub rows_stand : (listing : ListingOf) (after : List Event → List Event → List ℕ) (last : List Event → List ℕ) → IsText listing after last
     → (t : TappedStream) (until a : ℕ) (aligned : List Column) → IsTappedUntil t until → aligned ≡ take (length aligned) (drop a t.received) → HasRows listing t a aligned
 rows_stand listing after last text t until a aligned tapped columns front p back is between alone late past =
     let j = columns_of front in
@@ -50,19 +50,19 @@ rows_stand listing after last text t until a aligned tapped columns front p back
       listed = begins_with_lines listing after last text (heard aligned) (us ++ row) law.0 (reported ∙ sym (append_assoc us row law.0));
     }
 
--- damage that spares control and guard words until a column, and anything after it
-pub headlined_locally : (listing : ListingOf) (after : List Event → List Event → List ℕ) (last : List Event → List ℕ) → IsText listing after last
-    → (this : Command) → ((bytes : List ℕ) (o : RunOutcome) → Does this bytes o → ListsCapture link_grammar listing bytes o)
+-- damage that spares control and guard words until a column, and anything after it: of a capture that a command lists so
+pub headlined_here : (listing : ListingOf) (after : List Event → List Event → List ℕ) (last : List Event → List ℕ) → IsText listing after last
+    → (this : Command) (t : TappedStream) → ((o : RunOutcome) → Does this t.bytes o → ListsCapture link_grammar listing t.bytes o)
     → (words : List (List ℕ)) (ending : Ending) (before after : Devices) (status : ℕ) → RunEnds words ending before after → status ≡ status_of ending → IsCommand words this
-    → (t : TappedStream) (until : ℕ) → IsTappedUntil t until → AlignsBy t until → before.left ≡ Some t.bytes → Unless (IsHeardBy listing t until) status before after
-headlined_locally listing grown last text this lists words ending before after status ends is named t until tapped aligns left =
+    → (until : ℕ) → IsTappedUntil t until → AlignsBy t until → before.left ≡ Some t.bytes → Unless (IsHeardBy listing t until) status before after
+headlined_here listing grown last text this t lists words ending before after status ends is named until tapped aligns left =
     let law = aligned_whatever_follows t.periods t.sent t.received until tapped.reception t.offset t.skews t.counts t.blue t.green t.red tapped.tap tapped.small aligns in
     let place = law.4 in
     let cs = aligned_of t law.0 law.1 law.2 in
     run_ended (IsHeardBy listing t until) this words ending before after status ends is named
     (λ answers.
     let answer = answers t.bytes left in
-    let listed = capture_listing link_grammar listing (heard cs) t.blue t.green t.red law.0 law.1 law.2 t.bytes answer.outcome tapped.captured law.3 refl (lists t.bytes answer.outcome answer.does) in (
+    let listed = capture_listing link_grammar listing (heard cs) t.blue t.green t.red law.0 law.1 law.2 t.bytes answer.outcome tapped.captured law.3 refl (lists answer.outcome answer.does) in (
       law.0,
       law.1,
       law.2,
@@ -80,3 +80,11 @@ headlined_locally listing grown last text this lists words ending before after s
         },
       ),
     ))
+
+-- of each capture that a command lists so
+pub headlined_locally : (listing : ListingOf) (after : List Event → List Event → List ℕ) (last : List Event → List ℕ) → IsText listing after last
+    → (this : Command) → ((bytes : List ℕ) (o : RunOutcome) → Does this bytes o → ListsCapture link_grammar listing bytes o)
+    → (words : List (List ℕ)) (ending : Ending) (before after : Devices) (status : ℕ) → RunEnds words ending before after → status ≡ status_of ending → IsCommand words this
+    → (t : TappedStream) (until : ℕ) → IsTappedUntil t until → AlignsBy t until → before.left ≡ Some t.bytes → Unless (IsHeardBy listing t until) status before after
+headlined_locally listing grown last text this lists words ending before after status ends is named t until tapped aligns left =
+    headlined_here listing grown last text this t (lists t.bytes) words ending before after status ends is named until tapped aligns left

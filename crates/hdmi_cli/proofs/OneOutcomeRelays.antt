@@ -5,6 +5,7 @@ use Rattle.std.proofs.lemmas.Bool.{cases_lt}
 use Rattle.std.proofs.lemmas.List.{take-append-drop, take-append-le}
 use Rattle.tmds_word.specs.Column.{Column}
 use Rattle.island_pack.specs.Periods.{columns_of}
+use Rattle.island_pack.specs.declared.ranges.TheConstants.{COLUMN_LIMIT}
 use Rattle.capture_file.specs.Captures.{IsCaptureOf, place_of}
 use Rattle.capture_file.specs.Taps.{tapped_capture}
 use Rattle.capture_file.specs.declared.fault.CaptureFault.{CaptureFault}
@@ -102,7 +103,7 @@ passes_before bytes fault p r = elim (p.reported) [
 within_limit : (x y z : List Bool) (columns : ℕ) (events : List Event) (output bytes : List ℕ) → IsCaptureOf x y z bytes → IsAlignedReported x y z columns events → IsRelayed events output → PassesLimit bytes → ⊥
 within_limit x y z columns events output bytes captured aligned is p =
     let passes = passes_whole x y z aligned.blue aligned.green aligned.red bytes captured aligned.first p in
-    let few = subst (λ (es : List Event). columns_of (relayed es) ≤ 20000000) aligned.reported is.few in
+    let few = subst (λ (es : List Event). columns_of (relayed es) ≤ COLUMN_LIMIT) aligned.reported is.few in
     omega (arith, passes, few)
 
 -- ---- the outcome

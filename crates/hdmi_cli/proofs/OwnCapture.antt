@@ -18,8 +18,10 @@ use Rattle.island_pack.specs.Kinds.{Kind, control_column, first_guard, second_gu
 use Rattle.island_pack.specs.Periods.{ControlRun, Period, control, values_of, period_columns, columns_of}
 use Rattle.island_pack.specs.Sparse.{IsSparseInPayload}
 use Rattle.island_pack.specs.Spelling.{Spells}
+use Rattle.island_pack.specs.declared.ranges.TheConstants.{COLUMN_LIMIT}
 use Rattle.source_end.proofs.Streams.{Spells-length}
 use Rattle.period_grammar.specs.Heard.{heard}
+use Rattle.link_laws.proofs.Freely.{free_received}
 use Rattle.link_laws.specs.Account.{account}
 use Rattle.link_laws.specs.Laws.{ReceivedOf, AlignsUntil}
 use Rattle.link_laws.proofs.Ends.{edges_end}
@@ -44,7 +46,7 @@ no_skews = 0 ∷ 0 ∷ 0 ∷ []
 pub own_tap : (columns : List Column) → IsTap columns 0 no_skews (tap_counts whole_tap columns) (blue_of columns) (green_of columns) (red_of columns)
 own_tap columns = tap_is_tap columns whole_tap (omega arith)
 
-pub own_captured : (columns : List Column) → length columns ≤ 20000000 → IsCaptureOf (blue_of columns) (green_of columns) (red_of columns) (tapped_capture columns whole_tap)
+pub own_captured : (columns : List Column) → length columns ≤ COLUMN_LIMIT → IsCaptureOf (blue_of columns) (green_of columns) (red_of columns) (tapped_capture columns whole_tap)
 own_captured columns few = tap_is_captured columns whole_tap (omega arith) (omega (arith, few))
 
 small_skews : HasSmallSkew no_skews
@@ -141,7 +143,7 @@ own_aligned runs q ps columns good spelled more =
     let y = green_of columns in
     let z = red_of columns in
     let reception = own_received all columns good spelled in
-    let found = tap_accounted all columns columns reception 0 no_skews (tap_counts whole_tap columns) x y z (own_tap columns) small_skews n (own_aligns runs q ps columns good more) in
+    let found = tap_accounted all columns columns (free_received all columns columns reception) 0 no_skews (tap_counts whole_tap columns) x y z (own_tap columns) small_skews n (own_aligns runs q ps columns good more) in
     let d = found.0 in
     let e = found.1 in
     let f = found.2 in
@@ -175,7 +177,7 @@ own_nowhere runs columns good spelled d e f triple =
     let all = control runs ∷ [] in
     let reception = own_received all columns good spelled in
     let m = 10 * length columns - 0 - 0 in
-    let end = (edges_end all columns columns reception (own_payload all columns reception)).0.edges 0 m d triple.blue in
+    let end = (edges_end all columns columns (free_received all columns columns reception) (own_payload all columns reception)).0.edges 0 m d triple.blue in
     let n = length (values_of runs) in
     let there = alone_end n end.0 (kinds_of all) (alone_kinds runs) end.1.here end.1.then in
     let within = edge_within (blue_of columns) d triple.blue in

@@ -11,6 +11,7 @@ use Rattle.island_pack.specs.Conforming.{IsConforming, conforms}
 use Rattle.island_pack.specs.Periods.{ControlRun, Period, control, video, island, values_of, period_columns, columns_of}
 use Rattle.island_pack.specs.Spelling.{control_column, SpellsBy, Spells, freely}
 use Rattle.island_pack.proofs.Runs.{values_longest}
+use Rattle.island_pack.specs.declared.ranges.TheConstants.{COLUMN_LIMIT}
 use Rattle.period_grammar.specs.Exact.{IsFront, faultless}
 use Rattle.period_grammar.specs.Heard.{heard}
 use Rattle.period_grammar.specs.Events.{Event}
@@ -19,7 +20,8 @@ use Rattle.link_laws.proofs.exact.Arrivals.{front_is_clean}
 use Rattle.relay_laws.specs.Own.{RelayedAgain, cut_first}
 use Rattle.relay.specs.Relayed.{relayed}
 use Rattle.relay.proofs.Conforming.{relayed_conforms}
-use Rattle.relay_laws.proofs.Own.{freely_spelled, spelled_long}
+use Rattle.link_laws.proofs.Freely.{free_spelled}
+use Rattle.relay_laws.proofs.Own.{spelled_long}
 use Rattle.command_line.specs.Commands.{IsCommand}
 use Rattle.command_line.specs.declared.command.Command.TheVariants.{Relay}
 use Rattle.hdmi_cli.specs.Endings.{Devices, RunEnds, Unless, status_of}
@@ -56,18 +58,18 @@ pub record IsHeardAgain (runs : List ControlRun) (ps : List Period) (columns : L
   pub events : List Event
   pub reported : heard (aligned_columns (blue_of columns) (green_of columns) (red_of columns) own.blue own.green own.red) ≡ events
   pub back : relayed events ≡ cut_first own.a (control runs ∷ ps)
-  pub few : columns_of (relayed events) ≤ 20000000
+  pub few : columns_of (relayed events) ≤ COLUMN_LIMIT
   pub front : IsFront (drop own.a columns)
   pub faultless_is : faultless events ≡ true
   pub captured : IsCaptureOf (blue_of columns) (green_of columns) (red_of columns) (tapped_capture columns whole_tap)
 
 pub heard_again : RelayedAgain → (events : List Event) (runs : List ControlRun) (q : Period) (ps : List Period) (columns : List Column)
-    → relayed events ≡ control runs ∷ (q ∷ ps) → columns_of (relayed events) ≤ 20000000 → Spells (relayed events) columns → IsHeardAgain runs (q ∷ ps) columns
+    → relayed events ≡ control runs ∷ (q ∷ ps) → columns_of (relayed events) ≤ COLUMN_LIMIT → Spells (relayed events) columns → IsHeardAgain runs (q ∷ ps) columns
 heard_again law events runs q ps columns are few spelled =
     let all = control runs ∷ (q ∷ ps) in
     let good : IsConforming all = subst (λ (xs : List Period). IsConforming xs) are (relayed_conforms events) in
     let own_spelled : Spells all columns = subst (λ (xs : List Period). Spells xs columns) are spelled in
-    let free = freely_spelled all columns own_spelled in
+    let free = free_spelled all columns own_spelled in
     let many = spelled_long all columns free in
     let size = ap columns_of are in
     let more = columns_more runs q ps good in
@@ -93,11 +95,11 @@ heard_again law events runs q ps columns are few spelled =
       few = omega (arith, back_many, cut_many, rest, many, size, few);
       front = front;
       faultless_is = subst (λ (ts : List Event). faultless ts ≡ true) same (front_is_clean (drop a columns) front);
-      captured = own_captured columns (subst (λ n. n ≤ 20000000) (size ∙ sym many) few);
+      captured = own_captured columns (subst (λ n. n ≤ COLUMN_LIMIT) (size ∙ sym many) few);
     }
 
 pub comes_back : RelayedAgain → (events : List Event) (runs : List ControlRun) (q : Period) (ps : List Period) (columns : List Column) (o : RunOutcome) (status : ℕ) (old new : Option (List ℕ))
-    → relayed events ≡ control runs ∷ (q ∷ ps) → columns_of (relayed events) ≤ 20000000 → Spells (relayed events) columns → o.status ≡ status → Appends old new o.output
+    → relayed events ≡ control runs ∷ (q ∷ ps) → columns_of (relayed events) ≤ COLUMN_LIMIT → Spells (relayed events) columns → o.status ≡ status → Appends old new o.output
     → Relays (tapped_capture columns whole_tap) o → ComesBack runs (q ∷ ps) status old new
 comes_back law events runs q ps columns o status old new are few spelled is written does =
     let again = heard_again law events runs q ps columns are few spelled in
@@ -114,13 +116,13 @@ comes_back law events runs q ps columns o status old new are few spelled is writ
 -- With none.
 
 pub stays_nowhere : (events : List Event) (runs : List ControlRun) (columns : List Column) (o : RunOutcome) (status : ℕ) (old new : Option (List ℕ))
-    → relayed events ≡ control runs ∷ [] → columns_of (relayed events) ≤ 20000000 → Spells (relayed events) columns → o.status ≡ status → Appends old new o.output
+    → relayed events ≡ control runs ∷ [] → columns_of (relayed events) ≤ COLUMN_LIMIT → Spells (relayed events) columns → o.status ≡ status → Appends old new o.output
     → Relays (tapped_capture columns whole_tap) o → IsRelayedAgain (control runs ∷ []) status old new
 stays_nowhere events runs columns o status old new are few spelled is written does =
     let all = control runs ∷ [] in
     let good : IsConforming all = subst (λ (xs : List Period). IsConforming xs) are (relayed_conforms events) in
     let own_spelled : Spells all columns = subst (λ (xs : List Period). Spells xs columns) are spelled in
-    let many = spelled_long all columns (freely_spelled all columns own_spelled) in
+    let many = spelled_long all columns (free_spelled all columns own_spelled) in
     let size = ap columns_of are in
     let captured = own_captured columns (omega (arith, many, size, few)) in
     let made = nowhere_relay (blue_of columns) (green_of columns) (red_of columns) (tapped_capture columns whole_tap) o captured (own_nowhere runs columns good own_spelled) does in
@@ -129,7 +131,7 @@ stays_nowhere events runs columns o status old new are few spelled is written do
 -- Both.
 
 by_periods : RelayedAgain → (events : List Event) (ps : List Period) (columns : List Column) (o : RunOutcome) (status : ℕ) (old new : Option (List ℕ)) → IsConforming ps
-    → relayed events ≡ ps → columns_of (relayed events) ≤ 20000000 → Spells (relayed events) columns → o.status ≡ status → Appends old new o.output
+    → relayed events ≡ ps → columns_of (relayed events) ≤ COLUMN_LIMIT → Spells (relayed events) columns → o.status ≡ status → Appends old new o.output
     → Relays (tapped_capture columns whole_tap) o → IsRelayedAgain ps status old new
 unfolding conforms
 by_periods law events [] columns o status old new good are few spelled is written does = absurd cc

@@ -12,6 +12,7 @@ use Rattle.island_pack.specs.Spelling.{Spells}
 use Rattle.island_pack.specs.declared.packet.Packet.{Packet}
 use Rattle.island_pack.specs.declared.packet.PacketVerdicts.{PacketVerdicts}
 use Rattle.island_pack.proofs.Spelled.{conforming_is_spelled}
+use Rattle.island_pack.specs.declared.ranges.TheConstants.{COLUMN_LIMIT}
 use Rattle.lane_deskew.specs.Aligned.{aligned_columns}
 use Rattle.period_grammar.specs.Cut.{stretches}
 use Rattle.period_grammar.specs.Events.{Event, line, open_island, packet, close_island}
@@ -23,7 +24,7 @@ use Rattle.track_laws.proofs.SlipStream.{stream, sent, reception}
 use Rattle.relay.specs.Relayed.{without_faults, kept_from, kept, nulled, gathered, announcing, settled, conformed, relayed}
 use Rattle.relay.proofs.Conforming.{relayed_conforms}
 use Rattle.relay_laws.specs.Own.{RelayedAgain, cut_first}
-use Rattle.relay_laws.proofs.Own.{freely_spelled}
+use Rattle.link_laws.proofs.Freely.{free_spelled}
 use Rattle.hdmi_cli.specs.Outcome.{RunOutcome}
 use Rattle.hdmi_cli.specs.RelayClauses.{IsCleanToEnd}
 use Rattle.hdmi_cli.specs.RelayExamples.{HasCleanCapture, HasRelayedTwice}
@@ -72,7 +73,7 @@ clean_end : IsCleanToEnd (drop 12 sent)
 clean_end =
     let spelled : Spells (control first_runs ∷ from_long) sent = subst (λ (ps : List Period). Spells ps sent) starts reception.spelled in
     let n = first_long in
-    let cut = cut_spelled 12 first_runs from_long sent (omega (arith, n)) (freely_spelled (control first_runs ∷ from_long) sent spelled) in
+    let cut = cut_spelled 12 first_runs from_long sent (omega (arith, n)) (free_spelled (control first_runs ∷ from_long) sent spelled) in
     let front : IsFront (drop 12 sent) = record { periods = _; spelled = drop 12 sent; conforming = cut_conforms; spells = cut; rest = []; front = sym (append-nil (drop 12 sent)) } in
     record { clean = (check_is_exact (drop 12 sent)).0 (front_is_clean (drop 12 sent) front); ends = ends_in_control }
 
@@ -125,7 +126,7 @@ are_sent : relayed island_and_line ≡ control (announces ISLAND_PREAMBLE) ∷ (
 unfolding relayed conformed settled gathered nulled kept kept_from without_faults announcing longest is_data_island is_packet is_video_period
 are_sent = refl
 
-few_columns : columns_of (relayed island_and_line) ≤ 20000000
+few_columns : columns_of (relayed island_and_line) ≤ COLUMN_LIMIT
 unfolding columns_of period_columns values_of
 few_columns = let e = ap columns_of are_sent in omega (arith, e)
 

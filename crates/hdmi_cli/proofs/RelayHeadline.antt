@@ -13,6 +13,7 @@ use Rattle.lane_deskew.specs.Triples.{IsFirst, IsTriple}
 use Rattle.lane_deskew.specs.Aligned.{aligned_columns}
 use Rattle.island_pack.specs.Periods.{columns_of}
 use Rattle.island_pack.specs.Spelling.{Spells}
+use Rattle.island_pack.specs.declared.ranges.TheConstants.{COLUMN_LIMIT}
 use Rattle.source_end.proofs.Streams.{Spells-length}
 use Rattle.period_grammar.specs.Exact.{faultless}
 use Rattle.period_grammar.specs.Heard.{heard}
@@ -35,7 +36,7 @@ use Rattle.hdmi_cli.proofs.RelayLimit.{passes_nowhere, passes_whole, same_report
 
 -- an outcome is the capture of what is relayed of some things, which is within the limit
 pub record IsRelayOf (all : List Event) (o : RunOutcome) : Type 0 where
-  pub few : columns_of (relayed all) ≤ 20000000
+  pub few : columns_of (relayed all) ≤ COLUMN_LIMIT
   pub columns : List Column
   pub spelled : Spells (relayed all) columns
   pub status : o.status ≡ relay_status (faultless all)
@@ -43,7 +44,7 @@ pub record IsRelayOf (all : List Event) (o : RunOutcome) : Type 0 where
 
 -- or what is relayed of them is past the limit
 pub record IsLongOf (all : List Event) (o : RunOutcome) : Type 0 where
-  pub passes : 20000000 < columns_of (relayed all)
+  pub passes : COLUMN_LIMIT < columns_of (relayed all)
   pub status : o.status ≡ 3
   pub output : o.output ≡ []
 
@@ -66,7 +67,7 @@ capture_relay all blue green red d e f bytes o captured first whole (inl (x, y, 
 capture_relay all blue green red d e f bytes o captured first whole (inr (inl (x, y, z, columns, events, is, nowhere, same))) =
     absurd ((same_nowhere blue green red x y z columns events (one_capture blue green red x y z bytes captured is) nowhere).nowhere d e f first.triple)
 capture_relay all blue green red d e f bytes o captured first whole (inr (inr (inl (passes, same)))) = inl (record {
-  passes = subst (λ (ts : List Event). 20000000 < columns_of (relayed ts)) whole (passes_whole blue green red d e f bytes captured first passes);
+  passes = subst (λ (ts : List Event). COLUMN_LIMIT < columns_of (relayed ts)) whole (passes_whole blue green red d e f bytes captured first passes);
   status = ap (λ (p : RunOutcome). p.status) same;
   output = ap (λ (p : RunOutcome). p.output) same;
 })

@@ -4,6 +4,7 @@ use Rattle.capture_file.specs.Captures.{IsCaptureOf}
 use Rattle.capture_file.specs.Laws.{AreSame}
 use Rattle.capture_file.proofs.OneCapture.{one_capture}
 use Rattle.island_pack.specs.Periods.{columns_of}
+use Rattle.island_pack.specs.declared.ranges.TheConstants.{COLUMN_LIMIT}
 use Rattle.lane_deskew.specs.Aligned.{aligned_columns}
 use Rattle.lane_deskew.specs.Triples.{IsFirst, IsTriple}
 use Rattle.lane_deskew.proofs.Fed.{first_stays}
@@ -35,12 +36,12 @@ pub same_reported : (x y z u v w : List Bool) (columns : ℕ) (events : List Eve
 same_reported x y z u v w columns events same h =
     subst (λ a. IsAlignedReported a y z columns events) (sym same.blue) (subst (λ b. IsAlignedReported u b z columns events) (sym same.green) (subst (λ c. IsAlignedReported u v c columns events) (sym same.red) h))
 
-pub more_passes : (events all : List Event) → Begins events all → 20000000 < columns_of (relayed events) → 20000000 < columns_of (relayed all)
+pub more_passes : (events all : List Event) → Begins events all → COLUMN_LIMIT < columns_of (relayed events) → COLUMN_LIMIT < columns_of (relayed all)
 more_passes events all b passes = grind (arith, columns_grow)
 
 -- what is reported of the aligned columns, all of them, is relayed past the limit
 pub passes_whole : (x y z : List Bool) (d e f : ℕ) (bytes : List ℕ) → IsCaptureOf x y z bytes → IsFirst x y z d e f → PassesLimit bytes
-    → 20000000 < columns_of (relayed (heard (aligned_columns x y z d e f)))
+    → COLUMN_LIMIT < columns_of (relayed (heard (aligned_columns x y z d e f)))
 passes_whole x y z d e f bytes captured first p = elim (p.reported) [
   | inl (taken, rest, counts, j, split, has, reported) ↦
       let begin = blocks_begin x y z p.fed.blue p.fed.green p.fed.red bytes taken rest counts j _ captured split has in
@@ -50,10 +51,10 @@ passes_whole x y z d e f bytes captured first p = elim (p.reported) [
   | inr (columns, is, reported) ↦
       let own = same_reported x y z p.fed.blue p.fed.green p.fed.red columns p.events (one_capture x y z p.fed.blue p.fed.green p.fed.red bytes captured is) reported in
       let all : p.events ≡ heard (aligned_columns x y z d e f) = own.reported ∙ ap heard (aligned_same x y z own.blue own.green own.red d e f own.first first) in
-      subst (λ ts. 20000000 < columns_of (relayed ts)) all p.passes
+      subst (λ ts. COLUMN_LIMIT < columns_of (relayed ts)) all p.passes
 ]
 
-none_columns : columns_of (relayed []) ≤ 20000000
+none_columns : columns_of (relayed []) ≤ COLUMN_LIMIT
 unfolding turns_in gathered nulled kept without_faults kept_from
 none_columns = let e = stream_columns [] in omega (arith, e)
 
@@ -66,7 +67,7 @@ pub passes_nowhere : (x y z : List Bool) (bytes : List ℕ) → IsCaptureOf x y 
 passes_nowhere x y z bytes captured nowhere p = elim (p.reported) [
   | inl (taken, rest, counts, j, split, has, reported) ↦
       let begin = blocks_begin x y z p.fed.blue p.fed.green p.fed.red bytes taken rest counts j _ captured split has in
-      let passes = subst (λ ts. 20000000 < columns_of (relayed ts)) (none_reported x y z p.fed p.events nowhere begin reported) p.passes in
+      let passes = subst (λ ts. COLUMN_LIMIT < columns_of (relayed ts)) (none_reported x y z p.fed p.events nowhere begin reported) p.passes in
       omega (arith, passes, none_columns)
   | inr (columns, is, reported) ↦
       let own = same_reported x y z p.fed.blue p.fed.green p.fed.red columns p.events (one_capture x y z p.fed.blue p.fed.green p.fed.red bytes captured is) reported in

@@ -4,6 +4,7 @@ use Rattle.std.specs.Prelude.{Option, Some, None, Contains}
 use Rattle.std.specs.Io.KnownBytes.{Consumes, IsAtEnd, Keeps}
 use Rattle.island_pack.specs.Periods.{Period, columns_of}
 use Rattle.island_pack.specs.Spelling.{Spells}
+use Rattle.island_pack.specs.declared.ranges.TheConstants.{COLUMN_LIMIT}
 use Rattle.capture_file.specs.Captures.{IsCaptureOf, IsFault, place_of}
 use Rattle.capture_file.specs.Taps.{tapped_capture}
 use Rattle.capture_file.specs.declared.fault.CaptureFault.{CaptureFault}
@@ -39,7 +40,7 @@ record IsHeardWhole (fed : Fed) (events : List Event) (before after : Devices) :
   captured : (bytes : List ℕ) → before.left ≡ Some bytes → IsCaptureOf fed.blue fed.green fed.red bytes
   ended : IsAtEnd after.left
   reported : IsAlignedReported fed.blue fed.green fed.red columns events
-  few : columns_of (relayed events) ≤ 20000000
+  few : columns_of (relayed events) ≤ COLUMN_LIMIT
 
 abbrev sent_outcome : List Event → List ℕ → RunOutcome
 sent_outcome events output = record { status = relay_status (faultless events); output = output; note = [] }

@@ -27,6 +27,7 @@ use Rattle.link_sink.specs.declared.hear.Outcome.{Outcome}
 use Rattle.sampling.specs.Counts.{counts_of as sample_counts}
 use Rattle.sampling.specs.Sampled.{sample_tap, IsSampled}
 use Rattle.sampling.specs.declared.counts.Counts.{Counts}
+use Rattle.island_pack.specs.declared.ranges.TheConstants.{COLUMN_LIMIT}
 use Rattle.hdmi_cli.specs.Samples.{IsSampleCapture, IsStruck}
 
 -- a count of faults that stands at 0 did not rise
@@ -56,7 +57,7 @@ length_part words from count within =
     length-take-le count (drop from (row_bits words)) (omega (arith, length-drop from (row_bits words), length-row_bits words))
 
 -- where the columns go on after the beginning of the latest lane
-long_lanes : (columns : List Column) → 123527 ≤ 10 * length columns → length columns ≤ 20000000 → Lanes columns
+long_lanes : (columns : List Column) → 123527 ≤ 10 * length columns → length columns ≤ COLUMN_LIMIT → Lanes columns
 long_lanes columns long few =
     let n = length columns in
     let t = tap_of columns sample_tap in
@@ -111,7 +112,7 @@ short_lanes columns short =
       };
     }
 
-lanes : (columns : List Column) → length columns ≤ 20000000 → Lanes columns
+lanes : (columns : List Column) → length columns ≤ COLUMN_LIMIT → Lanes columns
 lanes columns few = grind (arith, cases_lt, short_lanes, long_lanes)
 
 pub tapped_is_capture : (frames : ℕ) (bytes : List ℕ) (hits : List Hit) → IsSampleCapture frames bytes hits → IsCapture bytes

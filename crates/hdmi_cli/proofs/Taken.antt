@@ -9,6 +9,7 @@ use Rattle.capture_file.specs.Captures.{IsCaptureOf, IsFault, place_of}
 use Rattle.capture_file.specs.declared.fault.CaptureFault.{CaptureFault}
 use Rattle.capture_file.proofs.Marks.{consumed}
 use Rattle.island_pack.specs.Periods.{columns_of}
+use Rattle.island_pack.specs.declared.ranges.TheConstants.{COLUMN_LIMIT}
 use Rattle.period_grammar.specs.Events.{Event}
 use Rattle.link_sink.specs.Alignment.{AreReported, reported_by, IsAlignedReported}
 use Rattle.link_sink.specs.Ears.{IsBroken, IsHeardSoFar}
@@ -45,7 +46,7 @@ frames_stop (Err biphases.Write) from left held holds h = tt
 -- ---- `relay`
 
 -- what a relay stands for passes the limit nowhere
-pub few_of : (relay : RelayValue) (events : List Event) → RelayRepresents relay events → columns_of (relayed events) ≤ 20000000
+pub few_of : (relay : RelayValue) (events : List Event) → RelayRepresents relay events → columns_of (relayed events) ≤ COLUMN_LIMIT
 few_of relay events s = grind (arith, stream_columns)
 
 -- where it broke
@@ -84,7 +85,7 @@ record IsTroubled (from left : Option (List ℕ)) (last : RelayValue) : Type 0 w
   events : List Event
   next : Event
   taken : AreTaken from left events next
-  few : columns_of (relayed events) ≤ 20000000
+  few : columns_of (relayed events) ≤ COLUMN_LIMIT
   cause : IsCause fault (columns_of (relayed (events ++ next ∷ [])))
 
 -- of all these events
@@ -128,7 +129,7 @@ troubled_at from left first last before now events read fresh none took (inr (ou
     broke_at from left first last now events read fresh none took b
     (inr (outcome.columns, ended, captured, aligned_if outcome.aligned now.blue now.green now.red outcome.columns events b.stops.taken b.stops.rest b.stops.next reported b.stops.events_are))
 
-by_fault : (from left : Option (List ℕ)) (fault : RelayFault) (events : List Event) (next : Event) → AreTaken from left events next → columns_of (relayed events) ≤ 20000000
+by_fault : (from left : Option (List ℕ)) (fault : RelayFault) (events : List Event) (next : Event) → AreTaken from left events next → columns_of (relayed events) ≤ COLUMN_LIMIT
     → IsCause fault (columns_of (relayed (events ++ next ∷ []))) → RelayStops (relay_ending (Some fault)) from left
 by_fault from left Long events next taken few cause = record { events = events; next = next; taken = taken; few = few; passes = cause }
 by_fault from left Wanting events next taken few cause = inr (inl (record { events = events; next = next; taken = taken; few = cause }))
@@ -141,7 +142,7 @@ broken_stops from left first last before now events read fresh none took reporte
 
 -- then the limit is passed
 
-more_passes : (events rest : List Event) (next : Event) → 20000000 < columns_of (relayed (events ++ next ∷ [])) → 20000000 < columns_of (relayed (events ++ next ∷ rest))
+more_passes : (events rest : List Event) (next : Event) → COLUMN_LIMIT < columns_of (relayed (events ++ next ∷ [])) → COLUMN_LIMIT < columns_of (relayed (events ++ next ∷ rest))
 more_passes events rest next passes =
     let grow = columns_grow (events ++ next ∷ []) rest in
     let same = ap (λ ts. columns_of (relayed ts)) (append_assoc events (next ∷ []) rest) in

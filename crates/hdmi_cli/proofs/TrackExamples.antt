@@ -12,6 +12,7 @@ use Rattle.island_pack.specs.Kinds.{control_column, pixel_column}
 use Rattle.island_pack.specs.Periods.{values_of}
 use Rattle.lane_align.specs.Lanes.{HasControl, IsRun, IsLock, IsEdge}
 use Rattle.lane_deskew.specs.Triples.{IsFirst}
+use Rattle.link_laws.proofs.Freely.{free_received}
 use Rattle.link_laws.proofs.Computed.{has, not_true, clash, runs_at, none_before, is_lock}
 use Rattle.link_laws.specs.Laws.{HoldsEnd}
 use Rattle.link_sink.specs.Sinks.{Fed}
@@ -203,7 +204,7 @@ short_aligned =
       begins = each_lane (λ l. 7 + slice_index skews l + 120 ≤ 10 * 24) (omega arith) (omega arith) (omega arith);
       reaches = each_lane (λ l. 10 * 24 + 10 ≤ 7 + slice_index skews l + slice_index ns l) (omega arith) (omega arith) (omega arith);
     } in
-    let h = first_until stream sent received reception 7 skews ns _ _ _ tap small 24 (record { after = after_first; spares = alone.spares 24; holds = holds }) in (
+    let h = first_until stream sent received (free_received stream sent received reception) 7 skews ns _ _ _ tap small 24 (record { after = after_first; spares = alone.spares 24; holds = holds }) in (
       h.0,
       h.1,
       h.2,
@@ -271,7 +272,7 @@ aligned =
       begins = each_lane (λ l. 127 + slice_index later l + 120 ≤ 10 * 76) (omega arith) (omega arith) (omega arith);
       reaches = each_lane (λ l. 10 * 76 + 10 ≤ 127 + slice_index later l + slice_index ns l) (omega arith) (omega arith) (omega arith);
     } in
-    let h = first_until stream sent received reception 127 later ns _ _ _ tap after 76 (record { after = after_second; spares = alone.spares 76; holds = holds }) in (
+    let h = first_until stream sent received (free_received stream sent received reception) 127 later ns _ _ _ tap after 76 (record { after = after_second; spares = alone.spares 76; holds = holds }) in (
       h.0,
       h.1,
       h.2,

@@ -17,16 +17,17 @@ use Rattle.track_sink.specs.Tracks.{HasTracked}
 use Rattle.command_line.specs.declared.command.Command.TheVariants.{RecoverTrack}
 use Rattle.hdmi_cli.specs.Blocks.{AreNext}
 use Rattle.hdmi_cli.specs.Endings.{Devices, Ends, IsAnswered, IsWrittenPast, TracksPart, heard_ending, judged_ending, note_of, seen, status_of}
-use Rattle.hdmi_cli.specs.Hearings.{IsCausedBy}
+use Rattle.hdmi_cli.specs.Reading.{IsCausedBy, IsUntaken}
 use Rattle.hdmi_cli.specs.Notes.{alignment_note, capture_note}
 use Rattle.hdmi_cli.specs.Outcome.{status_with}
 use Rattle.hdmi_cli.specs.TrackText.{track_event_text, no_track_events, one_track_event, track_faults, track_lines, track_lines_append, track_text}
-use Rattle.hdmi_cli.specs.Tracking.{IsUntakenOn, StopsOn, StopsPast}
+use Rattle.hdmi_cli.specs.Tracking.{LosesLast, LosesPast, StopsOn, StopsPast}
 use Rattle.hdmi_cli.specs.declared.ending.Ending.{Ending}
 use Rattle.hdmi_cli.specs.declared.ending.Ending.TheVariants.{Done, Faulty, Unaligned}
-use Rattle.hdmi_cli.specs.declared.hearing.HearError.{HearError}
-use Rattle.hdmi_cli.specs.declared.hearing.HearError.TheVariants.{Bad, Read, Ear}
-use Rattle.hdmi_cli.proofs.Heard.{all_read, no_faults, some_faults, rose_after}
+use Rattle.hdmi_cli.specs.declared.reading.HearError.{HearError}
+use Rattle.hdmi_cli.specs.declared.reading.HearError.TheVariants.{Bad, Read, Ear}
+use Rattle.hdmi_cli.proofs.Heard.{all_read, no_faults, some_faults}
+use Rattle.hdmi_cli.proofs.BlockReading.{rose_after}
 use Rattle.hdmi_cli.proofs.Listings.{Goes, front_of, goes_on, kept_nothing, shorter}
 
 -- of lanes of which no epoch is aligned nothing is reported
@@ -193,28 +194,33 @@ text_past first track_events old new p =
     }
 
 untaken_part : {A : Type 0} (tracked : A → A → List TrackEvent → Type 0) (lost : A → A → TrackEvent → Type 0) (held : A → Option (List ℕ)) (faults : A → ℕ) (left rest : Option (List ℕ)) (reads read_faults : ℕ) (old new : A)
-    → WritesTrackEvents tracked lost held → (u : IsUntakenOn tracked lost left rest old new) → TracksPart (seen left reads (held old) (faults old)) (seen rest read_faults (held new) (faults new))
-untaken_part tracked lost held faults left rest reads read_faults old new writes u =
-    record { fed = u.fed; first = u.stopped.first; reported = u.stopped.reported; track_events = u.track_events; some = by u.some }
+    → WritesTrackEvents tracked lost held → IsUntaken (LosesPast tracked lost) (LosesLast tracked lost) left rest old new → TracksPart (seen left reads (held old) (faults old)) (seen rest read_faults (held new) (faults new))
+untaken_part tracked lost held faults left rest reads read_faults old new writes u = by u.some
   where
-    past : IsWrittenPast (track_lines u.stopped.first) (track_lines u.track_events) (held old) (held new)
-    past = lost_past tracked lost held u.fed u.track_events old new writes u.stopped
-
-    by : ((now : Fed) × AreNext u.fed now u.read × HasTracked now u.track_events) ⊎ (IsAtEnd rest × IsCaptureOf u.fed.blue u.fed.green u.fed.red u.read × ((epochs aligned : ℕ) × IsTrack u.fed epochs aligned u.track_events))
-        → ((now : Fed) × (read : List ℕ) × Consumes left rest read × AreNext u.fed now read × HasTracked now u.track_events
-        × IsWrittenPast (track_lines u.stopped.first) (track_lines u.track_events) (held old) (held new))
-        ⊎ ((epochs aligned : ℕ) × IsAtEnd rest × ((bytes : List ℕ) → left ≡ Some bytes → IsCaptureOf u.fed.blue u.fed.green u.fed.red bytes) × IsTrack u.fed epochs aligned u.track_events
-        × IsWrittenPast (track_lines u.stopped.first) (track_text u.track_events) (held old) (held new))
-    by (inl (now, next, reported)) = inl (now, u.read, u.consumed, next, reported, past)
-    by (inr (end, captured, track)) =
-        inr (
-          track.0,
-          track.1,
-          end,
-          λ bytes is. subst (λ (bs : List ℕ). IsCaptureOf u.fed.blue u.fed.green u.fed.red bs) (sym (all_read left rest u.read bytes u.consumed end is)) captured,
-          track.2,
-          text_past (track_lines u.stopped.first) u.track_events (held old) (held new) past,
-        )
+    by : ((now : Fed) × AreNext u.fed now u.read × LosesPast tracked lost u.fed now old new) ⊎ (IsAtEnd rest × IsCaptureOf u.fed.blue u.fed.green u.fed.red u.read × LosesLast tracked lost u.fed old new)
+        → TracksPart (seen left reads (held old) (faults old)) (seen rest read_faults (held new) (faults new))
+    by (inl (now, next, l)) = record {
+      fed = u.fed;
+      first = l.2.first;
+      reported = l.2.reported;
+      track_events = l.0;
+      some = inl (now, u.read, u.consumed, next, l.1, lost_past tracked lost held u.fed l.0 old new writes l.2);
+    }
+    by (inr (end, captured, l)) = record {
+      fed = u.fed;
+      first = l.4.first;
+      reported = l.4.reported;
+      track_events = l.2;
+      some =
+          inr (
+            l.0,
+            l.1,
+            end,
+            λ bytes is. subst (λ (bs : List ℕ). IsCaptureOf u.fed.blue u.fed.green u.fed.red bs) (sym (all_read left rest u.read bytes u.consumed end is)) captured,
+            l.3,
+            text_past (track_lines l.4.first) l.2 (held old) (held new) (lost_past tracked lost held u.fed l.2 old new writes l.4),
+          );
+    }
 
 pub short_ends : {A : Type 0} (tracked : A → A → List TrackEvent → Type 0) (lost : A → A → TrackEvent → Type 0) (held : A → Option (List ℕ)) (faults : A → ℕ) (left rest : Option (List ℕ)) (reads read_faults : ℕ) (old new : A) (e : HearError)
     → WritesTrackEvents tracked lost held → StopsOn tracked lost left rest old new e → IsCausedBy reads read_faults (faults old) (faults new) e
@@ -234,6 +240,18 @@ short_ends tracked lost held faults left rest reads read_faults old new Ear writ
     (cause, untaken_part tracked lost held faults left rest reads read_faults old new writes short)
 
 -- what taking and losing keep is kept there
+kept_past : {A G : Type 0} (tracked : A → A → List TrackEvent → Type 0) (lost : A → A → TrackEvent → Type 0) (name : A → G) → ((x y : A) (h : List TrackEvent) → tracked x y h → name y ≡ name x) → ((x y : A) (e : TrackEvent) → lost x y e → name y ≡ name x)
+    → (fed : Fed) (track_events : List TrackEvent) (old new : A) → StopsPast tracked lost fed track_events old new → name new ≡ name old
+kept_past tracked lost name by_tracked by_lost fed track_events old new b = by_lost b.stops.between new b.stops.next b.stops.lost_then ∙ by_tracked old b.stops.between b.stops.taken b.stops.took_some
+
+kept_either : {A G : Type 0} (tracked : A → A → List TrackEvent → Type 0) (lost : A → A → TrackEvent → Type 0) (name : A → G) → ((x y : A) (h : List TrackEvent) → tracked x y h → name y ≡ name x) → ((x y : A) (e : TrackEvent) → lost x y e → name y ≡ name x)
+    → (rest : Option (List ℕ)) (fed : Fed) (read : List ℕ) (old new : A)
+    → ((now : Fed) × AreNext fed now read × LosesPast tracked lost fed now old new) ⊎ (IsAtEnd rest × IsCaptureOf fed.blue fed.green fed.red read × LosesLast tracked lost fed old new) → name new ≡ name old
+kept_either tracked lost name by_tracked by_lost rest fed read old new (inl (now, next, l)) = kept_past tracked lost name by_tracked by_lost fed l.0 old new l.2
+kept_either tracked lost name by_tracked by_lost rest fed read old new (inr (end, captured, l)) = kept_past tracked lost name by_tracked by_lost fed l.2 old new l.4
+
 pub kept_short : {A G : Type 0} (tracked : A → A → List TrackEvent → Type 0) (lost : A → A → TrackEvent → Type 0) (name : A → G) → ((x y : A) (h : List TrackEvent) → tracked x y h → name y ≡ name x) → ((x y : A) (e : TrackEvent) → lost x y e → name y ≡ name x)
     → (left rest : Option (List ℕ)) (old new : A) (e : HearError) → StopsOn tracked lost left rest old new e → name new ≡ name old
-kept_short tracked lost name h k l m p q r s = grind arith
+kept_short tracked lost name by_tracked by_lost left rest old new (Bad fault) short = by_tracked old new short.0.1.track_events short.0.1.heard
+kept_short tracked lost name by_tracked by_lost left rest old new Read short = by_tracked old new short.heard.track_events short.heard.heard
+kept_short tracked lost name by_tracked by_lost left rest old new Ear short = kept_either tracked lost name by_tracked by_lost rest short.fed short.read old new short.some

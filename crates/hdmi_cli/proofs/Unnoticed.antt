@@ -19,6 +19,7 @@ use Rattle.lane_align.proofs.Parts.{run_in_front, run_in_rest, run_of_front, run
 use Rattle.lane_deskew.specs.Triples.{IsFirst}
 use Rattle.lane_deskew.specs.Aligned.{aligned_columns}
 use Rattle.island_pack.specs.Periods.{Period}
+use Rattle.link_laws.proofs.Freely.{free_received}
 use Rattle.link_laws.specs.Laws.{BeginColumn, IsAccounted}
 use Rattle.link_sink.specs.Sinks.{Fed}
 use Rattle.link_laws.proofs.Tapped.{payload_accounted}
@@ -205,7 +206,7 @@ passed_reported ps sent received offset skews counts x y zero place dropped firs
     let columns = alike_columns y.blue y.green y.red (drop dropped x.blue) x.green x.red d e f
     (like.characters d alignment.triple.blue) (ap (λ us. words_from us (e - 120)) green) (ap (λ us. words_from us (f - 120)) red) in
     subst (λ cs. (a : ℕ) × IsAccounted ps sent received cs a × BeginColumn offset (later_skews skews zero dropped) (a + 12) d e f) (sym columns)
-    (payload_accounted ps sent received reception.reception s.alone offset (later_skews skews zero dropped)
+    (payload_accounted ps sent received (free_received ps sent received reception.reception) s.alone offset (later_skews skews zero dropped)
     ((slice_index counts 0 - dropped) ∷ (slice_index counts 1 ∷ (slice_index counts 2 ∷ []))) (drop dropped x.blue) x.green x.red
     (record { blue_part = like.part; green_part = reception.tapped.green_part; red_part = reception.tapped.red_part }) s.small d e f here)
 passed_reported ps sent received offset skews counts x y (suc zero) place dropped first next reception slip s none d e f alignment =
@@ -217,7 +218,7 @@ passed_reported ps sent received offset skews counts x y (suc zero) place droppe
     let columns = alike_columns y.blue y.green y.red x.blue (drop dropped x.green) x.red d e f
     (ap (λ us. words_from us (d - 120)) blue) (like.characters e alignment.triple.green) (ap (λ us. words_from us (f - 120)) red) in
     subst (λ cs. (a : ℕ) × IsAccounted ps sent received cs a × BeginColumn offset (later_skews skews (suc zero) dropped) (a + 12) d e f) (sym columns)
-    (payload_accounted ps sent received reception.reception s.alone offset (later_skews skews (suc zero) dropped)
+    (payload_accounted ps sent received (free_received ps sent received reception.reception) s.alone offset (later_skews skews (suc zero) dropped)
     (slice_index counts 0 ∷ ((slice_index counts 1 - dropped) ∷ (slice_index counts 2 ∷ []))) x.blue (drop dropped x.green) x.red
     (record { blue_part = reception.tapped.blue_part; green_part = like.part; red_part = reception.tapped.red_part }) s.small d e f here)
 passed_reported ps sent received offset skews counts x y (suc (suc zero)) place dropped first next reception slip s none d e f alignment =
@@ -229,7 +230,7 @@ passed_reported ps sent received offset skews counts x y (suc (suc zero)) place 
     let columns = alike_columns y.blue y.green y.red x.blue x.green (drop dropped x.red) d e f
     (ap (λ us. words_from us (d - 120)) blue) (ap (λ us. words_from us (e - 120)) green) (like.characters f alignment.triple.red) in
     subst (λ cs. (a : ℕ) × IsAccounted ps sent received cs a × BeginColumn offset (later_skews skews (suc (suc zero)) dropped) (a + 12) d e f) (sym columns)
-    (payload_accounted ps sent received reception.reception s.alone offset (later_skews skews (suc (suc zero)) dropped)
+    (payload_accounted ps sent received (free_received ps sent received reception.reception) s.alone offset (later_skews skews (suc (suc zero)) dropped)
     (slice_index counts 0 ∷ (slice_index counts 1 ∷ ((slice_index counts 2 - dropped) ∷ []))) x.blue x.green (drop dropped x.red)
     (record { blue_part = reception.tapped.blue_part; green_part = reception.tapped.green_part; red_part = like.part }) s.small d e f here)
 passed_reported ps sent received offset skews counts x y (suc (suc (suc l))) place dropped first next reception slip s none d e f alignment =

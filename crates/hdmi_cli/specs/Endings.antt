@@ -44,8 +44,8 @@ use Rattle.hdmi_cli.specs.Taken.{StopsOf}
 use Rattle.command_line.specs.Commands.{IsCommand}
 use Rattle.command_line.specs.declared.command.Command.{Command}
 use Rattle.command_line.specs.declared.command.Command.TheVariants.{MakeLink, MakeContent, MakeDvi, RecoverLink, RecoverContent, RecoverTrack, RecoverBiphase, RecoverDvi, Check, Damage, Slip, ReadBiphase, Relay, Sample}
-use Rattle.hdmi_cli.specs.declared.hearing.HearError.{HearError}
-use Rattle.hdmi_cli.specs.declared.hearing.HearError.TheVariants as heards
+use Rattle.hdmi_cli.specs.declared.reading.HearError.{HearError}
+use Rattle.hdmi_cli.specs.declared.reading.HearError.TheVariants as heards
 use Rattle.hdmi_cli.specs.declared.ending.Ending.{Ending}
 use Rattle.hdmi_cli.specs.declared.ending.Ending.TheVariants.{Done, Faulty, Usage, Listing, Raster, Capture, Place, Frames, TooLong, ReadFailed, WriteFailed, NoMemory, Unaligned}
 

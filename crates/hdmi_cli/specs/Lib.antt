@@ -4,6 +4,7 @@ pub mod Notes
 pub mod Blocks
 pub mod Listings
 pub mod Listers
+pub mod Reading
 pub mod Hearings
 pub mod Tracking
 pub mod TrackText
@@ -26,4 +27,8 @@ pub mod Exact
 pub mod RelaySettles
 pub mod RelayExamples
 pub mod Local
+pub mod Beside
+pub mod DviLocal
+pub mod RelayLocal
+pub mod LocalPictures
 pub mod Theorem

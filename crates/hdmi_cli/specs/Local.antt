@@ -16,6 +16,7 @@ use Rattle.link_laws.specs.Local.{ReceivedUntil, is_between, part_at, twelve_bef
 use Rattle.listing_writer.specs.ContentText.{content_lines, packet_lines, text_of}
 use Rattle.listing_laws.specs.ListingLaws.{Each, reported_lines, as_sent_at}
 use Rattle.listing_laws.specs.PacketLaws.{ReportedPacket, reported_packets, received_packet, each_at}
+use Rattle.track_sink.specs.Epochs.{HasNoEnd}
 use Rattle.hdmi_cli.specs.Headline.{TappedStream, aligned_of, IsFirstOf}
 use Rattle.hdmi_cli.specs.Listings.{Listing}
 use Rattle.hdmi_cli.specs.Outcome.{status_with}
@@ -65,6 +66,10 @@ pub record IsHeardFrom (listing : Listing) (t : TappedStream) (d e f a status : 
 abbrev pub IsHeardBy : Listing → TappedStream → ℕ → ℕ → Option (List ℕ) → Option (List ℕ) → Type 0
 IsHeardBy listing t until status old new =
     (d e f : ℕ) × IsFirstOf t d e f × ((a : ℕ) × (a + 12 ≤ until) × IsHeardFrom listing t d e f a status old new)
+
+-- no lane has a stray: no twelve control words, ten bits apart, lie no whole characters past the first such run
+abbrev pub HasNoStrays : TappedStream → Type 0
+HasNoStrays t = HasNoEnd (record { blue = t.blue; green = t.green; red = t.red })
 
 -- the packets of a data island that stands alone at column j are reported, between those that are reported before it and
 -- others; each of which at most one word was received unlike, or few were and no fault is found, has the lines of the packet as

@@ -6,6 +6,7 @@ use Rattle.capture_file.specs.Taps.{tapped_capture}
 use Rattle.island_pack.specs.Conforming.{IsConforming}
 use Rattle.island_pack.specs.Periods.{ControlRun, Period, control, values_of, columns_of}
 use Rattle.island_pack.specs.Spelling.{SpellsBy, Spells, freely}
+use Rattle.island_pack.specs.declared.ranges.TheConstants.{COLUMN_LIMIT}
 use Rattle.link_laws.specs.Laws.{IsAccounted, BeginColumn}
 use Rattle.period_grammar.specs.Exact.{IsFront, whole_part}
 use Rattle.period_grammar.specs.Cut.{stretches}
@@ -27,14 +28,14 @@ sent_on t d e f a = conformed (reception t.periods t.sent t.received a (length (
 pub record IsTooLong (t : TappedStream) (d e f a status : ℕ) (old new : Option (List ℕ)) : Type 0 where
   pub accounted : IsAccounted t.periods t.sent t.received (aligned_of t d e f) a
   pub begins : BeginColumn t.offset t.skews (a + 12) d e f
-  pub passes : 20000000 < columns_of (sent_on t d e f a)
+  pub passes : COLUMN_LIMIT < columns_of (sent_on t d e f a)
   pub status_is : status ≡ 3
   pub unwritten : Keeps old new
 
 -- it is sent on, where it has 20,000,000 columns or fewer
 abbrev pub IsSentWithin : TappedStream → ℕ → ℕ → ℕ → ℕ → ℕ → Option (List ℕ) → Option (List ℕ) → Type 0
 IsSentWithin t d e f a status old new =
-    ((columns_of (sent_on t d e f a) ≤ 20000000) × IsSentOn t d e f a status old new) ⊎ IsTooLong t d e f a status old new
+    ((columns_of (sent_on t d e f a) ≤ COLUMN_LIMIT) × IsSentOn t d e f a status old new) ⊎ IsTooLong t d e f a status old new
 
 -- A clean capture.
 
@@ -53,8 +54,8 @@ pub record AreAsSent (cs columns : List Column) : Type 0 where
 -- as many columns of the same periods are written, where they are 20,000,000 or fewer
 abbrev pub IsPassedOn : List Column → ℕ → Option (List ℕ) → Option (List ℕ) → Type 0
 IsPassedOn cs status old new =
-    ((length cs ≤ 20000000) × (status ≡ 0) × ((columns : List Column) × AreAsSent cs columns × Appends old new (tapped_capture columns whole_tap)))
-    ⊎ ((20000000 < length cs) × (status ≡ 3) × Keeps old new)
+    ((length cs ≤ COLUMN_LIMIT) × (status ≡ 0) × ((columns : List Column) × AreAsSent cs columns × Appends old new (tapped_capture columns whole_tap)))
+    ⊎ ((COLUMN_LIMIT < length cs) × (status ≡ 3) × Keeps old new)
 
 -- What was relayed.
 

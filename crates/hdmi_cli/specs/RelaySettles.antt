@@ -7,6 +7,7 @@ use Rattle.island_pack.specs.Conforming.{IsConforming}
 use Rattle.island_pack.specs.Kinds.{kinds_of}
 use Rattle.island_pack.specs.Periods.{Period}
 use Rattle.island_pack.specs.Spelling.{SpellsBy, freely}
+use Rattle.island_pack.specs.declared.ranges.TheConstants.{COLUMN_LIMIT}
 use Rattle.relay_laws.specs.Spelled.{Agree}
 use Rattle.hdmi_cli.specs.Relays.{whole_tap}
 
@@ -18,6 +19,6 @@ IsWritten text status old new = (status ≡ 0) × Appends old new text
 -- are 20,000,000 or fewer
 abbrev pub IsWrittenButBit3 : List Column → ℕ → Option (List ℕ) → Option (List ℕ) → Type 0
 IsWrittenButBit3 cs status old new =
-    ((length cs ≤ 20000000) × (status ≡ 0)
+    ((length cs ≤ COLUMN_LIMIT) × (status ≡ 0)
     × ((ps : List Period) × (columns : List Column) × IsConforming ps × SpellsBy freely ps cs × Agree (kinds_of ps) cs columns × Appends old new (tapped_capture columns whole_tap)))
-    ⊎ ((20000000 < length cs) × (status ≡ 3) × Keeps old new)
+    ⊎ ((COLUMN_LIMIT < length cs) × (status ≡ 3) × Keeps old new)

@@ -3,6 +3,7 @@ use Rattle.std.specs.Prelude.{◌≡◌, ◌⊎◌, ◌<◌, ◌≤◌, ℕ, Boo
 use Rattle.tmds_word.specs.Column.{Column}
 use Rattle.island_pack.specs.Periods.{columns_of}
 use Rattle.island_pack.specs.Spelling.{Spells}
+use Rattle.island_pack.specs.declared.ranges.TheConstants.{COLUMN_LIMIT}
 use Rattle.capture_file.specs.Captures.{IsCaptureOf, IsFault, place_of}
 use Rattle.capture_file.specs.Taps.{tapped_capture}
 use Rattle.capture_file.specs.declared.fault.CaptureFault.{CaptureFault}
@@ -24,7 +25,7 @@ relay_status false = 1
 -- what is relayed of events has at most 20,000,000 columns, and these are written
 pub record IsRelayed (events : List Event) (output : List ℕ) : Type 0 where
   pub columns : List Column
-  pub few : columns_of (relayed events) ≤ 20000000
+  pub few : columns_of (relayed events) ≤ COLUMN_LIMIT
   pub spelled : Spells (relayed events) columns
   pub output_is : output ≡ tapped_capture columns whole_tap
 
@@ -35,7 +36,7 @@ pub record PassesLimit (bytes : List ℕ) : Type 0 where
   pub reported :
       ((taken rest counts : List ℕ) × (j : ℕ) × (bytes ≡ taken ++ rest) × HasBlocks counts j taken fed × IsReportedSoFar fed events)
       ⊎ ((columns : ℕ) × IsCaptureOf fed.blue fed.green fed.red bytes × IsAlignedReported fed.blue fed.green fed.red columns events)
-  pub passes : 20000000 < columns_of (relayed events)
+  pub passes : COLUMN_LIMIT < columns_of (relayed events)
 
 -- bytes stop being a capture, and no more than the limit is relayed of what is reported of their whole blocks
 pub record RelaysBefore (bytes : List ℕ) (fault : CaptureFault) : Type 0 where
@@ -44,4 +45,4 @@ pub record RelaysBefore (bytes : List ℕ) (fault : CaptureFault) : Type 0 where
   pub before : AreBefore bytes (place_of fault) fed
   pub events : List Event
   pub reported : IsReportedSoFar fed events
-  pub few : columns_of (relayed events) ≤ 20000000
+  pub few : columns_of (relayed events) ≤ COLUMN_LIMIT

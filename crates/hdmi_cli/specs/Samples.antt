@@ -5,6 +5,7 @@ use Rattle.outside_io.specs.Causes.{Rose}
 use Rattle.tmds_word.specs.Column.{Column}
 use Rattle.island_pack.specs.Periods.{Period}
 use Rattle.island_pack.specs.Spelling.{Spells}
+use Rattle.island_pack.specs.declared.ranges.TheConstants.{COLUMN_LIMIT}
 use Rattle.source_end.specs.Content.{Frame}
 use Rattle.source_end.specs.Generator.{IsGenerated}
 use Rattle.source_end.specs.Raster.{raster_of}
@@ -29,7 +30,7 @@ pub record IsSampleSent (frames : ℕ) (sent : List Column) (hits : List Hit) : 
   pub periods : List Period
   pub made : IsMade frames periods
   pub spelled : Spells periods sent
-  pub few_columns : length sent ≤ 20000000
+  pub few_columns : length sent ≤ COLUMN_LIMIT
   pub hits_are : hits ≡ hits_of sample_tap periods
   pub lanes : All (λ h. h.lane < 3) hits
   pub few_hits : length hits < 2 ^ 32 - 1

@@ -8,6 +8,7 @@ use Rattle.biphase_listing.specs.declared.fault.BiphaseFault.{BiphaseFault}
 use Rattle.capture_file.specs.Captures.{IsCaptureOf}
 use Rattle.capture_file.specs.declared.fault.CaptureFault.{CaptureFault}
 use Rattle.island_pack.specs.Periods.{columns_of}
+use Rattle.island_pack.specs.declared.ranges.TheConstants.{COLUMN_LIMIT}
 use Rattle.period_grammar.specs.Events.{Event}
 use Rattle.link_sink.specs.Alignment.{IsAlignedReported}
 use Rattle.link_sink.specs.Sinks.{Fed, IsReportedSoFar}
@@ -40,15 +41,15 @@ pub record PassesAtLast (from left : Option (List ℕ)) : Type 0 where
   pub events : List Event
   pub next : Event
   pub taken : AreTaken from left events next
-  pub few : columns_of (relayed events) ≤ 20000000
-  pub passes : 20000000 < columns_of (relayed (events ++ next ∷ []))
+  pub few : columns_of (relayed events) ≤ COLUMN_LIMIT
+  pub passes : COLUMN_LIMIT < columns_of (relayed (events ++ next ∷ []))
 
 -- memory was wanting at that one, with which no more than 20,000,000 columns are relayed
 pub record WantsAtLast (from left : Option (List ℕ)) : Type 0 where
   pub events : List Event
   pub next : Event
   pub taken : AreTaken from left events next
-  pub few : columns_of (relayed (events ++ next ∷ [])) ≤ 20000000
+  pub few : columns_of (relayed (events ++ next ∷ [])) ≤ COLUMN_LIMIT
 
 -- memory was wanting once a capture was read, of which no more than 20,000,000 columns are relayed
 pub record WantsAtEnd (from left : Option (List ℕ)) : Type 0 where
@@ -58,7 +59,7 @@ pub record WantsAtEnd (from left : Option (List ℕ)) : Type 0 where
   pub ended : IsAtEnd left
   pub captured : (bytes : List ℕ) → from ≡ Some bytes → IsCaptureOf fed.blue fed.green fed.red bytes
   pub reported : IsAlignedReported fed.blue fed.green fed.red columns events
-  pub few : columns_of (relayed events) ≤ 20000000
+  pub few : columns_of (relayed events) ≤ COLUMN_LIMIT
 
 -- or before anything was read
 abbrev pub WantsMemory : Option (List ℕ) → Option (List ℕ) → Type 0

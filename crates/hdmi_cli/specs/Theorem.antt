@@ -8,10 +8,14 @@ use Rattle.source_end.specs.Content.{Frame}
 use Rattle.source_end.specs.Raster.{raster_of}
 use Rattle.source_end.specs.RasterRefusals.{raster_fault}
 use Rattle.hdmi_cli.specs.Headline.{TappedStream, IsTapped, AlignsBy, IsFirstOf, IsRecovered, IsRecoveredBy, Aligns, FromFirst, IsDviTapped, IsDviRecovered}
-use Rattle.hdmi_cli.specs.Local.{IsTappedUntil, IsHeardBy, ArePacketsBy}
+use Rattle.hdmi_cli.specs.Local.{IsTappedUntil, IsHeardBy, HasNoStrays, ArePacketsBy}
+use Rattle.hdmi_cli.specs.Beside.{ArePacketsBesideBy}
+use Rattle.hdmi_cli.specs.DviLocal.{IsDviTappedUntil, DviAlignsBy, IsDviHeardBy}
+use Rattle.hdmi_cli.specs.LocalPictures.{ArePicturesBy}
 use Rattle.hdmi_cli.specs.TrackSlip.{LineSlip, IsSlippedTap, IsNoticed, IsTrackedAcross}
 use Rattle.hdmi_cli.specs.TrackPasses.{IsUnnoticed, IsTrackedAsOne}
 use Rattle.hdmi_cli.specs.RelayClauses.{IsCleanToEnd, IsPassedOn, IsRelayedAgain, IsSentWithin}
+use Rattle.hdmi_cli.specs.RelayLocal.{IsRelayedBy}
 use Rattle.hdmi_cli.specs.RelaySettles.{IsWritten, IsWrittenButBit3}
 use Rattle.hdmi_cli.specs.Relays.{IsRelayed}
 use Rattle.period_grammar.specs.Events.{Event}
@@ -70,10 +74,20 @@ pub record Promises (words : List (List ℕ)) (status : ℕ) (before after : Dev
   pub check_local : IsCommand words Check → (t : TappedStream) → (until : ℕ) → IsTappedUntil t until → AlignsBy t until
       → before.left ≡ Some t.bytes
       → Unless (IsHeardBy check_listing t until) status before after
+  -- The pixels of each such line are listed, where a change of VSYNC was heard before it: after the rows and frames that are listed
+  -- of the columns before its second one, and each byte as it was sent where its word was received as sent.
+  pub pictures_local : IsCommand words RecoverContent → (t : TappedStream) → (until : ℕ) → IsTappedUntil t until → AlignsBy t until
+      → before.left ≡ Some t.bytes
+      → Unless (λ status held holds. ArePicturesBy t until held holds) status before after
   -- And the packets of each such island are reported, each with at most one damaged word, or few and no fault, as it was sent.
   pub packets_local : IsCommand words RecoverContent → (t : TappedStream) → (until : ℕ) → IsTappedUntil t until → AlignsBy t until
       → before.left ≡ Some t.bytes
       → Unless (λ status held holds. ArePacketsBy t until held holds) status before after
+  -- Whatever else is received of its island, a packet is reported: where a control column stands before the island and none in it
+  -- up to the packet's end, the island is opened, and no packet up to this one begins with two columns that close it.
+  pub packets_beside : IsCommand words RecoverContent → (t : TappedStream) → (until : ℕ) → IsTappedUntil t until → AlignsBy t until
+      → before.left ≡ Some t.bytes
+      → Unless (λ status held holds. ArePacketsBesideBy t until held holds) status before after
   -- `recover biphase` writes the stream of the samples of the packets that were received whole, each with at most one
   -- damaged word, or few and no fault, as it was sent.
   pub biphase_headline : (pair : ℕ) → IsCommand words (RecoverBiphase pair) → (t : TappedStream) → IsTapped t → Aligns t → before.left ≡ Some t.bytes
@@ -83,9 +97,20 @@ pub record Promises (words : List (List ℕ)) (status : ℕ) (before after : Dev
   pub dvi_headline : IsCommand words RecoverDvi → (t : TappedStream) → IsDviTapped t
       → (d e f : ℕ) → IsFirstOf t d e f → before.left ≡ Some t.bytes
       → Unless (λ status held holds. (a : ℕ) × IsDviRecovered t d e f a status held holds) status before after
+  -- Whatever is received after a column until which damage is so, where the lanes' bits up to there have a first full alignment:
+  -- each line that was received with at most one damaged word a column, after twelve control columns and before one, is reported as
+  -- its row, and has its lines in what `recover dvi` writes.
+  pub dvi_local : IsCommand words RecoverDvi → (t : TappedStream) → (until d e f : ℕ) → IsDviTappedUntil t until → DviAlignsBy t until d e f
+      → before.left ≡ Some t.bytes
+      → Unless (IsDviHeardBy t until d e f) status before after
   -- `recover track` writes the text of `recover link`: lanes that lost no bits have one epoch.
   pub track_headline : IsCommand words RecoverTrack → (t : TappedStream) → IsTapped t → Aligns t → before.left ≡ Some t.bytes
       → Unless (λ status held holds. FromFirst t (λ d e f a. IsRecovered link_listing t d e f a status held holds)) status before after
+  -- Whatever is received after a column until which damage is so: where no lane has a stray, it writes what `recover link` does, with the
+  -- row of each line and each island that stands alone.
+  pub track_local : IsCommand words RecoverTrack → (t : TappedStream) → (until : ℕ) → IsTappedUntil t until → AlignsBy t until → HasNoStrays t
+      → before.left ≡ Some t.bytes
+      → Unless (IsHeardBy link_listing t until) status before after
   -- Where a lane loses one to nine bits within the pixels of a line, once it was locked, there are two epochs: the second
   -- begins at the control period after the line, what is reported of it is the account from its first full alignment
   -- on, and what is reported in the first, of columns that end before the slip, is the account. The lines of both are
@@ -101,6 +126,12 @@ pub record Promises (words : List (List ℕ)) (status : ℕ) (before after : Dev
   -- writes nothing, where that has more than 20,000,000 columns.
   pub relay_headline : IsCommand words Relay → (t : TappedStream) → IsTapped t → Aligns t → before.left ≡ Some t.bytes
       → Unless (λ status held holds. FromFirst t (λ d e f a. IsSentWithin t d e f a status held holds)) status before after
+  -- Whatever is received after a column until which damage is so: each line and each island that was received with few words damaged,
+  -- after twelve control columns and before one, is sent on, its bytes and packets as they were sent or else as they were received,
+  -- after what is relayed of the columns before its second one, with its preamble.
+  pub relay_local : IsCommand words Relay → (t : TappedStream) → (until : ℕ) → IsTappedUntil t until → AlignsBy t until
+      → before.left ≡ Some t.bytes
+      → Unless (IsRelayedBy t until) status before after
   -- Where `check` says `clean` of a capture, and its aligned columns end in a control period of at least twelve, `relay`
   -- writes columns of the same conforming periods as the aligned ones, in which bit 3 of lane 0 in packet columns is free.
   pub relay_clean : IsCommand words Relay

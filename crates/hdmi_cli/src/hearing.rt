@@ -1,116 +1,61 @@
 //! Hears a capture block by block, while it is read.
-ghost use Rattle.std.specs.Prelude.{◌≡◌, ◌≤◌, ◌⊎◌, ◌+◌, ◌*◌, ◌^◌, ◌<◌, ℕ, List, true, false, Option, Some, IfOk, OnOk, IfErr};
+ghost use Rattle.std.specs.Prelude.{◌≡◌, ◌≤◌, ◌⊎◌, ℕ, List, true, Some, IfOk, OnOk, IfErr};
 ghost use Rattle.std.specs.Io.KnownBytes.{Consumes, IsAtEnd};
 ghost use Rattle.outside_io.specs.Causes.{Rose};
-ghost use Rattle.capture_file.specs.Captures.{CanSay, IsCaptureOf, IsFault, place_of};
+ghost use Rattle.capture_file.specs.Captures.{IsCaptureOf, IsFault, place_of};
 ghost use Rattle.capture_file.specs.declared.fault.CaptureFault.{CaptureFault as FaultValue};
 ghost use Rattle.period_grammar.specs.Events.{Event};
 ghost use Rattle.link_sink.specs.Alignment.{AreReportedBy};
+ghost use Rattle.link_sink.specs.Ears.{IsHeardSoFar, IsBroken};
 ghost use Rattle.link_sink.specs.declared.hear.Outcome.{Outcome as OutcomeValue};
 ghost use Rattle.link_sink.specs.Pieces.{no_bits};
 ghost use Rattle.link_sink.specs.Sinks.{Fed, IsReportedBy};
-ghost use Rattle.link_sink.specs.Streams.{StandsBy, most_bits};
+ghost use Rattle.link_sink.specs.Streams.{StandsBy, bits_fed, most_bits};
 ghost use Rattle.hdmi_cli.specs.Blocks.{AreBefore, AreRead, AreNext};
-ghost use Rattle.link_sink.specs.Ears.{IsHeardSoFar, IsBroken};
-ghost use Rattle.hdmi_cli.specs.Hearings.{IsHeardSome, AreFed, HasHeard, HasHeardAll, HeardOn, StopsShort, IsCausedBy, refused_as};
-ghost use Rattle.hdmi_cli.specs.declared.hearing.HearError.TheVariants.{Bad, Read, Ear as EarFailed};
+ghost use Rattle.hdmi_cli.specs.Hearings.{BreaksLast, BreaksPast, HearsSoFar, HearsWhole, IsHeardSome};
+ghost use Rattle.hdmi_cli.specs.declared.reading.HearError.TheVariants.{Bad, Read, Ear as EarFailed};
 
-use capture_file::{CaptureError, CaptureFault, CaptureReader};
-use lane_team::Gate;
+use crate::block_gate::BlockGate;
+use crate::reading::{BlockSink, HearError, read_capture};
 use link_sink::{Ear, Hears, LaneSink, Outcome};
-use outside_io::Source;
+use outside_io::{Failed, Source};
 use std::thread::Threads;
+use tmds_word::LaneBits;
 
-/// Why a capture was not heard to its end.
-#[derive(Clone, Copy)]
-pub(crate) enum HearError {
-    /// The bytes are no capture.
-    Bad(CaptureFault),
-    /// The source failed.
-    Read,
-    /// A call of the ear failed.
-    Ear,
-}
+impl<H: Hears, E: Ear> BlockSink<E> for LaneSink<H> {
+    type Outcome = Outcome;
 
-/// Reads one block, feeds it to the sink and reports to the ear what it decides, and says whether there was one.
-pub(crate) fn hear_block<R: Threads, S: Source, H: Hears, E: Ear, G: Gate>(
-    rt: &R,
-    sink: &mut LaneSink<H>,
-    reader: &mut CaptureReader<'_, S>,
-    gate: &G,
-    ear: &mut E,
-) -> Result<bool, HearError>
-    requires open { sink.old.is_open ≡ true }
-    requires more { reader.old.is_open ≡ true }
-    requires fed { AreFed sink.old reader.old.bits reader.old.block }
-    requires said { CanSay reader.old.version reader.old.bits }
-    ensures same { reader.new.source.ghost_name ≡ reader.old.source.ghost_name }
-    ensures version { reader.new.version ≡ reader.old.version }
-    ensures bits { reader.new.bits ≡ reader.old.bits }
-    ensures open { OnOk result (sink.new.is_open ≡ true) }
-    ensures more { IfOk result (λ more. reader.new.is_open ≡ more) }
-    ensures below { IfOk result (λ more. more ≡ true → 32768 * reader.old.block < 2 ^ 32) }
-    ensures block { IfOk result (λ more. more ≡ true → reader.new.block ≡ reader.old.block + 1) }
-    ensures fed { IfOk result (λ more. more ≡ true → AreFed sink.new reader.old.bits (reader.old.block + 1)) }
-    ensures heard { (from : Option (List ℕ)) → HeardOn E.took (HasHeard H.grammar H.goes_on E.took reader.old.version reader.old.bits reader.old.block from (S.left reader.old.source.now) sink.old) ear.old (λ first.
-        IfOk result (λ more. more ≡ true → HasHeard H.grammar H.goes_on E.took reader.old.version reader.old.bits (reader.old.block + 1) from (S.left reader.new.source.now) sink.new first ear.new)) }
-    ensures ended { IfOk result (λ more. more ≡ false → IsAtEnd (S.left reader.new.source.now)) }
-    ensures whole { (from : Option (List ℕ)) → HeardOn E.took (HasHeard H.grammar H.goes_on E.took reader.old.version reader.old.bits reader.old.block from (S.left reader.old.source.now) sink.old) ear.old (λ first.
-        IfOk result (λ more. more ≡ false → HasHeardAll H.grammar H.goes_on E.took from (S.left reader.new.source.now) sink.new first ear.new)) }
-    ensures short { (from : Option (List ℕ)) → HeardOn E.took (HasHeard H.grammar H.goes_on E.took reader.old.version reader.old.bits reader.old.block from (S.left reader.old.source.now) sink.old) ear.old (λ first.
-        IfErr result (StopsShort H.grammar E.took E.broke from (S.left reader.new.source.now) first ear.new)) }
-    ensures caused { IfErr result (IsCausedBy (S.faults reader.old.source.now) (S.faults reader.new.source.now) (E.faults ear.old) (E.faults ear.new)) }
-    ensures taken { (taken : List ℕ) × Consumes (S.left reader.old.source.now) (S.left reader.new.source.now) taken }
-    ensures input_later { S.faults reader.old.source.now ≤ S.faults reader.new.source.now }
-    ensures ear_later { E.faults ear.old ≤ E.faults ear.new }
-{
-    match reader.next() {
-        Ok(Some(block)) => match sink.feed(rt, block, gate, ear) {
-            Ok(()) => Ok(true),
-            Err(_) => Err(HearError::Ear),
-        },
-        Ok(None) => Ok(false),
-        Err(error) => Err(refused(error)),
+    ghost is_open = { λ s. s.is_open };
+
+    ghost bits = { λ s lane. bits_fed s lane };
+
+    ghost faults = { E.faults };
+
+    ghost heard = { λ s fed x y. HearsSoFar H.grammar H.goes_on E.took s fed x y };
+
+    ghost so_far = { λ fed x y. IsHeardSoFar H.grammar E.took fed x y };
+
+    ghost stops = { λ before after x y. BreaksPast H.grammar E.took E.broke before after x y };
+
+    ghost whole = { λ fed outcome x y. HearsWhole H.grammar E.took fed outcome x y };
+
+    ghost stops_last = { λ fed x y. BreaksLast H.grammar E.took E.broke fed x y };
+
+    fn feed_block<R: Threads, G: BlockGate>(
+        &mut self,
+        rt: &R,
+        block: LaneBits<'_>,
+        gate: &G,
+        ear: &mut E,
+    ) -> Result<(), Failed> {
+        gate.feed(rt, self, block, ear)
     }
-}
 
-/// What an error of a reader is here.
-pub(crate) fn refused(error: CaptureError) -> HearError
-    ensures refused { refused_as error ≡ result }
-{
-    match error {
-        CaptureError::Bad(fault) => HearError::Bad(fault),
-        CaptureError::Read => HearError::Read,
+    fn end<R: Threads>(&mut self, _rt: &R, ear: &mut E) -> Result<Outcome, Failed> {
+        self.finish(ear)
     }
-}
 
-/// Reads and feeds block after block, to the end.
-#[tactic(auto, using(crate::proofs::Consumed::takes_none))]
-fn hear_blocks<R: Threads, S: Source, H: Hears, E: Ear, G: Gate>(
-    rt: &R,
-    sink: &mut LaneSink<H>,
-    reader: &mut CaptureReader<'_, S>,
-    gate: &G,
-    ear: &mut E,
-) -> Result<(), HearError>
-    requires open { sink.old.is_open ≡ true }
-    requires more { reader.old.is_open ≡ true }
-    requires fed { AreFed sink.old reader.old.bits reader.old.block }
-    requires said { CanSay reader.old.version reader.old.bits }
-    ensures same { reader.new.source.ghost_name ≡ reader.old.source.ghost_name }
-    ensures open { OnOk result (sink.new.is_open ≡ true) }
-    ensures ended { OnOk result (IsAtEnd (S.left reader.new.source.now)) }
-    ensures whole { (from : Option (List ℕ)) → HeardOn E.took (HasHeard H.grammar H.goes_on E.took reader.old.version reader.old.bits reader.old.block from (S.left reader.old.source.now) sink.old) ear.old (λ first.
-        OnOk result (HasHeardAll H.grammar H.goes_on E.took from (S.left reader.new.source.now) sink.new first ear.new)) }
-    ensures short { (from : Option (List ℕ)) → HeardOn E.took (HasHeard H.grammar H.goes_on E.took reader.old.version reader.old.bits reader.old.block from (S.left reader.old.source.now) sink.old) ear.old (λ first.
-        IfErr result (StopsShort H.grammar E.took E.broke from (S.left reader.new.source.now) first ear.new)) }
-    ensures caused { IfErr result (IsCausedBy (S.faults reader.old.source.now) (S.faults reader.new.source.now) (E.faults ear.old) (E.faults ear.new)) }
-    ensures taken { (taken : List ℕ) × Consumes (S.left reader.old.source.now) (S.left reader.new.source.now) taken }
-    ensures input_later { S.faults reader.old.source.now ≤ S.faults reader.new.source.now }
-    ensures ear_later { E.faults ear.old ≤ E.faults ear.new }
-{
-    while hear_block(rt, sink, reader, gate, ear)? {}
-    Ok(())
+    ghost reported = { λ sink fed x y h. h.1 };
 }
 
 /// Reads a capture, feeds each block to the sink and reports to the ear what it decides, and at the end the rest.
@@ -119,7 +64,7 @@ fn hear_blocks<R: Threads, S: Source, H: Hears, E: Ear, G: Gate>(
 ///
 /// `Bad` where the bytes are no capture, and `Read` where a read failed: what the whole blocks before
 /// decide was reported to the ear. `Ear` where a call of the ear failed.
-pub(crate) fn hear_capture<R: Threads, S: Source, H: Hears, E: Ear, G: Gate>(
+pub(crate) fn hear_capture<R: Threads, S: Source, H: Hears, E: Ear, G: BlockGate>(
     rt: &R,
     sink: &mut LaneSink<H>,
     input: &mut S,
@@ -145,13 +90,5 @@ pub(crate) fn hear_capture<R: Threads, S: Source, H: Hears, E: Ear, G: Gate>(
     ensures input_later { S.faults input.old ≤ S.faults input.new }
     ensures ear_later { E.faults ear.old ≤ E.faults ear.new }
 {
-    let mut reader = CaptureReader::new(input);
-    if let Err(error) = reader.open() {
-        return Err(refused(error));
-    }
-    hear_blocks(rt, sink, &mut reader, gate, ear)?;
-    match sink.finish(ear) {
-        Ok(outcome) => Ok(outcome),
-        Err(_) => Err(HearError::Ear),
-    }
+    read_capture(rt, sink, input, gate, ear)
 }

@@ -1,27 +1,25 @@
 //! Vabgrot: the sender and the receiver of one HDMI TMDS link.
 #![tactic(auto)]
 
-mod copying;
+mod block_gate;
+mod commands;
 mod ending;
 mod hearing;
-mod hit;
 mod laws;
 mod lister;
-mod making;
+mod listing;
 mod note;
-mod rastering;
-mod recovering;
+mod reading;
 mod run;
-mod sample;
-mod sending;
 mod slice_source;
 #[cfg(test)]
 mod tests;
-mod track;
 mod track_lister;
 mod tracking;
 mod words;
+mod writing;
 
+pub use block_gate::BlockGate;
 use lane_team::Open;
 use outside_io::{ReadSource, WriteSink, write_all};
 pub use run::run;

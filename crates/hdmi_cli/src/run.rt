@@ -14,20 +14,26 @@ ghost use Rattle.command_line.specs.declared.command.Command.{Command as Command
 ghost use Rattle.command_line.specs.declared.command.Command.TheVariants.{Relay as RelayCommand, Sample};
 
 use crate::Words;
-use crate::copying::{damage, slip};
+use crate::block_gate::BlockGate;
+use crate::commands::check::check;
+use crate::commands::damage::damage;
+use crate::commands::make_content::make_content;
+use crate::commands::make_dvi::make_dvi;
+use crate::commands::make_link::make_link;
+use crate::commands::read_biphase::read_biphase;
+use crate::commands::recover_biphase::recover_biphase;
+use crate::commands::recover_content::recover_content;
+use crate::commands::recover_dvi::recover_dvi;
+use crate::commands::recover_link::recover_link;
+use crate::commands::recover_track::recover_track;
+use crate::commands::relay_capture::relay_capture;
+use crate::commands::sample::count_sample;
+use crate::commands::slip::slip;
 use crate::ending::Ending;
-use crate::making::{make_content, make_dvi, make_link};
 use crate::note::write_note;
-use crate::recovering::{
-    check, read_biphase, recover_biphase, recover_content, recover_dvi, recover_link,
-};
-use crate::sample::count_sample;
-use crate::sending::send_on;
-use crate::track::recover_track;
 use command_line::Command;
-use lane_team::Gate;
 use outside_io::{Sink, Source};
-use relay_laws::{relayed_account, relayed_again, whole_relayed};
+use relay_laws::{alone_relayed, relayed_account, relayed_again, whole_relayed};
 use std::alloc::Global;
 use std::thread::Threads;
 
@@ -41,7 +47,7 @@ use std::thread::Threads;
 /// copies a capture, block by block, with the ten bits of each hit replaced, and `slip` without some bits of a lane;
 /// `sample` reads nothing, and counts what becomes of generated frames that were damaged and recovered. A worker of
 /// each lane passes the gate for each block.
-pub fn run<R: Threads, S: Source, K: Sink, N: Sink, G: Gate>(
+pub fn run<R: Threads, S: Source, K: Sink, N: Sink, G: BlockGate>(
     rt: &R,
     alloc: Global,
     words: &Words,
@@ -110,6 +116,7 @@ pub fn run<R: Threads, S: Source, K: Sink, N: Sink, G: Gate>(
     ensures output_later { K.faults output.old ≤ K.faults output.new }
     ensures notes_later { N.faults notes.old ≤ N.faults notes.new }
 {
+    alone_relayed();
     relayed_account();
     relayed_again();
     whole_relayed();
@@ -120,7 +127,7 @@ pub fn run<R: Threads, S: Source, K: Sink, N: Sink, G: Gate>(
 
 /// Does what the words say.
 #[tactic(auto, using(crate::proofs::Consumed::takes_none))]
-fn carry_out<R: Threads, S: Source, K: Sink, G: Gate>(
+fn carry_out<R: Threads, S: Source, K: Sink, G: BlockGate>(
     rt: &R,
     alloc: Global,
     words: &Words,
@@ -153,7 +160,7 @@ fn carry_out<R: Threads, S: Source, K: Sink, G: Gate>(
         Command::Damage(damages) => damage(alloc, damages.as_slice(), input, output),
         Command::Slip(words) => slip(alloc, words, input, output),
         Command::ReadBiphase => read_biphase(input, output),
-        Command::Relay => send_on(rt, alloc, input, output, gate),
+        Command::Relay => relay_capture(rt, alloc, input, output, gate),
         Command::Sample(frames) => count_sample(rt, alloc, frames, output, gate),
     }
 }

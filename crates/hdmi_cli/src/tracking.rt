@@ -1,85 +1,55 @@
 //! Follows a capture whose lanes may lose bits, block by block, while it is read.
-ghost use Rattle.std.specs.Prelude.{◌≡◌, ◌≤◌, ◌+◌, ◌*◌, ◌^◌, ◌<◌, ℕ, List, [], true, false, Option, IfOk, OnOk, IfErr};
+ghost use Rattle.std.specs.Prelude.{◌≡◌, ◌≤◌, ℕ, List, [], true, IfOk, OnOk, IfErr};
 ghost use Rattle.std.specs.Io.KnownBytes.{Consumes, IsAtEnd};
-ghost use Rattle.capture_file.specs.Captures.{CanSay};
 ghost use Rattle.link_sink.specs.Pieces.{no_bits};
-ghost use Rattle.track_sink.specs.TrackSinks.{TrackSinkRepresents, most_bits};
-ghost use Rattle.hdmi_cli.specs.Hearings.{IsCausedBy};
-ghost use Rattle.hdmi_cli.specs.Tracking.{AreFollowed, FollowedOn, HasFollowed, HasFollowedAll, IsTrackedWhole, StopsOn};
+ghost use Rattle.track_sink.specs.TrackSinks.{TrackSinkRepresents, bits_fed, most_bits};
+ghost use Rattle.hdmi_cli.specs.Reading.{IsCausedBy};
+ghost use Rattle.hdmi_cli.specs.Tracking.{IsTrackedSoFar, IsTrackedWhole, LosesLast, LosesPast, StopsOn, TracksOn, TracksWhole};
 
-use crate::hearing::{HearError, refused};
-use capture_file::CaptureReader;
-use outside_io::Source;
+use crate::block_gate::BlockGate;
+use crate::reading::{BlockSink, HearError, read_capture};
+use lane_team::Open;
+use outside_io::{Failed, Source};
 use std::thread::Threads;
+use tmds_word::LaneBits;
 use track_sink::{TrackEar, TrackOutcome, TrackSink};
 
-/// Reads one block, feeds it to the sink and reports to the ear what it decides, and says whether there was one.
-fn follow_block<R: Threads, S: Source, E: TrackEar>(
-    rt: &R,
-    sink: &mut TrackSink,
-    reader: &mut CaptureReader<'_, S>,
-    ear: &mut E,
-) -> Result<bool, HearError>
-    requires open { sink.old.is_open ≡ true }
-    requires more { reader.old.is_open ≡ true }
-    requires fed { AreFollowed sink.old reader.old.bits reader.old.block }
-    requires said { CanSay reader.old.version reader.old.bits }
-    ensures same { reader.new.source.ghost_name ≡ reader.old.source.ghost_name }
-    ensures version { reader.new.version ≡ reader.old.version }
-    ensures bits { reader.new.bits ≡ reader.old.bits }
-    ensures open { OnOk result (sink.new.is_open ≡ true) }
-    ensures more { IfOk result (λ more. reader.new.is_open ≡ more) }
-    ensures below { IfOk result (λ more. more ≡ true → 32768 * reader.old.block < 2 ^ 32) }
-    ensures block { IfOk result (λ more. more ≡ true → reader.new.block ≡ reader.old.block + 1) }
-    ensures fed { IfOk result (λ more. more ≡ true → AreFollowed sink.new reader.old.bits (reader.old.block + 1)) }
-    ensures heard { (from : Option (List ℕ)) → FollowedOn E.tracked (HasFollowed E.tracked reader.old.version reader.old.bits reader.old.block from (S.left reader.old.source.now) sink.old) ear.old (λ first.
-        IfOk result (λ more. more ≡ true → HasFollowed E.tracked reader.old.version reader.old.bits (reader.old.block + 1) from (S.left reader.new.source.now) sink.new first ear.new)) }
-    ensures ended { IfOk result (λ more. more ≡ false → IsAtEnd (S.left reader.new.source.now)) }
-    ensures whole { (from : Option (List ℕ)) → FollowedOn E.tracked (HasFollowed E.tracked reader.old.version reader.old.bits reader.old.block from (S.left reader.old.source.now) sink.old) ear.old (λ first.
-        IfOk result (λ more. more ≡ false → HasFollowedAll E.tracked from (S.left reader.new.source.now) sink.new first ear.new)) }
-    ensures short { (from : Option (List ℕ)) → FollowedOn E.tracked (HasFollowed E.tracked reader.old.version reader.old.bits reader.old.block from (S.left reader.old.source.now) sink.old) ear.old (λ first.
-        IfErr result (StopsOn E.tracked E.lost from (S.left reader.new.source.now) first ear.new)) }
-    ensures caused { IfErr result (IsCausedBy (S.faults reader.old.source.now) (S.faults reader.new.source.now) (E.faults ear.old) (E.faults ear.new)) }
-    ensures taken { (taken : List ℕ) × Consumes (S.left reader.old.source.now) (S.left reader.new.source.now) taken }
-    ensures input_later { S.faults reader.old.source.now ≤ S.faults reader.new.source.now }
-    ensures ear_later { E.faults ear.old ≤ E.faults ear.new }
-{
-    match reader.next() {
-        Ok(Some(block)) => match sink.feed(rt, block, ear) {
-            Ok(()) => Ok(true),
-            Err(_) => Err(HearError::Ear),
-        },
-        Ok(None) => Ok(false),
-        Err(error) => Err(refused(error)),
-    }
-}
+impl<E: TrackEar> BlockSink<E> for TrackSink {
+    ghost use Rattle.hdmi_cli.specs.Tracking.{tracked_so_far};
 
-/// Reads and feeds block after block, to the end.
-#[tactic(auto, using(crate::proofs::Consumed::takes_none))]
-fn follow_blocks<R: Threads, S: Source, E: TrackEar>(
-    rt: &R,
-    sink: &mut TrackSink,
-    reader: &mut CaptureReader<'_, S>,
-    ear: &mut E,
-) -> Result<(), HearError>
-    requires open { sink.old.is_open ≡ true }
-    requires more { reader.old.is_open ≡ true }
-    requires fed { AreFollowed sink.old reader.old.bits reader.old.block }
-    requires said { CanSay reader.old.version reader.old.bits }
-    ensures same { reader.new.source.ghost_name ≡ reader.old.source.ghost_name }
-    ensures open { OnOk result (sink.new.is_open ≡ true) }
-    ensures ended { OnOk result (IsAtEnd (S.left reader.new.source.now)) }
-    ensures whole { (from : Option (List ℕ)) → FollowedOn E.tracked (HasFollowed E.tracked reader.old.version reader.old.bits reader.old.block from (S.left reader.old.source.now) sink.old) ear.old (λ first.
-        OnOk result (HasFollowedAll E.tracked from (S.left reader.new.source.now) sink.new first ear.new)) }
-    ensures short { (from : Option (List ℕ)) → FollowedOn E.tracked (HasFollowed E.tracked reader.old.version reader.old.bits reader.old.block from (S.left reader.old.source.now) sink.old) ear.old (λ first.
-        IfErr result (StopsOn E.tracked E.lost from (S.left reader.new.source.now) first ear.new)) }
-    ensures caused { IfErr result (IsCausedBy (S.faults reader.old.source.now) (S.faults reader.new.source.now) (E.faults ear.old) (E.faults ear.new)) }
-    ensures taken { (taken : List ℕ) × Consumes (S.left reader.old.source.now) (S.left reader.new.source.now) taken }
-    ensures input_later { S.faults reader.old.source.now ≤ S.faults reader.new.source.now }
-    ensures ear_later { E.faults ear.old ≤ E.faults ear.new }
-{
-    while follow_block(rt, sink, reader, ear)? {}
-    Ok(())
+    type Outcome = TrackOutcome;
+
+    ghost is_open = { λ s. s.is_open };
+
+    ghost bits = { λ s lane. bits_fed s lane };
+
+    ghost faults = { E.faults };
+
+    ghost heard = { λ s fed x y. TracksOn E.tracked s fed x y };
+
+    ghost so_far = { λ fed x y. IsTrackedSoFar E.tracked fed x y };
+
+    ghost stops = { λ before after x y. LosesPast E.tracked E.lost before after x y };
+
+    ghost whole = { λ fed outcome x y. TracksWhole E.tracked fed outcome.epochs outcome.aligned x y };
+
+    ghost stops_last = { λ fed x y. LosesLast E.tracked E.lost fed x y };
+
+    fn feed_block<R: Threads, G: BlockGate>(
+        &mut self,
+        rt: &R,
+        block: LaneBits<'_>,
+        _gate: &G,
+        ear: &mut E,
+    ) -> Result<(), Failed> {
+        self.feed(rt, block, ear)
+    }
+
+    fn end<R: Threads>(&mut self, rt: &R, ear: &mut E) -> Result<TrackOutcome, Failed> {
+        self.finish(rt, ear)
+    }
+
+    ghost reported = { λ sink fed x y h. tracked_so_far E.tracked sink fed x y h };
 }
 
 /// Reads a capture, feeds each block to the sink and reports to the ear what it decides, and at the end the rest.
@@ -106,13 +76,5 @@ pub(crate) fn follow_capture<R: Threads, S: Source, E: TrackEar>(
     ensures input_later { S.faults input.old ≤ S.faults input.new }
     ensures ear_later { E.faults ear.old ≤ E.faults ear.new }
 {
-    let mut reader = CaptureReader::new(input);
-    if let Err(error) = reader.open() {
-        return Err(refused(error));
-    }
-    follow_blocks(rt, sink, &mut reader, ear)?;
-    match sink.finish(rt, ear) {
-        Ok(outcome) => Ok(outcome),
-        Err(_) => Err(HearError::Ear),
-    }
+    read_capture(rt, sink, input, &Open, ear)
 }

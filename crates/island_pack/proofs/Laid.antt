@@ -14,7 +14,7 @@ use Rattle.terc4.proofs.Members.{is_some-value_in}
 use Rattle.bch_block.specs.Bits.{bit}
 use Rattle.island_pack.specs.Nibbles.{nibble_of, nibbles_of, sync_values, header_bits, by_turns, body_bits}
 use Rattle.island_pack.specs.Packets.{IsPacket, BeginsWith, body_of, AreTerc, Carries}
-use Rattle.island_pack.specs.Registers.{crossed_of, laid_nibbles, register_words}
+use Rattle.island_pack.specs.Registers.{blue_of, crossed_of, laid_nibbles, register_words}
 use Rattle.island_pack.specs.declared.packet.Packet.{Packet}
 use Rattle.island_pack.proofs.Columns.{length-nibbles_of}
 use Rattle.island_pack.proofs.Parts.{each_body}
@@ -24,7 +24,7 @@ is_terc-word : (n : ℕ) → n < 16 → is_terc (slice_index terc_words n) ≡ t
 unfolding is_terc
 is_terc-word n lt = sym (is_some-value_in terc_words (slice_index terc_words n)) ∙ ap is_some (value_of_terc n lt)
 
-crossed-lt : (blocks : List ℕ) (place : ℕ) → crossed_of blocks place < 16
+pub crossed-lt : (blocks : List ℕ) (place : ℕ) → crossed_of blocks place < 16
 unfolding crossed_of
 crossed-lt blocks place = grind (arith, bit_at-lt)
 
@@ -97,6 +97,12 @@ turns_by_places b (g ∷ gs) (r ∷ rs) m (suc k) lg lr hg hr =
     (λ i lt. hg (suc i) (omega arith) ∙ later (2 * i) (2 * suc i) (omega arith))
     (λ i lt. hr (suc i) (omega arith) ∙ later (2 * i + 1) (2 * suc i + 1) (omega arith))))
     ∙ ap (λ n. number_bits n m) two
+
+-- the words of a column whose nibbles are known
+pub laid : (header : ℕ) (bodies : List ℕ) (s sync : ℕ) (first : Bool) (i green red : ℕ) (words : List ℕ) → words ≡ register_words (blue_of header s first i ∷ green ∷ red ∷ []) → s ≡ sync
+    → green ≡ crossed_of bodies (2 * i) → red ≡ crossed_of bodies (2 * i + 1) → words ≡ register_words (laid_nibbles header bodies sync first i)
+unfolding laid_nibbles
+laid header bodies s sync first i green red words e es eg er = e ∙ λ j. register_words (blue_of header (es j) first i ∷ eg j ∷ er j ∷ [])
 
 pub carried : (packet : Packet) (first : Bool) (columns : List (List ℕ)) (header : ℕ) (bodies : List ℕ) → IsPacket packet → All (λ v. v < 4) packet.sync
     → length columns ≡ 32 → BeginsWith (number_bits 32 header) packet.header

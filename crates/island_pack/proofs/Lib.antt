@@ -11,3 +11,4 @@ pub mod Spelled
 mod PacketRanges
 pub mod Repaired
 pub mod RepairedBlocks
+pub mod Apart

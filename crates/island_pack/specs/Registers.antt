@@ -1,8 +1,12 @@
 -- Numbers in which the code moves the bits of several nibbles at once. Only the contracts of private functions cite them.
-use Rattle.std.specs.Prelude.{ℕ, ◌+◌, ◌*◌, Bool, not, ◌&&◌, ◌==◌, List, [], ◌∷◌, map, slice_index}
+use Rattle.std.specs.Prelude.{ℕ, ◌+◌, ◌*◌, Bool, not, ◌&&◌, ◌==◌, List, [], ◌∷◌, map, slice_index, unwrap_or}
 use Rattle.std.specs.Int.{bit_at}
-use Rattle.terc4.specs.Tables.{terc_words}
+use Rattle.terc4.specs.Tables.{terc_words, value_in}
 use Rattle.terc4.specs.Columns.{one_if}
+
+-- the four bits that a word carries; 16 where it is no TERC4 word
+unfoldable pub code_of : ℕ → ℕ
+code_of word = unwrap_or (value_in terc_words word) 16
 
 -- bit b of a nibble in byte b
 unfoldable pub spread_of : ℕ → ℕ
@@ -14,10 +18,20 @@ crossed_of blocks place =
     bit_at (slice_index blocks 0) place + 2 * bit_at (slice_index blocks 1) place
     + 4 * bit_at (slice_index blocks 2) place + 8 * bit_at (slice_index blocks 3) place
 
+-- bit i of a byte in byte i
+unfoldable pub apart_of : ℕ → ℕ
+apart_of n =
+    bit_at n 0 + 256 * bit_at n 1 + 65536 * bit_at n 2 + 16777216 * bit_at n 3
+    + 4294967296 * bit_at n 4 + 1099511627776 * bit_at n 5 + 281474976710656 * bit_at n 6 + 72057594037927936 * bit_at n 7
+
+-- the nibble of lane 0 in column i
+abbrev pub blue_of : ℕ → ℕ → Bool → ℕ → ℕ
+blue_of header sync first i = sync + 4 * bit_at header i + 8 * one_if (not (first && (i == 0)))
+
 -- the nibbles of column i, from the blocks of the header and of the four bodies
 unfoldable pub laid_nibbles : ℕ → List ℕ → ℕ → Bool → ℕ → List ℕ
 laid_nibbles header bodies sync first i =
-    (sync + 4 * bit_at header i + 8 * one_if (not (first && (i == 0)))) ∷ crossed_of bodies (2 * i) ∷ crossed_of bodies (2 * i + 1) ∷ []
+    blue_of header sync first i ∷ crossed_of bodies (2 * i) ∷ crossed_of bodies (2 * i + 1) ∷ []
 
 -- the TERC4 words of nibbles
 unfoldable pub register_words : List ℕ → List ℕ

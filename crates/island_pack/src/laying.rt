@@ -1,15 +1,275 @@
 //! Packets laid into columns.
-ghost use Rattle.std.specs.Prelude.{◌≡◌, ◌<◌, ◌*◌, ◌&&◌, ◌==◌, ℕ, not, All, take, drop, slice_index};
+ghost use Rattle.std.specs.Prelude.{◌≡◌, ◌<◌, ◌≤◌, ◌+◌, ◌*◌, ◌/◌, ◌%◌, ◌^◌, ◌&&◌, ◌==◌, ◌∷◌, [], ℕ, not, All, take, drop, slice_index, slice_index_or};
 ghost use Rattle.std.specs.Int.{bit_at};
 ghost use Rattle.tmds_word.specs.Bits.{bits_of};
 ghost use Rattle.terc4.specs.Columns.{one_if};
 ghost use Rattle.island_pack.specs.Packets.{Carries, BeginsWith, body_of};
-ghost use Rattle.island_pack.specs.Registers.{crossed_of, laid_nibbles, register_words};
+ghost use Rattle.island_pack.specs.Registers.{apart_of, blue_of, crossed_of, register_words};
 
 use crate::packet::Packet;
 use bch_block::{parity32, parity64};
 use terc4::terc;
 use tmds_word::Word;
+
+/// For each byte, the number that has bit i of it in byte i.
+static APART: [u64; 256] = [
+    0x0000000000000000,
+    0x0000000000000001,
+    0x0000000000000100,
+    0x0000000000000101,
+    0x0000000000010000,
+    0x0000000000010001,
+    0x0000000000010100,
+    0x0000000000010101,
+    0x0000000001000000,
+    0x0000000001000001,
+    0x0000000001000100,
+    0x0000000001000101,
+    0x0000000001010000,
+    0x0000000001010001,
+    0x0000000001010100,
+    0x0000000001010101,
+    0x0000000100000000,
+    0x0000000100000001,
+    0x0000000100000100,
+    0x0000000100000101,
+    0x0000000100010000,
+    0x0000000100010001,
+    0x0000000100010100,
+    0x0000000100010101,
+    0x0000000101000000,
+    0x0000000101000001,
+    0x0000000101000100,
+    0x0000000101000101,
+    0x0000000101010000,
+    0x0000000101010001,
+    0x0000000101010100,
+    0x0000000101010101,
+    0x0000010000000000,
+    0x0000010000000001,
+    0x0000010000000100,
+    0x0000010000000101,
+    0x0000010000010000,
+    0x0000010000010001,
+    0x0000010000010100,
+    0x0000010000010101,
+    0x0000010001000000,
+    0x0000010001000001,
+    0x0000010001000100,
+    0x0000010001000101,
+    0x0000010001010000,
+    0x0000010001010001,
+    0x0000010001010100,
+    0x0000010001010101,
+    0x0000010100000000,
+    0x0000010100000001,
+    0x0000010100000100,
+    0x0000010100000101,
+    0x0000010100010000,
+    0x0000010100010001,
+    0x0000010100010100,
+    0x0000010100010101,
+    0x0000010101000000,
+    0x0000010101000001,
+    0x0000010101000100,
+    0x0000010101000101,
+    0x0000010101010000,
+    0x0000010101010001,
+    0x0000010101010100,
+    0x0000010101010101,
+    0x0001000000000000,
+    0x0001000000000001,
+    0x0001000000000100,
+    0x0001000000000101,
+    0x0001000000010000,
+    0x0001000000010001,
+    0x0001000000010100,
+    0x0001000000010101,
+    0x0001000001000000,
+    0x0001000001000001,
+    0x0001000001000100,
+    0x0001000001000101,
+    0x0001000001010000,
+    0x0001000001010001,
+    0x0001000001010100,
+    0x0001000001010101,
+    0x0001000100000000,
+    0x0001000100000001,
+    0x0001000100000100,
+    0x0001000100000101,
+    0x0001000100010000,
+    0x0001000100010001,
+    0x0001000100010100,
+    0x0001000100010101,
+    0x0001000101000000,
+    0x0001000101000001,
+    0x0001000101000100,
+    0x0001000101000101,
+    0x0001000101010000,
+    0x0001000101010001,
+    0x0001000101010100,
+    0x0001000101010101,
+    0x0001010000000000,
+    0x0001010000000001,
+    0x0001010000000100,
+    0x0001010000000101,
+    0x0001010000010000,
+    0x0001010000010001,
+    0x0001010000010100,
+    0x0001010000010101,
+    0x0001010001000000,
+    0x0001010001000001,
+    0x0001010001000100,
+    0x0001010001000101,
+    0x0001010001010000,
+    0x0001010001010001,
+    0x0001010001010100,
+    0x0001010001010101,
+    0x0001010100000000,
+    0x0001010100000001,
+    0x0001010100000100,
+    0x0001010100000101,
+    0x0001010100010000,
+    0x0001010100010001,
+    0x0001010100010100,
+    0x0001010100010101,
+    0x0001010101000000,
+    0x0001010101000001,
+    0x0001010101000100,
+    0x0001010101000101,
+    0x0001010101010000,
+    0x0001010101010001,
+    0x0001010101010100,
+    0x0001010101010101,
+    0x0100000000000000,
+    0x0100000000000001,
+    0x0100000000000100,
+    0x0100000000000101,
+    0x0100000000010000,
+    0x0100000000010001,
+    0x0100000000010100,
+    0x0100000000010101,
+    0x0100000001000000,
+    0x0100000001000001,
+    0x0100000001000100,
+    0x0100000001000101,
+    0x0100000001010000,
+    0x0100000001010001,
+    0x0100000001010100,
+    0x0100000001010101,
+    0x0100000100000000,
+    0x0100000100000001,
+    0x0100000100000100,
+    0x0100000100000101,
+    0x0100000100010000,
+    0x0100000100010001,
+    0x0100000100010100,
+    0x0100000100010101,
+    0x0100000101000000,
+    0x0100000101000001,
+    0x0100000101000100,
+    0x0100000101000101,
+    0x0100000101010000,
+    0x0100000101010001,
+    0x0100000101010100,
+    0x0100000101010101,
+    0x0100010000000000,
+    0x0100010000000001,
+    0x0100010000000100,
+    0x0100010000000101,
+    0x0100010000010000,
+    0x0100010000010001,
+    0x0100010000010100,
+    0x0100010000010101,
+    0x0100010001000000,
+    0x0100010001000001,
+    0x0100010001000100,
+    0x0100010001000101,
+    0x0100010001010000,
+    0x0100010001010001,
+    0x0100010001010100,
+    0x0100010001010101,
+    0x0100010100000000,
+    0x0100010100000001,
+    0x0100010100000100,
+    0x0100010100000101,
+    0x0100010100010000,
+    0x0100010100010001,
+    0x0100010100010100,
+    0x0100010100010101,
+    0x0100010101000000,
+    0x0100010101000001,
+    0x0100010101000100,
+    0x0100010101000101,
+    0x0100010101010000,
+    0x0100010101010001,
+    0x0100010101010100,
+    0x0100010101010101,
+    0x0101000000000000,
+    0x0101000000000001,
+    0x0101000000000100,
+    0x0101000000000101,
+    0x0101000000010000,
+    0x0101000000010001,
+    0x0101000000010100,
+    0x0101000000010101,
+    0x0101000001000000,
+    0x0101000001000001,
+    0x0101000001000100,
+    0x0101000001000101,
+    0x0101000001010000,
+    0x0101000001010001,
+    0x0101000001010100,
+    0x0101000001010101,
+    0x0101000100000000,
+    0x0101000100000001,
+    0x0101000100000100,
+    0x0101000100000101,
+    0x0101000100010000,
+    0x0101000100010001,
+    0x0101000100010100,
+    0x0101000100010101,
+    0x0101000101000000,
+    0x0101000101000001,
+    0x0101000101000100,
+    0x0101000101000101,
+    0x0101000101010000,
+    0x0101000101010001,
+    0x0101000101010100,
+    0x0101000101010101,
+    0x0101010000000000,
+    0x0101010000000001,
+    0x0101010000000100,
+    0x0101010000000101,
+    0x0101010000010000,
+    0x0101010000010001,
+    0x0101010000010100,
+    0x0101010000010101,
+    0x0101010001000000,
+    0x0101010001000001,
+    0x0101010001000100,
+    0x0101010001000101,
+    0x0101010001010000,
+    0x0101010001010001,
+    0x0101010001010100,
+    0x0101010001010101,
+    0x0101010100000000,
+    0x0101010100000001,
+    0x0101010100000100,
+    0x0101010100000101,
+    0x0101010100010000,
+    0x0101010100010001,
+    0x0101010100010100,
+    0x0101010100010101,
+    0x0101010101000000,
+    0x0101010101000001,
+    0x0101010101000100,
+    0x0101010101000101,
+    0x0101010101010000,
+    0x0101010101010001,
+    0x0101010101010100,
+    0x0101010101010101,
+];
 
 /// The blocks of a packet as numbers, the first bit of each lowest.
 #[derive(Clone, Copy)]
@@ -26,8 +286,10 @@ pub fn lay(packet: &Packet, first: bool, out: &mut [[Word; 3]; 32])
     ensures { Carries packet.now first out.new }
 {
     let blocks = blocks_of(packet);
+    let rows = rows_of(&blocks.bodies);
     for i in 0..32 {
-        out[i] = column_of(&blocks, packet.sync[i], first, i as u8);
+        let bodies = pair_in(&rows, i);
+        out[i] = column_of(blocks.header, bodies, packet.sync[i], first, i as u8);
     }
 }
 
@@ -78,17 +340,31 @@ fn body_block(bodies: &[u8; 28], b: usize) -> u64
     u64::from_le_bytes([b0, b1, b2, b3, b4, b5, b6, parity64(&body)])
 }
 
-/// The words of column i.
-fn column_of(blocks: &Blocks, sync: u8, first: bool, i: u8) -> [Word; 3]
+/// The nibbles of places 2i and 2i + 1.
+fn pair_in(rows: &[[u8; 8]; 8], i: usize) -> [u8; 2]
+    requires { i < 32 }
+    ensures green { slice_index result 0 ≡ slice_index (slice_index_or rows.now (i / 4) []) (2 * (i % 4)) }
+    ensures red { slice_index result 1 ≡ slice_index (slice_index_or rows.now (i / 4) []) (2 * (i % 4) + 1) }
+{
+    let row = &rows[i / 4];
+    let at = 2 * (i % 4);
+    [row[at], row[at + 1]]
+}
+
+/// The words of column i, from the header's block and the nibbles of the bodies' blocks.
+fn column_of(header: u32, bodies: [u8; 2], sync: u8, first: bool, i: u8) -> [Word; 3]
     requires sync { sync < 4 }
     requires column { i < 32 }
-    ensures { result ≡ register_words (laid_nibbles blocks.now.header blocks.now.bodies sync first i) }
+    requires green { slice_index bodies 0 < 16 }
+    requires red { slice_index bodies 1 < 16 }
+    ensures { result ≡ register_words (blue_of header sync first i ∷ slice_index bodies 0 ∷ slice_index bodies 1 ∷ []) }
 {
-    let header_bit = bit(u64::from(blocks.header), i);
+    let header_bit = bit(u64::from(header), i);
+    let [green, red] = bodies;
     [
         terc(sync + 4 * header_bit + 8 * mark(first, i)),
-        terc(crossed(&blocks.bodies, 2 * i)),
-        terc(crossed(&blocks.bodies, 2 * i + 1)),
+        terc(green),
+        terc(red),
     ]
 }
 
@@ -100,14 +376,49 @@ fn mark(first: bool, i: u8) -> u8
     if first && i == 0 { 0 } else { 1 }
 }
 
-/// The bits of the four numbers at one place, the first number's lowest.
-fn crossed(blocks: &[u64; 4], place: u8) -> u8
-    requires { place < 64 }
-    ensures value { result ≡ crossed_of blocks.now place }
-    ensures below { result < 16 }
+/// The bits of the four numbers at each place, the first number's lowest: row r has places 8r to 8r + 7.
+fn rows_of(blocks: &[u64; 4]) -> [[u8; 8]; 8]
+    ensures { (r i : ℕ) → r < 8 → i < 8 → slice_index (slice_index_or result r []) i ≡ crossed_of blocks.now (8 * r + i) }
+{
+    [
+        row(blocks, 0),
+        row(blocks, 1),
+        row(blocks, 2),
+        row(blocks, 3),
+        row(blocks, 4),
+        row(blocks, 5),
+        row(blocks, 6),
+        row(blocks, 7),
+    ]
+}
+
+/// The bits of the four numbers at eight places, from place 8r on.
+fn row(blocks: &[u64; 4], r: u8) -> [u8; 8]
+    requires { r < 8 }
+    ensures { (i : ℕ) → i < 8 → slice_index result i ≡ crossed_of blocks.now (8 * r + i) }
 {
     let [first, second, third, fourth] = *blocks;
-    bit(first, place) + 2 * bit(second, place) + 4 * bit(third, place) + 8 * bit(fourth, place)
+    let crossed = apart(byte(first, r))
+        + 2 * apart(byte(second, r))
+        + 4 * apart(byte(third, r))
+        + 8 * apart(byte(fourth, r));
+    crossed.to_le_bytes()
+}
+
+/// Byte r of a number.
+fn byte(block: u64, r: u8) -> u8
+    requires { r < 8 }
+    ensures { result ≡ block / 2 ^ (8 * r) % 256 }
+{
+    ((block >> (8 * r)) & 0xff) as u8
+}
+
+/// The number that has bit i of a byte in byte i.
+fn apart(byte: u8) -> u64
+    ensures value { result ≡ apart_of byte }
+    ensures below { result ≤ 0x101010101010101 }
+{
+    APART[usize::from(byte)]
 }
 
 /// The bit of a number at a place.

@@ -13,12 +13,16 @@ pub const VIDEO_CTL: u8 = 1;
 /// CTL0 to CTL3 of the preamble of a data island: CTL0 and CTL2 are 1 (HDMI 1.4, section 5.2.1.1).
 pub const ISLAND_CTL: u8 = 5;
 
+/// How many columns a listing, a content or what is relayed may have: a limit of this project's own. Such a stream is held whole
+/// until it is written; so it takes 25,000,000 bytes a lane, and each of its counts fits 32 bits.
+pub const COLUMN_LIMIT: u32 = 20_000_000;
+
 /// Whether control columns may have this value, and so many columns one value after another: a value below 64 in 1 to
-/// 20,000,000 columns.
+/// `COLUMN_LIMIT` columns.
 pub fn is_run_in_range(value: u8, count: u64) -> bool
     ensures { result ≡ is_run_in_range value count }
 {
-    value < 64 && (count >= 1 && count <= 20_000_000)
+    value < 64 && (count >= 1 && count <= u64::from(COLUMN_LIMIT))
 }
 
 /// Whether a control period may have so many columns: 12 at least.
@@ -49,12 +53,12 @@ pub fn is_island_in_range(packets: usize) -> bool
     packets >= 1 && packets <= 18
 }
 
-/// Whether a stream of so many columns, 20,000,000 at most, may have so many more.
+/// Whether a stream of so many columns, `COLUMN_LIMIT` at most, may have so many more.
 pub fn has_room(columns: u32, more: u32) -> bool
-    requires { columns ≤ 20000000 }
+    requires { columns ≤ COLUMN_LIMIT }
     ensures { result ≡ has_room columns more }
 {
-    more <= 20_000_000 - columns
+    more <= COLUMN_LIMIT - columns
 }
 
 /// Whether the sync values of a packet are below 4.

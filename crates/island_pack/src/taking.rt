@@ -1,16 +1,15 @@
 //! Packets taken from columns.
-ghost use Rattle.std.specs.Prelude.{◌≡◌, ◌<◌, ◌≤◌, ◌+◌, ◌*◌, ◌%◌, ◌++◌, ℕ, All, IfSome, length, map, take, drop, slice_index};
+ghost use Rattle.std.specs.Prelude.{◌≡◌, ◌<◌, ◌≤◌, ◌+◌, ◌*◌, ◌%◌, ◌++◌, [], ℕ, All, length, map, take, drop, slice_index, slice_index_or};
 ghost use Rattle.std.specs.Int.{bit_at};
-ghost use Rattle.terc4.specs.Tables.{terc_words, value_in};
 ghost use Rattle.bch_block.specs.Bits.{bit, byte_bits, bits_of_bytes};
 ghost use Rattle.island_pack.specs.Nibbles.{nibbles_of, by_turns, foreign_on};
-ghost use Rattle.island_pack.specs.Registers.{spread_of};
+ghost use Rattle.island_pack.specs.Registers.{spread_of, code_of};
 ghost use Rattle.island_pack.specs.Taken.{IsTaken, Taken};
 ghost use Rattle.island_pack.specs.Repaired.{packet_in, verdicts_in};
 
 use crate::packet::{Packet, PacketVerdicts};
 use bch_block::{Verdict, repair32, repair64};
-use terc4::nibble;
+use terc4::nibble_code;
 use tmds_word::Word;
 
 /// For each nibble, the number that has bit b of it in byte b.
@@ -69,23 +68,34 @@ fn read_lane(columns: &[[Word; 3]; 32], lane: usize) -> Lane
     ensures foreign { result.foreign ≡ foreign_on columns.now lane }
     ensures few { result.foreign ≤ 32 }
 {
+    let codes = codes_on(columns, lane);
     let mut nibbles = [0; 32];
     let mut foreign = 0;
-    for (i, words) in columns.iter().enumerate() {
-        let value = nibble_on(words, lane);
-        nibbles[i] = value.unwrap_or(0);
-        foreign += u8::from(value.is_none());
+    for (i, code) in codes.iter().enumerate() {
+        nibbles[i] = *code % 16;
+        foreign += *code / 16;
     }
     Lane { nibbles, foreign }
 }
 
-/// The nibble of a column's word on a lane.
-fn nibble_on(words: &[Word; 3], lane: usize) -> Option<u8>
+/// The nibble of each word of a lane, and 16 for each word that is no TERC4 word.
+fn codes_on(columns: &[[Word; 3]; 32], lane: usize) -> [u8; 32]
     requires { lane < 3 }
-    ensures value { result ≡ value_in terc_words (slice_index words.now lane) }
-    ensures below { IfSome result (λ value. value < 16) }
+    ensures { (k : ℕ) → k < 32 → slice_index result k ≡ code_of (slice_index (slice_index_or columns.now k []) lane) }
 {
-    nibble(words[lane])
+    let mut codes = [0; 32];
+    for (i, words) in columns.iter().enumerate() {
+        codes[i] = code_on(words, lane);
+    }
+    codes
+}
+
+/// The nibble of a column's word on a lane, and 16 where it is no TERC4 word.
+fn code_on(words: &[Word; 3], lane: usize) -> u8
+    requires { lane < 3 }
+    ensures { result ≡ code_of (slice_index words.now lane) }
+{
+    nibble_code(words[lane])
 }
 
 /// The lowest two bits of each nibble of lane 0.

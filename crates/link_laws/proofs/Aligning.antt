@@ -14,14 +14,12 @@ use Rattle.link_laws.specs.Alternating.{IsAlternating}
 use Rattle.link_laws.proofs.Shapes.{alternating, ends_apart}
 use Rattle.island_pack.specs.Periods.{Period}
 use Rattle.island_pack.specs.Sparse.{AreFew, no_column, column_at, SparesUntil}
-use Rattle.link_laws.proofs.Freely.{free_received}
 use Rattle.link_laws.proofs.Ends.{near_from, flat}
 use Rattle.link_sink.proofs.Decided.{first_decided}
 use Rattle.link_laws.proofs.Lanes.{fitting_length, fitting_at, lane_sent, not_damaged, few_marked}
 use Rattle.link_laws.proofs.Spelled.{fitting_freely}
 use Rattle.island_pack.specs.Kinds.{Kind, IsPayload, kinds_of, kind_at, EndsAt, IsAfterControl}
-use Rattle.link_laws.specs.Freely.{ReceivedFreely, FirstUntilFreely}
-use Rattle.link_laws.specs.Laws.{EndsControl, BeginColumn, HoldsEnd, FirstUntil}
+use Rattle.link_laws.specs.Laws.{ReceivedFreely, EndsControl, BeginColumn, HoldsEnd, FirstUntil}
 use Rattle.link_laws.proofs.Until.{IsReceivedUntil, Holds, edge_until, end_edge}
 
 -- One lane.
@@ -179,8 +177,8 @@ holds_of : (words : List ℕ) (offset : ℕ) (skews counts : List ℕ) (f lane :
     → HoldsEnd offset skews counts f → Holds words (offset + slice_index skews lane) (slice_index counts lane) f
 holds_of words offset skews counts f lane bits lt part h = record { begins = h.begins lane lt; reaches = h.reaches lane lt; within = part.within }
 
-pub first_until_freely : FirstUntilFreely
-first_until_freely ps sent received reception offset skews counts x y z tapped small f aligns =
+pub first_until : FirstUntil
+first_until ps sent received reception offset skews counts x y z tapped small f aligns =
     let a = tapped.blue_part in
     let b = tapped.green_part in
     let c = tapped.red_part in
@@ -191,6 +189,3 @@ first_until_freely ps sent received reception offset skews counts x y z tapped s
       green = holds_of (greens received) offset skews counts f 1 y (omega arith) b aligns.holds;
       red = holds_of (reds received) offset skews counts f 2 z (omega arith) c aligns.holds;
     }))
-
-pub first_until : FirstUntil
-first_until ps sent received reception = first_until_freely ps sent received (free_received ps sent received reception)

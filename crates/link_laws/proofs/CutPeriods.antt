@@ -4,14 +4,12 @@ use Rattle.std.proofs.lemmas.List.{append-nil}
 use Rattle.tmds_word.specs.Column.{Column}
 use Rattle.island_pack.specs.Periods.{Period, control, video, island, period_columns}
 use Rattle.period_grammar.specs.Cut.{stretch, stretches}
-use Rattle.link_laws.specs.Freely.{PeriodsStandFreely}
 use Rattle.link_laws.specs.Laws.{cut_as, PeriodsStand}
-use Rattle.link_laws.proofs.Freely.{free_received}
 use Rattle.link_laws.proofs.Cutting.{AllControl, NoneControl, begins, cut_control, cut_both}
 use Rattle.link_laws.proofs.Conformed.{Conforms, conforming}
 use Rattle.link_laws.proofs.Between.{take_seam, drop_seam, begins_heads, IsControlPeriod}
 use Rattle.link_laws.proofs.Joining.{controls, Arrives, nothing, more, IsTail, ends, goes_on, is_tail, follows_long, inner_gap, first_control}
-use Rattle.link_laws.proofs.Framing.{arrived_freely}
+use Rattle.link_laws.proofs.Framing.{arrived}
 
 pub both : (control gap rest : List Column) → 1 ≤ length control → 1 ≤ length gap → AllControl control → NoneControl gap → begins (stretches rest) ≡ true
     → stretches (control ++ (gap ++ rest)) ≡ stretch control gap ∷ stretches rest
@@ -52,8 +50,5 @@ cut_of (video bytes ∷ rest) sent received c a = absurd c
 cut_of (island x ∷ rest) sent received c a = absurd c
 cut_of (control runs ∷ rest) _ _ c (more _ _ _ _ ss rs (controls _ cs n all) a) = grind (arith, follows_long, cut_from, is_tail)
 
-pub periods_stand_freely : PeriodsStandFreely
-periods_stand_freely ps sent received reception = cut_of ps sent received (conforming ps reception.conforming) (arrived_freely ps sent received reception)
-
 pub periods_stand : PeriodsStand
-periods_stand ps sent received reception = periods_stand_freely ps sent received (free_received ps sent received reception)
+periods_stand ps sent received reception = cut_of ps sent received (conforming ps reception.conforming) (arrived ps sent received reception)

@@ -5,6 +5,7 @@ use Rattle.std.proofs.lemmas.List.{length-map}
 use Rattle.tmds_word.specs.Column.{Column, blues, greens, reds}
 use Rattle.tmds_word.specs.Taps.{part_of, IsPart, IsTap, HasSmallSkew}
 use Rattle.island_pack.specs.Sparse.{SparesUntil}
+use Rattle.link_laws.proofs.Freely.{free_received}
 use Rattle.link_laws.specs.Laws.{HoldsEnd, AlignsUntil, HasExample, HasPayloadExample}
 use Rattle.link_laws.proofs.Stream.{stream, sent, received, damaged, long_received, long_damaged, reception, received_damaged, alone, damaged_spared, after_first, payload_example, damaged_example}
 use Rattle.link_laws.proofs.Aligning.{first_until}
@@ -42,11 +43,11 @@ aligns cs spared = grind (arith, after_first)
 
 pub payload_aligned : HasPayloadExample
 payload_aligned =
-    let first = first_until stream sent received reception 7 skews counts _ _ _ (tapped received long_received) small 24 (aligns received (alone.spares 24)) in
+    let first = first_until stream sent received (free_received stream sent received reception) 7 skews counts _ _ _ (tapped received long_received) small 24 (aligns received (alone.spares 24)) in
     (stream, sent, received, counts, _, _, _, first.0, first.1, first.2, payload_example, record { tapped = tapped received long_received; first = first.3 })
 
 pub example : HasExample
 example =
     let until = aligns damaged damaged_spared in
-    let first = first_until stream sent damaged received_damaged 7 skews counts _ _ _ (tapped damaged long_damaged) small 24 until in
+    let first = first_until stream sent damaged (free_received stream sent damaged received_damaged) 7 skews counts _ _ _ (tapped damaged long_damaged) small 24 until in
     (stream, sent, damaged, counts, 24, _, _, _, first.0, first.1, first.2, damaged_example counts until, record { tapped = tapped damaged long_damaged; first = first.3 })

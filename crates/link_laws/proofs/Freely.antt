@@ -9,9 +9,7 @@ use Rattle.island_pack.specs.Periods.{Period}
 use Rattle.island_pack.specs.Sparse.{unlike_words, IsNarrow, column_at, IsSparse}
 use Rattle.island_pack.specs.Spelling.{SpellsPacketsBy, SpellsPeriodBy, SpellsBy, Spells, freely}
 use Rattle.island_pack.specs.declared.packet.Packet.{Packet}
-use Rattle.link_laws.specs.Freely.{ReceivedFreely, PeriodReceivedFreely}
-use Rattle.link_laws.specs.Laws.{ReceivedOf}
-use Rattle.link_laws.specs.PeriodLaws.{PeriodReceived}
+use Rattle.link_laws.specs.Freely.{FreeReceived}
 
 free_packets : (first : Bool) (ps : List Packet) (cs : List Column) → SpellsPacketsBy Carries first ps cs → SpellsPacketsBy freely first ps cs
 free_packets first [] cs h = h
@@ -24,11 +22,8 @@ pub free_spelled : (ps : List Period) (cs : List Column) → Spells ps cs → Sp
 free_spelled [] cs h = h
 free_spelled (p ∷ ps) cs h = (h.0, h.1, h.2, free_period p h.0 h.3, free_spelled ps h.1 h.4)
 
-pub free_received : (ps : List Period) (sent received : List Column) → ReceivedOf ps sent received → ReceivedFreely ps sent received
+pub free_received : FreeReceived
 free_received ps sent received reception = record { conforming = reception.conforming; spelled = free_spelled ps sent reception.spelled; sparse = reception.sparse }
-
-pub free_period_received : (p : Period) (sent received : List Column) → PeriodReceived p sent received → PeriodReceivedFreely p sent received
-free_period_received p sent received reception = record { spelled = free_period p sent reception.spelled; sparse = reception.sparse }
 
 -- No damage.
 

@@ -11,9 +11,7 @@ use Rattle.link_laws.specs.LaneEnds.{IsReceived, IsLaneSent, IsSparseLane, damag
 use Rattle.link_laws.proofs.LaneEnds.{sparse_received}
 use Rattle.island_pack.specs.Periods.{Period}
 use Rattle.island_pack.specs.Sparse.{unlike_words, AreFew, no_column, column_at, IsSparseInPayload}
-use Rattle.link_laws.specs.Freely.{ReceivedFreely}
-use Rattle.link_laws.specs.Laws.{ReceivedOf}
-use Rattle.link_laws.proofs.Freely.{free_received}
+use Rattle.link_laws.specs.Laws.{ReceivedFreely}
 use Rattle.link_laws.proofs.Spelled.{FitsWord, FitsColumn, Fitting, no_columns, column, fitting_freely}
 
 -- Sent words.
@@ -85,8 +83,8 @@ pub record AreReceived (ps : List Period) (sent received : List Column) : Type 0
   pub green : IsReceived (kinds_of ps) (greens received) (damaged (greens sent) (greens received))
   pub red : IsReceived (kinds_of ps) (reds received) (damaged (reds sent) (reds received))
 
-pub lanes_received_freely : (ps : List Period) (sent received : List Column) → ReceivedFreely ps sent received → IsSparseInPayload ps sent received → AreReceived ps sent received
-lanes_received_freely ps sent received reception alone =
+pub lanes_received : (ps : List Period) (sent received : List Column) → ReceivedFreely ps sent received → IsSparseInPayload ps sent received → AreReceived ps sent received
+lanes_received ps sent received reception alone =
     let ks = kinds_of ps in
     let fit = fitting_freely ps sent reception.conforming reception.spelled in
     let long = fitting_length ks sent fit in
@@ -105,6 +103,3 @@ lanes_received_freely ps sent received reception alone =
           (lane_sent (λ c. c.red) ks sent long (λ i lt. (at i lt).red))
           (lane_sparse (λ c. c.red) ks sent received h.same_length (λ i lt. (h.characters i lt).red) same h.few_red);
     }
-
-pub lanes_received : (ps : List Period) (sent received : List Column) → ReceivedOf ps sent received → IsSparseInPayload ps sent received → AreReceived ps sent received
-lanes_received ps sent received reception = lanes_received_freely ps sent received (free_received ps sent received reception)

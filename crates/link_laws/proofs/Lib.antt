@@ -44,3 +44,6 @@ pub mod FewWrong
 pub mod LocalExample
 pub mod Noticed
 pub mod LocalStream
+pub mod LocalPackets
+pub mod PacketsBeside
+pub mod PacketExample

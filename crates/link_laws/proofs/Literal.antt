@@ -10,9 +10,7 @@ use Rattle.period_grammar.specs.Cut.{runs, Stretch as Cut, stretch, stretches}
 use Rattle.period_grammar.specs.Events.{Event, EventAt, at, all_at, reported_before}
 use Rattle.period_grammar.specs.Heard.{in_gap, at_close, reported_from, end_from, heard_so_far, heard}
 use Rattle.period_grammar.proofs.Joined.{reported_before_is}
-use Rattle.link_laws.specs.Freely.{AccountLiteralFreely}
 use Rattle.link_laws.specs.Literal.{runs_placed, period_placed, periods_placed, placed_from, account_placed, AccountLiteral}
-use Rattle.link_laws.proofs.Freely.{free_received}
 use Rattle.link_laws.proofs.Cutting.{AllControl, NoneControl}
 use Rattle.link_laws.proofs.Rows.{control_columns}
 use Rattle.link_laws.proofs.Conformed.{IsInner, Follows, ends as follows_ends, goes_on as follows_on, Conforms, conforming}
@@ -20,7 +18,7 @@ use Rattle.link_laws.proofs.Between.{take_seam, drop_seam, heads, begins_heads, 
 use Rattle.link_laws.proofs.Joining.{controls, Arrives, nothing, more, IsSized, sized, IsTail, ends, goes_on, is_tail, inner_gap, first_control}
 use Rattle.link_laws.proofs.EndPlaces.{kinds_from, ends_first, ends_only, control_kinds, ends_late, kinds_size}
 use Rattle.link_laws.proofs.Start.{drop_control, drop_over, control_size}
-use Rattle.link_laws.proofs.Framing.{arrived_freely, link_law_freely}
+use Rattle.link_laws.proofs.Framing.{arrived, link_law}
 use Rattle.link_laws.proofs.CutPeriods.{both, alone}
 use Rattle.link_laws.proofs.Placed.{control_placed, period_places}
 
@@ -145,9 +143,6 @@ none_before : (m n : ℕ) (ts : List Event) → m ≤ n → reported_before m (a
 none_before m n [] le = refl
 none_before m n (t ∷ ts) le = ap (λ p. cond p (at n t ∷ reported_before m (all_at n ts)) (reported_before m (all_at n ts))) (le-ltb n m le) ∙ none_before m n ts le
 
-pub account_literal_freely : AccountLiteralFreely
-unfolding heard heard_so_far
-account_literal_freely ps sent received reception a m e within = grind (arith, length-drop, placed_of, conforming, arrived_freely, link_law_freely, reported_before_is, append-nil, none_before, filter-append)
-
 pub account_literal : AccountLiteral
-account_literal ps sent received reception = account_literal_freely ps sent received (free_received ps sent received reception)
+unfolding heard heard_so_far
+account_literal ps sent received reception a m e within = grind (arith, length-drop, placed_of, conforming, arrived, link_law, reported_before_is, append-nil, none_before, filter-append)

@@ -122,7 +122,7 @@ gap_reported j control g gap one all none =
     ∙ ap (reported_from j) (both control (g ∷ gap) [] one (omega arith) all none none_begins ∙ none_left (stretch control (g ∷ gap)))
     ∙ going j control g gap
 
-next_cut : (j : ℕ) (c : Column) → is_control_column c ≡ true → stretches (c ∷ []) ≡ stretch (c ∷ []) [] ∷ []
+pub next_cut : (j : ℕ) (c : Column) → is_control_column c ≡ true → stretches (c ∷ []) ≡ stretch (c ∷ []) [] ∷ []
 unfolding stretches
 next_cut j c h = ap (λ p. before p c []) h
 
@@ -142,24 +142,24 @@ next_reported j e control g gap next one all none h same =
 
 -- Whatever was received before.
 
-heads_append : (k c : List Column) (rest : List Column) → 1 ≤ length c → AllControl k → AllControl c → heads ((k ++ c) ++ rest) ≡ true
+pub heads_append : (k c : List Column) (rest : List Column) → 1 ≤ length c → AllControl k → AllControl c → heads ((k ++ c) ++ rest) ≡ true
 heads_append [] [] rest one a b = absurd (omega arith)
 heads_append [] (c ∷ cs) rest one a b = and-left _ _ b
 heads_append (k ∷ ks) c rest one a b = and-left _ _ a
 
-all_append : (k c : List Column) → AllControl k → AllControl c → AllControl (k ++ c)
+pub all_append : (k c : List Column) → AllControl k → AllControl c → AllControl (k ++ c)
 all_append k c a b = list_all-append is_control_column k c ∙ and_both _ _ a b
 
 -- the control columns that stand before a period: those that were received last of any columns, and these
 abbrev pub control_before : (earlier : List Column) → List Column → List Column
 control_before earlier control = (front_of earlier).control ++ control
 
-shifted : (earlier control rest : List Column) → earlier ++ (control ++ rest) ≡ (front_of earlier).front ++ (control_before earlier control ++ rest)
+pub shifted : (earlier control rest : List Column) → earlier ++ (control ++ rest) ≡ (front_of earlier).front ++ (control_before earlier control ++ rest)
 shifted earlier control rest =
     let f = front_of earlier in
     ap (λ xs. xs ++ (control ++ rest)) f.is ∙ append_assoc f.front f.control (control ++ rest) ∙ ap (λ xs. f.front ++ xs) (sym (append_assoc f.control control rest))
 
-front_length : (earlier control : List Column) → length (front_of earlier).front + length (control_before earlier control) ≡ length earlier + length control
+pub front_length : (earlier control : List Column) → length (front_of earlier).front + length (control_before earlier control) ≡ length earlier + length control
 front_length earlier control =
     let f = front_of earlier in
     let a = ap length f.is in

@@ -12,12 +12,11 @@ use Rattle.lane_deskew.specs.Triples.{IsFirst}
 use Rattle.lane_deskew.proofs.Fed.{first_stays}
 use Rattle.island_pack.specs.Kinds.{kinds_of}
 use Rattle.island_pack.specs.Sparse.{no_column, column_at}
-use Rattle.link_laws.specs.Freely.{ReceivedFreely}
-use Rattle.link_laws.specs.Laws.{EndsControl, AlignsUntil, HoldsEnd}
+use Rattle.link_laws.specs.Laws.{ReceivedFreely, EndsControl, AlignsUntil, HoldsEnd}
 use Rattle.link_laws.specs.Local.{AlignedWhateverFollows}
 use Rattle.link_laws.proofs.Shapes.{alternating, ends_late}
 use Rattle.link_laws.proofs.Aligned.{columns_taken}
-use Rattle.link_laws.proofs.Aligning.{first_until_freely}
+use Rattle.link_laws.proofs.Aligning.{first_until}
 use Rattle.link_laws.proofs.Tapped.{ends, begin_at, characters}
 
 -- a part that lies in the first words has nothing of those after them
@@ -35,10 +34,10 @@ part_grows words from few many le =
     (drop few (take many bits), sym (take-append-drop few (take many bits)) ∙ ap (λ bs. bs ++ drop few (take many bits)) (take-take few many bits le))
 
 -- the first n columns with others after them
-abbrev spliced : ℕ → List Column → List Column → List Column
+abbrev pub spliced : ℕ → List Column → List Column → List Column
 spliced n received sent = take n received ++ drop n sent
 
-lane_front : (g : Column → ℕ) (received sent : List Column) (n from count : ℕ) → n ≤ length received → from + count ≤ 10 * n
+pub lane_front : (g : Column → ℕ) (received sent : List Column) (n from count : ℕ) → n ≤ length received → from + count ≤ 10 * n
     → part_of (map g received) from count ≡ part_of (map g (spliced n received sent)) from count
 lane_front g received sent n from count within le =
     let front = take n received in
@@ -50,14 +49,14 @@ lane_front g received sent n from count within le =
     ∙ sym (part_front (map g front) (map g (drop n sent)) from count (omega arith))
     ∙ ap (λ ws. part_of ws from count) (sym (map-append g front (drop n sent)))
 
-lane_grown : (g : Column → ℕ) (received sent : List Column) (n from few many : ℕ) (bits : List Bool) → n ≤ length received → from + few ≤ 10 * n → few ≤ many → bits ≡ part_of (map g received) from many
+pub lane_grown : (g : Column → ℕ) (received sent : List Column) (n from few many : ℕ) (bits : List Bool) → n ≤ length received → from + few ≤ 10 * n → few ≤ many → bits ≡ part_of (map g received) from many
     → HasGrown (part_of (map g (spliced n received sent)) from few) bits
 lane_grown g received sent n from few many bits within le more is =
     subst (λ bs. HasGrown bs bits) (lane_front g received sent n from few within le)
     (subst (HasGrown (part_of (map g received) from few)) (sym is) (part_grows (map g received) from few many more))
 
 -- a part of the spliced columns
-lane_part : (g : Column → ℕ) (received sent : List Column) (n from count : ℕ) → n ≤ length received → from + count ≤ 10 * n
+pub lane_part : (g : Column → ℕ) (received sent : List Column) (n from count : ℕ) → n ≤ length received → from + count ≤ 10 * n
     → IsPart (map g (spliced n received sent)) from count (part_of (map g (spliced n received sent)) from count)
 lane_part g received sent n from count within le =
     let l = length-map (spliced n received sent) g in
@@ -107,7 +106,7 @@ aligned_whatever_follows ps sent received f h offset skews counts x y z tapped s
       spares = λ i le not_payload. same_column received sent n i within (omega arith) ∙ aligns.spares i le not_payload;
       holds = holds;
     } in
-    let found = first_until_freely ps sent cs reception offset skews few u v w tap small f until in
+    let found = first_until ps sent cs reception offset skews few u v w tap small f until in
     let p = found.0 in
     let q = found.1 in
     let r = found.2 in

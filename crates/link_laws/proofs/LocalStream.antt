@@ -17,7 +17,7 @@ use Rattle.link_laws.proofs.Start.{drop_over}
 use Rattle.link_laws.proofs.Local.{video_anywhere, island_anywhere}
 
 -- what is reported of the first columns stands in front of all that is heard
-heard_front : (n : ℕ) (cs : List Column) → (more : List Event) × (heard cs ≡ map event_of (heard_so_far (take n cs)) ++ more)
+pub heard_front : (n : ℕ) (cs : List Column) → (more : List Event) × (heard cs ≡ map event_of (heard_so_far (take n cs)) ++ more)
 heard_front n cs =
     let g = link_is_grammar in
     let on = g.more (take n cs) (drop n cs) in
@@ -73,7 +73,7 @@ pieces cs i n lt =
     first (c ∷ cs) (suc k) lt = first cs k (omega arith)
 
 -- heard columns: others, the twelve, the period, the next one, others
-heard_pieces : (received : List Column) (a m j n : ℕ) → a + 12 ≤ j → j + n < a + m → a + m ≤ length received
+pub heard_pieces : (received : List Column) (a m j n : ℕ) → a + 12 ≤ j → j + n < a + m → a + m ≤ length received
     → take m (drop a received)
     ≡ take (j - 12 - a) (drop a received) ++ (take 12 (drop (j - 12) received) ++ (take n (drop j received) ++ (column_at received (j + n) ∷ take (a + m - (j + n + 1)) (drop (j + n + 1) received))))
 heard_pieces received a m j n late before within =

@@ -6,9 +6,7 @@ use Rattle.island_pack.specs.Periods.{ControlRun, Period, control, video, island
 use Rattle.island_pack.specs.Kinds.{kinds_in, kinds_of}
 use Rattle.island_pack.specs.Sparse.{unlike_at}
 use Rattle.link_laws.specs.Account.{control_row, period_row, account_from}
-use Rattle.link_laws.specs.Freely.{PeriodReceivedFreely, ControlLawFreely, VideoLawFreely, IslandLawFreely, JoiningLawFreely}
-use Rattle.link_laws.specs.PeriodLaws.{tells, AreControl, ControlLaw, TellRow, VideoLaw, IslandLaw, JoiningLaw}
-use Rattle.link_laws.proofs.Freely.{free_received, free_period_received}
+use Rattle.link_laws.specs.PeriodLaws.{PeriodReceived, tells, AreControl, ControlLaw, TellRow, VideoLaw, IslandLaw, JoiningLaw}
 use Rattle.link_laws.proofs.Cutting.{hear_control}
 use Rattle.link_laws.proofs.Conformed.{is_control_of, is_video_of, is_island_of, Conforms, conforming, HasValues}
 use Rattle.link_laws.proofs.ControlReported.{control_row_reported}
@@ -16,7 +14,7 @@ use Rattle.link_laws.proofs.Between.{period_law}
 use Rattle.link_laws.proofs.Joining.{ArrivesPeriod, controls, Arrives, nothing, more, IsBetween, inner_gap, is_tail, follows_long, sized, taken_row, control_period, joined}
 use Rattle.link_laws.proofs.SpelledWords.{period_size_freely}
 use Rattle.link_laws.proofs.Arrival.{fits, arriving}
-use Rattle.link_laws.proofs.Framing.{arrived_freely}
+use Rattle.link_laws.proofs.Framing.{arrived}
 
 -- One period.
 
@@ -29,7 +27,7 @@ one_of p _ _ (more _ _ own reception _ _ a nothing) =
     subst (λ ss. ArrivesPeriod p ss (reception ++ [])) (sym (append-nil own)) (subst (λ rs. ArrivesPeriod p own rs) (sym (append-nil reception)) a)
 
 -- the columns of one period
-pub received_one : (p : Period) (sent received : List Column) → HasValues (p ∷ []) → PeriodReceivedFreely p sent received → ArrivesPeriod p sent received
+pub received_one : (p : Period) (sent received : List Column) → HasValues (p ∷ []) → PeriodReceived p sent received → ArrivesPeriod p sent received
 received_one p sent received values h =
     let s = h.sparse in
     one_of p sent received
@@ -47,14 +45,11 @@ control_of : (runs : List ControlRun) (sent received : List Column) → ArrivesP
 unfolding period_row
 control_of runs _ _ (controls _ cs n all) long = (record { long = omega arith; all = all }, λ j m. taken_row j m cs all)
 
-pub control_law_freely : ControlLawFreely
+pub control_law : ControlLaw
 unfolding HasValues
-control_law_freely runs sent received is h =
+control_law runs sent received is h =
     let c = is_control_of runs is in
     control_of runs sent received (received_one (control runs) sent received (c.small, tt) h) c.long
-
-pub control_law : ControlLaw
-control_law runs sent received is h = control_law_freely runs sent received is (free_period_received (control runs) sent received h)
 
 -- a period between control periods
 
@@ -66,21 +61,15 @@ tell_row p sent received between a before next rest j m h at =
     let g = inner_gap before p sent received h.long between a in
     grind (arith, period_law, reported_before)
 
-pub video_law_freely : VideoLawFreely
+pub video_law : VideoLaw
 unfolding HasValues IsBetween
-video_law_freely bytes sent received is h =
+video_law bytes sent received is h =
     let v = is_video_of bytes is in
     tell_row (video bytes) sent received v (received_one (video bytes) sent received (v.small, tt) h)
 
-pub video_law : VideoLaw
-video_law bytes sent received is h = video_law_freely bytes sent received is (free_period_received (video bytes) sent received h)
-
-pub island_law_freely : IslandLawFreely
-unfolding HasValues IsBetween
-island_law_freely x sent received is h = tell_row (island x) sent received (is_island_of x is) (received_one (island x) sent received tt h)
-
 pub island_law : IslandLaw
-island_law x sent received is h = island_law_freely x sent received is (free_period_received (island x) sent received h)
+unfolding HasValues IsBetween
+island_law x sent received is h = tell_row (island x) sent received (is_island_of x is) (received_one (island x) sent received tt h)
 
 -- Periods one after another.
 
@@ -88,8 +77,5 @@ joining_of : (ps : List Period) (sent received : List Column) → Conforms ps �
 unfolding Conforms
 joining_of ps sent received h k l m = grind (arith, more, follows_long, control_of, joined, is_tail, control_period, sized)
 
-pub joining_law_freely : JoiningLawFreely
-joining_law_freely ps sent received reception = joining_of ps sent received (conforming ps reception.conforming) (arrived_freely ps sent received reception)
-
 pub joining_law : JoiningLaw
-joining_law ps sent received reception = joining_law_freely ps sent received (free_received ps sent received reception)
+joining_law ps sent received reception = joining_of ps sent received (conforming ps reception.conforming) (arrived ps sent received reception)

@@ -12,13 +12,11 @@ use Rattle.island_pack.specs.Periods.{Period}
 use Rattle.island_pack.specs.Kinds.{kinds_of}
 use Rattle.island_pack.specs.Sparse.{no_column, column_at}
 use Rattle.period_grammar.specs.Heard.{heard}
-use Rattle.link_laws.specs.Freely.{ReceivedFreely, TapAccountedFreely, PayloadAccountedFreely}
-use Rattle.link_laws.specs.Laws.{EndsControl, BeginColumn, IsAccounted, TapAccounted, PayloadAccounted}
-use Rattle.link_laws.proofs.Freely.{free_received}
-use Rattle.link_laws.proofs.Ends.{first_ends_freely}
+use Rattle.link_laws.specs.Laws.{ReceivedFreely, EndsControl, BeginColumn, IsAccounted, TapAccounted, PayloadAccounted}
+use Rattle.link_laws.proofs.Ends.{first_ends}
 use Rattle.link_laws.proofs.Aligned.{AreCharacters, BeginAt, columns_taken}
-use Rattle.link_laws.proofs.Aligning.{first_until_freely}
-use Rattle.link_laws.proofs.Framing.{link_law_freely}
+use Rattle.link_laws.proofs.Aligning.{first_until}
+use Rattle.link_laws.proofs.Framing.{link_law}
 
 -- twelve words before the end of word i
 begins : (d offset k i : ℕ) → 120 ≤ d → 11 ≤ i → d + offset + k ≡ 10 * (i + 1) → d - 120 + (offset + k) ≡ 10 * (i - 11)
@@ -70,7 +68,7 @@ accounted ps sent received reception offset skews counts x y z tapped d e f i fi
     columns_taken received (offset + slice_index skews 0) (offset + slice_index skews 1) (offset + slice_index skews 2)
     (slice_index counts 0) (slice_index counts 1) (slice_index counts 2) a x y z d e f at
     (characters (λ c. c.blue) received (λ i lt. (h.characters i lt).blue)) (characters (λ c. c.green) received (λ i lt. (h.characters i lt).green)) (characters (λ c. c.red) received (λ i lt. (h.characters i lt).red)) in (
-      record { ends = ends_a; columns = columns; reported = ap heard columns ∙ link_law_freely ps sent received reception a (length cs) ends_a },
+      record { ends = ends_a; columns = columns; reported = ap heard columns ∙ link_law ps sent received reception a (length cs) ends_a },
       record {
         blue = ends d offset (slice_index skews 0) i far edges.blue;
         green = ends e offset (slice_index skews 1) i far edges.green;
@@ -81,23 +79,17 @@ accounted ps sent received reception offset skews counts x y z tapped d e f i fi
 late : (ps : List Period) (sent received : List Column) → ReceivedFreely ps sent received → (i : ℕ) → EndsControl ps i → 11 ≤ i
 late ps sent received reception i ends_i = ends_late (kinds_of ps) (alternating ps reception.conforming) i ends_i
 
-pub tap_accounted_freely : TapAccountedFreely
-tap_accounted_freely ps sent received reception offset skews counts x y z tapped small until aligns =
-    let found = first_until_freely ps sent received reception offset skews counts x y z tapped small until aligns in
+pub tap_accounted : TapAccounted
+tap_accounted ps sent received reception offset skews counts x y z tapped small until aligns =
+    let found = first_until ps sent received reception offset skews counts x y z tapped small until aligns in
     let end = found.4 in
     let far = late ps sent received reception end.0 end.1 in
     let before = end.2 in
     let reported = accounted ps sent received reception offset skews counts x y z tapped found.0 found.1 found.2 end.0 found.3 end.1 end.3 far in
     (found.0, found.1, found.2, found.3, (end.0 - 11, omega arith, reported.0, reported.1))
 
-pub payload_accounted_freely : PayloadAccountedFreely
-payload_accounted_freely ps sent received reception alone offset skews counts x y z tapped small d e f first =
-    let end = first_ends_freely ps sent received reception alone offset skews counts x y z tapped small d e f first in
+pub payload_accounted : PayloadAccounted
+payload_accounted ps sent received reception alone offset skews counts x y z tapped small d e f first =
+    let end = first_ends ps sent received reception alone offset skews counts x y z tapped small d e f first in
     let reported = accounted ps sent received reception offset skews counts x y z tapped d e f end.0 first end.1 end.2 (late ps sent received reception end.0 end.1) in
     (end.0 - 11, reported.0, reported.1)
-
-pub tap_accounted : TapAccounted
-tap_accounted ps sent received reception = tap_accounted_freely ps sent received (free_received ps sent received reception)
-
-pub payload_accounted : PayloadAccounted
-payload_accounted ps sent received reception = payload_accounted_freely ps sent received (free_received ps sent received reception)

@@ -11,7 +11,7 @@ use Rattle.island_pack.specs.Nibbles.{header_bits, body_bits}
 use Rattle.island_pack.specs.Packets.{Carries}
 use Rattle.island_pack.specs.Periods.{Period, period_columns}
 use Rattle.island_pack.specs.Conforming.{IsConforming}
-use Rattle.island_pack.specs.Spelling.{column_words, Spells}
+use Rattle.island_pack.specs.Spelling.{column_words, Spells, SpellsBy, freely}
 use Rattle.island_pack.specs.Kinds.{Kind, control_column, first_guard, second_guard, pixel_column, packet_column, kinds_of, kind_at, EndsAt, IsAfterControl}
 use Rattle.island_pack.specs.Sparse.{column_at, IsSparse, SparesUntil, IsSparseInPayload}
 use Rattle.island_pack.specs.declared.packet.Packet.{Packet}
@@ -29,12 +29,19 @@ pub record ReceivedOf (ps : List Period) (sent received : List Column) : Type 0 
   pub spelled : Spells ps sent
   pub sparse : IsSparse ps sent received
 
+-- the same where bit 3 of lane 0 in packet columns is free in the columns that were sent, as a sink does not judge it. Columns
+-- that a source spells are one case; columns of which no fault is reported are another, with what was received for what was sent
+pub record ReceivedFreely (ps : List Period) (sent received : List Column) : Type 0 where
+  pub conforming : IsConforming ps
+  pub spelled : SpellsBy freely ps sent
+  pub sparse : IsSparse ps sent received
+
 -- The framing.
 
 -- the received control columns are those of the control periods
 abbrev pub FramingStands : Type 0
 FramingStands =
-    (ps : List Period) (sent received : List Column) → ReceivedOf ps sent received
+    (ps : List Period) (sent received : List Column) → ReceivedFreely ps sent received
     → (i : ℕ) → i < length received → (kind_at (kinds_of ps) i ≡ control_column) ↔ (is_control_column (column_at received i) ≡ true)
 
 -- each control period's columns with those of the period after it
@@ -47,7 +54,7 @@ cut_as (p ∷ (q ∷ ps)) cs =
 
 -- the received columns are cut where the periods are
 abbrev pub PeriodsStand : Type 0
-PeriodsStand = (ps : List Period) (sent received : List Column) → ReceivedOf ps sent received → stretches received ≡ cut_as ps received
+PeriodsStand = (ps : List Period) (sent received : List Column) → ReceivedFreely ps sent received → stretches received ≡ cut_as ps received
 
 -- What is reported.
 
@@ -55,7 +62,7 @@ PeriodsStand = (ps : List Period) (sent received : List Column) → ReceivedOf p
 -- anywhere, in the first control period too
 abbrev pub LinkLaw : Type 0
 LinkLaw =
-    (ps : List Period) (sent received : List Column) → ReceivedOf ps sent received
+    (ps : List Period) (sent received : List Column) → ReceivedFreely ps sent received
     → (a m : ℕ) → EndsControl ps (a + 11) → heard (take m (drop a received)) ≡ account ps sent received a m
 
 -- The alignment.
@@ -73,14 +80,14 @@ pub record AreEnds (ps : List Period) (words : List ℕ) : Type 0 where
 -- where damage lies in pixels and packets alone
 abbrev pub EdgesEnd : Type 0
 EdgesEnd =
-    (ps : List Period) (sent received : List Column) → ReceivedOf ps sent received → IsSparseInPayload ps sent received
+    (ps : List Period) (sent received : List Column) → ReceivedFreely ps sent received → IsSparseInPayload ps sent received
     → AreEnds ps (blues received) × AreEnds ps (greens received) × AreEnds ps (reds received)
 
 -- where damage lies in pixels and packets alone, the first full alignment of a tap is the end of one control period on
 -- all lanes
 abbrev pub FirstEnds : Type 0
 FirstEnds =
-    (ps : List Period) (sent received : List Column) → ReceivedOf ps sent received → IsSparseInPayload ps sent received
+    (ps : List Period) (sent received : List Column) → ReceivedFreely ps sent received → IsSparseInPayload ps sent received
     → (offset : ℕ) (skews counts : List ℕ) (x y z : List Bool) → IsTap received offset skews counts x y z → HasSmallSkew skews
     → (d e f : ℕ) → IsFirst x y z d e f → (i : ℕ) × EndsControl ps i × BeginColumn offset skews (i + 1) d e f
 
@@ -99,7 +106,7 @@ pub record AlignsUntil (ps : List Period) (sent received : List Column) (offset 
 -- there is then a first full alignment, and it is the end of one control period on all lanes, at or before that column
 abbrev pub FirstUntil : Type 0
 FirstUntil =
-    (ps : List Period) (sent received : List Column) → ReceivedOf ps sent received
+    (ps : List Period) (sent received : List Column) → ReceivedFreely ps sent received
     → (offset : ℕ) (skews counts : List ℕ) (x y z : List Bool) → IsTap received offset skews counts x y z → HasSmallSkew skews
     → (until : ℕ) → AlignsUntil ps sent received offset skews counts until
     → (d e f : ℕ) × IsFirst x y z d e f × ((i : ℕ) × EndsControl ps i × (i + 1 ≤ until) × BeginColumn offset skews (i + 1) d e f)
@@ -115,7 +122,7 @@ pub record IsAccounted (ps : List Period) (sent received : List Column) (aligned
 -- where damage spares control and guard words until a column
 abbrev pub TapAccounted : Type 0
 TapAccounted =
-    (ps : List Period) (sent received : List Column) → ReceivedOf ps sent received
+    (ps : List Period) (sent received : List Column) → ReceivedFreely ps sent received
     → (offset : ℕ) (skews counts : List ℕ) (x y z : List Bool) → IsTap received offset skews counts x y z → HasSmallSkew skews
     → (until : ℕ) → AlignsUntil ps sent received offset skews counts until
     → (d e f : ℕ) × IsFirst x y z d e f
@@ -124,7 +131,7 @@ TapAccounted =
 -- where damage lies in pixels and packets alone, and there is a first full alignment
 abbrev pub PayloadAccounted : Type 0
 PayloadAccounted =
-    (ps : List Period) (sent received : List Column) → ReceivedOf ps sent received → IsSparseInPayload ps sent received
+    (ps : List Period) (sent received : List Column) → ReceivedFreely ps sent received → IsSparseInPayload ps sent received
     → (offset : ℕ) (skews counts : List ℕ) (x y z : List Bool) → IsTap received offset skews counts x y z → HasSmallSkew skews
     → (d e f : ℕ) → IsFirst x y z d e f
     → (a : ℕ) × IsAccounted ps sent received (aligned_columns x y z d e f) a × BeginColumn offset skews (a + 12) d e f

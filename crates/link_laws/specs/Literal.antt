@@ -9,7 +9,7 @@ use Rattle.period_grammar.specs.Cut.{Run, columns, runs, stretches}
 use Rattle.period_grammar.specs.Heard.{words, end_from}
 use Rattle.period_grammar.specs.Events.{run, EventAt, at, all_at, event_of, reported_before}
 use Rattle.link_laws.specs.Account.{open_video_row, video_row, open_island_row, packet_reported, close_island_row, account}
-use Rattle.link_laws.specs.Laws.{ReceivedOf, EndsControl}
+use Rattle.link_laws.specs.Laws.{ReceivedFreely, EndsControl}
 
 -- for each run of one value from column j on, its words that are no control words, each at its column, and then the run,
 -- at the first column that is not in it
@@ -60,7 +60,7 @@ account_placed (p ∷ ps) ss rs a =
 -- events at columns from m on are left out, and at the end what the hearing says is reported
 abbrev pub AccountLiteral : Type 0
 AccountLiteral =
-    (ps : List Period) (sent received : List Column) → ReceivedOf ps sent received
+    (ps : List Period) (sent received : List Column) → ReceivedFreely ps sent received
     → (a m : ℕ) → EndsControl ps (a + 11) → a + m ≤ length received
     → account ps sent received a m
     ≡ map event_of (reported_before m (account_placed ps sent received a)) ++ end_from 0 (stretches (take m (drop a received)))

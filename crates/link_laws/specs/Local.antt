@@ -1,6 +1,6 @@
 -- Locality: whatever was received before and after it, a period that was received with few words damaged, after control
 -- columns and before one, is reported as its row.
-use Rattle.std.specs.Prelude.{◌≡◌, ℕ, ◌+◌, ◌-◌, ◌<◌, ◌≤◌, Bool, true, false, List, [], ◌∷◌, ◌++◌, length, map, take, drop}
+use Rattle.std.specs.Prelude.{◌≡◌, ℕ, ◌+◌, ◌-◌, ◌*◌, ◌<◌, ◌≤◌, Bool, true, false, List, [], ◌∷◌, ◌++◌, length, map, take, drop}
 use Rattle.tmds_word.specs.Column.{Column}
 use Rattle.tmds_word.specs.Taps.{IsTap, HasSmallSkew}
 use Rattle.terc4.specs.Columns.{is_control_column}
@@ -11,11 +11,11 @@ use Rattle.island_pack.specs.Conforming.{is_video_period, is_data_island, IsConf
 use Rattle.island_pack.specs.Spelling.{SpellsBy, freely}
 use Rattle.island_pack.specs.Sparse.{IsNarrow, column_at, unlike_at, IsSparse}
 use Rattle.period_grammar.specs.Events.{Event, event_of, all_at, reported_before}
-use Rattle.period_grammar.specs.Heard.{other_words, heard_so_far, heard}
-use Rattle.link_laws.specs.Freely.{PeriodReceivedFreely}
+use Rattle.period_grammar.specs.Heard.{other_words, opened, island as opens_island, heard_so_far, heard}
+use Rattle.period_grammar.specs.Island.{begins_close, packet_events}
 use Rattle.link_laws.specs.Laws.{EndsControl, BeginColumn, AlignsUntil}
 use Rattle.link_laws.specs.Literal.{period_placed}
-use Rattle.link_laws.specs.PeriodLaws.{AreControl}
+use Rattle.link_laws.specs.PeriodLaws.{PeriodReceived, AreControl}
 
 -- columns of a period, after any columns and at least twelve control columns, and before a control column and any columns: all
 -- that is reported from the second of them to that control column is the period's row, and that column's words that are no
@@ -31,18 +31,18 @@ StandsAnywhere p sent received =
 
 abbrev pub VideoAnywhere : Type 0
 VideoAnywhere =
-    (bytes : List ℕ) (sent received : List Column) → is_video_period bytes ≡ true → PeriodReceivedFreely (video bytes) sent received
+    (bytes : List ℕ) (sent received : List Column) → is_video_period bytes ≡ true → PeriodReceived (video bytes) sent received
     → StandsAnywhere (video bytes) sent received
 
 abbrev pub IslandAnywhere : Type 0
 IslandAnywhere =
-    (x : DataIsland) (sent received : List Column) → is_data_island x ≡ true → PeriodReceivedFreely (island x) sent received
+    (x : DataIsland) (sent received : List Column) → is_data_island x ≡ true → PeriodReceived (island x) sent received
     → StandsAnywhere (island x) sent received
 
 -- a data island closes itself: its row is reported by its last column, whatever follows
 abbrev pub IslandClosesAnywhere : Type 0
 IslandClosesAnywhere =
-    (x : DataIsland) (sent received : List Column) → is_data_island x ≡ true → PeriodReceivedFreely (island x) sent received
+    (x : DataIsland) (sent received : List Column) → is_data_island x ≡ true → PeriodReceived (island x) sent received
     → (earlier before later : List Column) → AreControl before
     → let cs = earlier ++ (before ++ (received ++ later)) in
     let b = length earlier + length before in
@@ -64,7 +64,7 @@ is_between (video bytes) = is_video_period bytes
 is_between (island x) = is_data_island x
 
 abbrev pub RowAnywhere : Type 0
-RowAnywhere = (p : Period) (sent received : List Column) → is_between p ≡ true → PeriodReceivedFreely p sent received → HeardAnywhere p sent received
+RowAnywhere = (p : Period) (sent received : List Column) → is_between p ≡ true → PeriodReceived p sent received → HeardAnywhere p sent received
 
 -- the columns of a period that stands at column j
 abbrev pub part_at : ℕ → Period → List Column → List Column
@@ -91,6 +91,24 @@ StreamAnywhere =
     let j = columns_of front in
     (more : List Event)
     × (heard cs ≡ map event_of (heard_so_far (take (j - a + 1) cs)) ++ (map event_of (period_placed (j - a) (twelve_before j received) p (part_at j p sent) (part_at j p received)) ++ more))
+
+-- Packet k of a data island that begins at column j, whatever else was received of its columns: a control column before the
+-- island, an opening pair, no control column up to the packet's end, and no packet up to it whose first two columns close the
+-- island.
+pub record PacketStands (received : List Column) (j k : ℕ) : Type 0 where
+  pub after : 1 ≤ j
+  pub control : is_control_column (column_at received (j - 1)) ≡ true
+  pub opens : opened (column_at received j) (column_at received (j + 1)) ≡ opens_island
+  pub going : (i : ℕ) → j ≤ i → i < j + 34 + 32 * k → is_control_column (column_at received i) ≡ false
+  pub unshut : (i : ℕ) → i ≤ k → begins_close (drop (j + 2 + 32 * i) received) ≡ false
+
+-- it is reported at its last column, after what is reported before its first one
+abbrev pub PacketInStream : Type 0
+PacketInStream =
+    (received : List Column) (j k a m : ℕ) → PacketStands received j k → a + 1 ≤ j → j + 34 + 32 * k ≤ a + m → a + m ≤ length received
+    → let cs = take m (drop a received) in
+    let place = j + 2 + 32 * k in
+    (more : List Event) × (heard cs ≡ map event_of (heard_so_far (take (place - a) cs)) ++ (packet_events (place - a) k (take 32 (drop place received)) ++ more))
 
 -- The alignment.
 
@@ -127,6 +145,18 @@ pub record IsLocalExample (front : List Period) (p : Period) (back : List Period
   pub alone : StandsAlone received p sent (columns_of front)
   pub later : until ≤ columns_of front
   pub within : (a d e f : ℕ) → BeginColumn 7 (0 ∷ 70 ∷ 35 ∷ []) (a + 12) d e f → columns_of front + period_columns p < a + length (aligned_columns x y z d e f)
+
+-- a packet that stands, and is not the first of its island; a control column comes after it, so that the island is broken off
+pub record IsPacketExample (received : List Column) (j k a m : ℕ) : Type 0 where
+  pub stands : PacketStands received j k
+  pub second : 1 ≤ k
+  pub late : a + 1 ≤ j
+  pub within : j + 34 + 32 * k ≤ a + m
+  pub has : a + m ≤ length received
+  pub broken : is_control_column (column_at received (j + 34 + 32 * k)) ≡ true
+
+abbrev pub HasPacketExample : Type 0
+HasPacketExample = (received : List Column) × (j k a m : ℕ) × IsPacketExample received j k a m
 
 abbrev pub HasLocalExample : Type 0
 HasLocalExample =

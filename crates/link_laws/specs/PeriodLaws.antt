@@ -5,21 +5,21 @@ use Rattle.tmds_word.specs.Column.{Column}
 use Rattle.terc4.specs.Columns.{is_control_column}
 use Rattle.island_pack.specs.Periods.{ControlRun, DataIsland, Period, control, video, island}
 use Rattle.island_pack.specs.Conforming.{is_control_period, is_video_period, is_data_island}
-use Rattle.island_pack.specs.Spelling.{SpellsPeriod}
+use Rattle.island_pack.specs.Spelling.{SpellsPeriodBy, freely}
 use Rattle.island_pack.specs.Sparse.{IsSparse}
 use Rattle.period_grammar.specs.Cut.{stretches}
 use Rattle.period_grammar.specs.Heard.{reported_from, end_from}
 use Rattle.period_grammar.specs.Events.{Event, event_of}
 use Rattle.link_laws.specs.Account.{period_row, account_from}
-use Rattle.link_laws.specs.Laws.{ReceivedOf}
+use Rattle.link_laws.specs.Laws.{ReceivedFreely}
 
 -- what is reported of columns from column j on, with what is reported at the end
 abbrev pub tells : ℕ → List Column → List Event
 tells j cs = map event_of (reported_from j (stretches cs)) ++ end_from j (stretches cs)
 
--- columns that spell a period, and columns of them received with sparse damage
+-- columns that spell a period, whatever bit 3 of lane 0 is in packet columns, and columns of them received with sparse damage
 pub record PeriodReceived (p : Period) (sent received : List Column) : Type 0 where
-  pub spelled : SpellsPeriod p sent
+  pub spelled : SpellsPeriodBy freely p sent
   pub sparse : IsSparse (p ∷ []) sent received
 
 -- at least twelve columns, and control columns all
@@ -56,5 +56,5 @@ IslandLaw =
 -- what is reported of the first m columns of conforming periods is, period after period, the row of each
 abbrev pub JoiningLaw : Type 0
 JoiningLaw =
-    (ps : List Period) (sent received : List Column) → ReceivedOf ps sent received
+    (ps : List Period) (sent received : List Column) → ReceivedFreely ps sent received
     → (j m : ℕ) → tells j (take m received) ≡ account_from j m [] ps sent received

@@ -8,8 +8,8 @@ ghost use Rattle.link_laws.specs.Bytes.{DecodedIsByte};
 ghost use Rattle.link_laws.specs.Calm.{LanesAreCalm};
 ghost use Rattle.link_laws.specs.Exact.{CleanIsFront, FrontIsClean, CheckIsExact};
 ghost use Rattle.link_sink.specs.Sinks.{SomeReported, OneReported};
-ghost use Rattle.link_laws.specs.Freely.{FramingStandsFreely, PeriodsStandFreely, LinkLawFreely, ControlLawFreely, VideoLawFreely, IslandLawFreely, JoiningLawFreely, AccountLiteralFreely, EdgesEndFreely, FirstEndsFreely, FirstUntilFreely, TapAccountedFreely, PayloadAccountedFreely, CleanReceived};
-ghost use Rattle.link_laws.specs.Local.{VideoAnywhere, IslandAnywhere, IslandClosesAnywhere, RowAnywhere, StreamAnywhere, AlignedWhateverFollows, HasLocalExample};
+ghost use Rattle.link_laws.specs.Freely.{FreeReceived, CleanReceived};
+ghost use Rattle.link_laws.specs.Local.{VideoAnywhere, IslandAnywhere, IslandClosesAnywhere, RowAnywhere, StreamAnywhere, PacketInStream, AlignedWhateverFollows, HasLocalExample, HasPacketExample};
 ghost use Rattle.link_laws.specs.Noticed.{Noticed, NoticedReported, FewOnLanes, OneIsAsSent, FewIsAsSent};
 ghost use Rattle.link_laws.specs.Growth.{ReportedGrows, WholeGrows, LinkIsGrammar};
 
@@ -164,33 +164,12 @@ pub fn lanes_are_calm()
     ensures { LanesAreCalm }
 {}
 
-/// The laws on the framing hold where bit 3 of lane 0 in packet columns is free in the columns that were sent.
-pub fn framed_freely()
-    ensures framing { FramingStandsFreely }
-    ensures periods { PeriodsStandFreely }
+/// Columns that a source spells are received as these laws ask, which leave bit 3 of lane 0 in packet columns free.
+pub fn free_received()
+    ensures { FreeReceived }
 {}
 
-/// So do those on what is reported.
-pub fn reported_freely()
-    ensures link { LinkLawFreely }
-    ensures control { ControlLawFreely }
-    ensures video { VideoLawFreely }
-    ensures island { IslandLawFreely }
-    ensures joining { JoiningLawFreely }
-    ensures literal { AccountLiteralFreely }
-{}
-
-/// And those on edges, first full alignments, and taps.
-pub fn aligned_freely()
-    ensures edges { EdgesEndFreely }
-    ensures first { FirstEndsFreely }
-    ensures until { FirstUntilFreely }
-    ensures tap { TapAccountedFreely }
-    ensures payload { PayloadAccountedFreely }
-{}
-
-/// Clean columns that end in a control period of twelve columns or more meet these with what was received for
-/// what was sent.
+/// So are clean columns that end in a control period of twelve columns or more, with what was received for what was sent.
 pub fn clean_received()
     ensures { CleanReceived }
 {}
@@ -221,16 +200,27 @@ pub fn stream_anywhere()
     ensures { StreamAnywhere }
 {}
 
+/// A packet of a data island is reported at its last column, whatever else was received of the island's columns, where a
+/// control column stands before the island and none in it up to the packet's end, and the island is opened and not closed.
+pub fn packet_in_stream()
+    ensures { PacketInStream }
+{}
+
 /// Where damage is sparse and spares control and guard words until a column that is the first after a control period, the
 /// first full alignment is the end of one control period at or before it, whatever is received after.
 pub fn aligned_whatever_follows()
     ensures { AlignedWhateverFollows }
 {}
 
-/// The premises of the last two are met together, with a column after the alignment of which no word was received as it was
+/// The premises of the last one and of the one on a stream are met together, with a column after the alignment of which no word was received as it was
 /// sent, and skews of 0, 70 and 35.
 pub fn has_local_example()
     ensures { HasLocalExample }
+{}
+
+/// There is a packet that is reported so, and is not the first of its island, which is broken off after it.
+pub fn has_packet_example()
+    ensures { HasPacketExample }
 {}
 
 /// A packet with at most three damaged words on lane 0 and three on the others is reported with a fault, or as it was sent.

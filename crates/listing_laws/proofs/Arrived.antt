@@ -11,6 +11,7 @@ use Rattle.island_pack.specs.Runs.{join}
 use Rattle.island_pack.specs.Spelling.{control_column}
 use Rattle.island_pack.specs.Sparse.{no_column}
 use Rattle.island_pack.proofs.Runs.{join_values}
+use Rattle.link_laws.proofs.Freely.{free_received}
 use Rattle.link_laws.specs.Laws.{ReceivedOf}
 use Rattle.link_laws.proofs.Cutting.{AllControl, NoneControl}
 use Rattle.link_laws.proofs.Rows.{control_columns, Small}
@@ -136,7 +137,7 @@ parts_received (packets x ∷ parts) ss rs h = (h.0, h.1, h.2, h.3, h.4, h.5, h.
 pub parts_arrived : (parts : List Part) (sent received : List Column) → ReceivedOf (gathered parts) sent received → Arrived parts sent received
 parts_arrived parts sent received reception =
     let c = conforming (gathered parts) reception.conforming in
-    parts_received parts sent received (periods_received (gathered parts) sent received c (has_values (gathered parts) c) (arrived (gathered parts) sent received reception))
+    parts_received parts sent received (periods_received (gathered parts) sent received c (has_values (gathered parts) c) (arrived (gathered parts) sent received (free_received (gathered parts) sent received reception)))
 
 pub drop_front : (k : ℕ) (own cs : List Column) → length own ≡ k → drop k (own ++ cs) ≡ cs
 drop_front k own cs e = ap (λ (i : ℕ). drop i (own ++ cs)) (sym e) ∙ drop-append_seam own cs

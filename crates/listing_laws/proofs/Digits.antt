@@ -8,6 +8,7 @@ use Rattle.std.proofs.lemmas.Fmt.{decimal_by_steps, decimal_nonempty, length-dec
 use Rattle.hex.specs.Hex.{IsBytes, encode_with, lower_digits}
 use Rattle.listing_reader.specs.Forms.{digits_after, is_digit, number_of}
 use Rattle.listing_reader.specs.Held.{is_feedless}
+use Rattle.island_pack.specs.declared.ranges.TheConstants.{COLUMN_LIMIT}
 use Rattle.listing_reader.proofs.Feeds.{and-left, and-right, both}
 
 -- ---- decimal digits
@@ -47,7 +48,7 @@ no_feed n small = grind arith
 pub decimal_feedless : (n : ℕ) → n < 2 ^ 64 → is_feedless (decimal n) ≡ true
 decimal_feedless = decimal_pass (λ b. not (b == 10)) no_feed
 
-pub number_of-decimal : (n : ℕ) → n ≤ 20000000 → number_of (decimal n) ≡ Some n
+pub number_of-decimal : (n : ℕ) → n ≤ COLUMN_LIMIT → number_of (decimal n) ≡ Some n
 unfolding number_of
 number_of-decimal n few =
     let small : n < 2 ^ 64 = omega arith in

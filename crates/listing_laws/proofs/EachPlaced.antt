@@ -7,6 +7,7 @@ use Rattle.island_pack.specs.Packets.{CarriesFreely}
 use Rattle.island_pack.specs.Periods.{DataIsland, Period, control, video, island, period_columns}
 use Rattle.island_pack.specs.Spelling.{column_words, guard_columns}
 use Rattle.island_pack.specs.declared.packet.Packet.{Packet}
+use Rattle.link_laws.proofs.Freely.{free_received}
 use Rattle.link_laws.specs.Laws.{ReceivedOf}
 use Rattle.link_laws.proofs.Between.{take_seam, drop_seam}
 use Rattle.link_laws.proofs.IslandColumns.{ArePackets, no_packets, one_more, packet_sent, packet_received}
@@ -77,4 +78,4 @@ placed_shown P sent received shown _ _ _ (more _ xs own reception ss rs (packets
     (placed_shown P sent received shown xs ss rs h (x + period_columns (island i)) (after sent own ss x (period_columns (island i)) e s.sent) (after received reception rs x (period_columns (island i)) d s.received))
 
 pub each_placed : (P : Placed → Type 0) (sent received : List Column) → IsShown P sent received → (periods : List Period) → ReceivedOf periods sent received → Each P (placed 0 periods)
-each_placed P sent received shown periods reception = placed_shown P sent received shown periods sent received (arrived periods sent received reception) 0 refl refl
+each_placed P sent received shown periods reception = placed_shown P sent received shown periods sent received (arrived periods sent received (free_received periods sent received reception)) 0 refl refl

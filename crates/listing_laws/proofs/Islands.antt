@@ -5,6 +5,7 @@ use Rattle.std.specs.List.{list_all}
 use Rattle.island_pack.specs.Periods.{SyncPair, DataIsland, Period, island, columns_of}
 use Rattle.island_pack.specs.Conforming.{is_sync_pair, is_packet, is_data_island}
 use Rattle.island_pack.specs.declared.packet.Packet.{Packet}
+use Rattle.island_pack.specs.declared.ranges.TheConstants.{COLUMN_LIMIT}
 use Rattle.source_end.specs.Refusals.{last_period, is_control_last, is_long_enough}
 use Rattle.period_grammar.specs.Events.{open_island, close_island}
 use Rattle.listing_reader.specs.Causes.{announces_island}
@@ -48,7 +49,7 @@ second_below pair h = below-from pair.second 4 (and-right (nat_lt pair.first 4) 
 -- ---- the guards
 
 read_open : (n at : ℕ) (ps : List Period) (pair : SyncPair) (rest : List ℕ) → is_sync_pair pair ≡ true → is_control_last (last_period ps) ≡ true → is_long_enough (last_period ps) ≡ true → announces_island (last_period ps) ≡ true
-    → columns_of ps + 2 ≤ 20000000 → at ≤ 14 * columns_of ps
+    → columns_of ps + 2 ≤ COLUMN_LIMIT → at ≤ 14 * columns_of ps
     → read_lines link_step n at (reported ps) (pieces_of (line_of (open_island pair.first pair.second) ++ rest)) ≡ read_lines link_step (n + 1) (at + 4 + 1) (within ps pair []) (pieces_of rest)
 read_open n at ps pair rest sync turn long announced few before =
     let first = first_below pair sync in
@@ -59,7 +60,7 @@ read_open n at ps pair rest sync turn long announced few before =
     refl (omega arith)
 
 read_close : (n at : ℕ) (ps : List Period) (x : DataIsland) (rest : List ℕ) → is_sync_pair x.closing ≡ true → (nat_le 1 (length x.packets) && nat_le (length x.packets) 18) ≡ true
-    → columns_of ps + (4 + 32 * length x.packets) ≤ 20000000 → at ≤ 14 * (columns_of ps + (2 + 32 * length x.packets))
+    → columns_of ps + (4 + 32 * length x.packets) ≤ COLUMN_LIMIT → at ≤ 14 * (columns_of ps + (2 + 32 * length x.packets))
     → read_lines link_step n at (within ps x.opening x.packets) (pieces_of (line_of (close_island x.closing.first x.closing.second) ++ rest)) ≡ read_lines link_step (n + 1) (at + 4 + 1) (reported (ps ++ island x ∷ [])) (pieces_of rest)
 read_close n at ps x rest sync some few before =
     let pair = x.closing in
@@ -80,7 +81,7 @@ few_packets : (n : ℕ) → n + 1 ≤ 18 → (nat_le 0 n && nat_le n 18) ≡ tru
 few_packets n few = grind arith
 
 read_packet : (n at : ℕ) (ps : List Period) (opening : SyncPair) (done : List Packet) (p : Packet) (rest : List ℕ) → is_packet p ≡ true → length done + 1 ≤ 18
-    → columns_of ps + (2 + 32 * length done) + 32 ≤ 20000000 → at ≤ 14 * (columns_of ps + (2 + 32 * length done))
+    → columns_of ps + (2 + 32 * length done) + 32 ≤ COLUMN_LIMIT → at ≤ 14 * (columns_of ps + (2 + 32 * length done))
     → read_lines link_step n at (within ps opening done) (pieces_of (line_of (reported_packet p) ++ rest)) ≡ read_lines link_step (n + 1) (at + length (packet_body p) + 1) (within ps opening (done ++ p ∷ [])) (pieces_of rest)
 read_packet n at ps opening done p rest packet room few before =
     let size = packet_length p packet in
@@ -91,7 +92,7 @@ read_packet n at ps opening done p rest packet room few before =
 
 -- all packets: `goal` is what the text after them reads as
 read_packets : (ps : List Period) (opening : SyncPair) (done packets all : List Packet) (n at : ℕ) (rest : List ℕ) (goal : Read (List Period)) → list_all is_packet packets ≡ true → done ++ packets ≡ all
-    → length done + length packets ≤ 18 → columns_of ps + (2 + 32 * (length done + length packets)) ≤ 20000000 → at ≤ 14 * (columns_of ps + (2 + 32 * length done))
+    → length done + length packets ≤ 18 → columns_of ps + (2 + 32 * (length done + length packets)) ≤ COLUMN_LIMIT → at ≤ 14 * (columns_of ps + (2 + 32 * length done))
     → ((m to : ℕ) → to ≤ 14 * (columns_of ps + (2 + 32 * length all)) → read_lines link_step m to (within ps opening all) (pieces_of rest) ≡ goal)
     → read_lines link_step n at (within ps opening done) (pieces_of (packet_lines packets ++ rest)) ≡ goal
 unfolding packet_lines
@@ -117,7 +118,7 @@ island_lines x rest =
 -- an island, from its first line on
 pub read_island : (ps : List Period) (x : DataIsland) (n at : ℕ) (rest : List ℕ) (goal : Read (List Period)) → is_data_island x ≡ true
     → is_control_last (last_period ps) ≡ true → is_long_enough (last_period ps) ≡ true → announces_island (last_period ps) ≡ true
-    → columns_of ps + (4 + 32 * length x.packets) ≤ 20000000 → at ≤ 14 * columns_of ps
+    → columns_of ps + (4 + 32 * length x.packets) ≤ COLUMN_LIMIT → at ≤ 14 * columns_of ps
     → ((m to : ℕ) → to ≤ 14 * (columns_of ps + (4 + 32 * length x.packets)) → read_lines link_step m to (reported (ps ++ island x ∷ [])) (pieces_of rest) ≡ goal)
     → read_lines link_step n at (reported ps) (pieces_of (period_lines (island x) ++ rest)) ≡ goal
 read_island ps x n at rest goal good turn long announced few before after =

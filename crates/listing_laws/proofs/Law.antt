@@ -2,6 +2,7 @@
 use Rattle.std.proofs.Common.{◌≡◌, ℕ, ◌+◌, ◌-◌, ◌≤◌, List, [], length, refl, ap, subst, ◌∙◌, arith}
 use Rattle.island_pack.specs.Kinds.{Kind, EndsAt}
 use Rattle.period_grammar.specs.Events.{Event}
+use Rattle.link_laws.proofs.Freely.{free_received}
 use Rattle.link_laws.proofs.Framing.{link_law}
 use Rattle.source_end.specs.Raster.{parts_of, raster_of}
 use Rattle.source_end.specs.Gathering.{size}
@@ -45,5 +46,5 @@ frames_come_back mode frames fault sent received reception a m end le =
 
 pub frames_heard : FramesHeard
 frames_heard mode frames fault sent received reception a m end le =
-    ap (λ (events : List Event). listed events) (link_law (raster_of mode frames) sent received reception a m end)
+    ap (λ (events : List Event). listed events) (link_law (raster_of mode frames) sent received (free_received (raster_of mode frames) sent received reception) a m end)
     ∙ frames_come_back mode frames fault sent received reception a m end le

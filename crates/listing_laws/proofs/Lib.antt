@@ -42,3 +42,4 @@ pub mod OwnRows
 pub mod LinkLaw
 pub mod LocalPackets
 pub mod Exact
+pub mod LocalPictures

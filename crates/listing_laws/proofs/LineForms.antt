@@ -6,6 +6,7 @@ use Rattle.std.proofs.lemmas.Fmt.{length-decimal-le}
 use Rattle.hex.specs.Hex.{IsBytes, encode_lower, encode_with, lower_digits, decode_of}
 use Rattle.hex.proofs.HexLemmas.{decode_of-encode_lower, length-encode_with}
 use Rattle.island_pack.specs.Periods.{ControlRun}
+use Rattle.island_pack.specs.declared.ranges.TheConstants.{COLUMN_LIMIT}
 use Rattle.period_grammar.specs.Events.{Event, run as run_event, line as line_event}
 use Rattle.listing_reader.specs.Forms.{control_line, video_line, end_line, form_of, is_fault, control_form, video_form}
 use Rattle.listing_reader.specs.Held.{is_feedless}
@@ -37,14 +38,14 @@ value_read : (value : ℕ) → value < 64 → decode_of (slice_index lower_digit
 unfolding encode_with
 value_read value below = decode_of-encode_lower (value ∷ []) (one_byte value below)
 
-pub run_body_short : (r : ControlRun) → r.count ≤ 20000000 → length (run_body r) ≤ 13
+pub run_body_short : (r : ControlRun) → r.count ≤ COLUMN_LIMIT → length (run_body r) ≤ 13
 run_body_short r few = let digits = length-decimal-le 8 r.count (omega arith) (omega arith) (omega arith) in omega arith
 
-pub run_form : (r : ControlRun) → r.value < 64 → r.count ≤ 20000000 → form_of (run_body r) ≡ control_line r.value r.count
+pub run_form : (r : ControlRun) → r.value < 64 → r.count ≤ COLUMN_LIMIT → form_of (run_body r) ≡ control_line r.value r.count
 unfolding form_of is_fault control_form
 run_form r below few = grind (arith, not_long, run_body_short, value_read, number_of-decimal)
 
-pub run_feedless : (r : ControlRun) → r.count ≤ 20000000 → is_feedless (run_body r) ≡ true
+pub run_feedless : (r : ControlRun) → r.count ≤ COLUMN_LIMIT → is_feedless (run_body r) ≡ true
 run_feedless r few =
     let small : r.count < 2 ^ 64 = omega arith in
     let high = digit_feedless lower_digits (r.value / 16) refl in

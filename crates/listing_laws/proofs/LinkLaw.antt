@@ -1,19 +1,19 @@
 -- What a link listing of a stream that was received whole and undamaged reads back as.
-use Rattle.std.proofs.Common.{◌≡◌, ℕ, ◌+◌, ◌-◌, ◌≤◌, Bool, true, false, List, [], ◌∷◌, ◌++◌, length, refl, ap, sym, subst, ◌∙◌, append_assoc, append-nil, arith, take_all, length-append}
+use Rattle.std.proofs.Common.{◌≡◌, ℕ, ◌+◌, ◌-◌, ◌≤◌, true, List, [], ◌∷◌, ◌++◌, length, refl, ap, sym, subst, ◌∙◌, append_assoc, append-nil, arith, take_all, length-append}
 use Rattle.std.specs.Prelude.{codes}
 use Rattle.tmds_word.specs.Column.{Column}
 use Rattle.tmds_word.proofs.Below.{and-left, and-right}
 use Rattle.island_pack.specs.Periods.{ControlRun, DataIsland, Period, control, video, island, values_of, has_preamble, VIDEO_PREAMBLE, ISLAND_PREAMBLE, period_columns}
 use Rattle.island_pack.specs.Conforming.{is_control_period, is_video_period, is_data_island, conforms, IsConforming}
 use Rattle.island_pack.specs.Runs.{longest}
-use Rattle.island_pack.specs.Spelling.{SpellsPackets, freely, SpellsPacketsBy, SpellsPeriod, SpellsPeriodBy, Spells, SpellsBy}
-use Rattle.island_pack.specs.declared.packet.Packet.{Packet}
+use Rattle.island_pack.specs.Spelling.{Spells}
 use Rattle.period_grammar.specs.Exact.{IsFront}
 use Rattle.period_grammar.specs.Heard.{heard_so_far, heard}
 use Rattle.period_grammar.specs.Events.{Event, line}
 use Rattle.link_laws.specs.Account.{period_row, account_from, account}
 use Rattle.link_laws.specs.PeriodLaws.{tells}
 use Rattle.link_laws.proofs.Conformed.{is_control_of, is_island_of, Conforms, conforming}
+use Rattle.link_laws.proofs.Freely.{free_received, free_spelled}
 use Rattle.link_laws.proofs.Joining.{account_period, follows_long}
 use Rattle.link_laws.proofs.PeriodLaws.{joining_law}
 use Rattle.link_laws.proofs.SpelledWords.{period_size}
@@ -31,24 +31,13 @@ use Rattle.listing_laws.proofs.Undamaged.{undamaged}
 
 -- ---- the columns are a front, of which no fault is reported
 
-packets_freely : (first : Bool) (ps : List Packet) (cs : List Column) → SpellsPackets first ps cs → SpellsPacketsBy freely first ps cs
-packets_freely first [] cs h = h
-packets_freely first (p ∷ ps) cs h = (h.0, h.1, h.2, h.3.free, packets_freely false ps h.1 h.4)
-
-period_freely : (p : Period) (cs : List Column) → SpellsPeriod p cs → SpellsPeriodBy freely p cs
-period_freely p cs h = grind (arith, packets_freely)
-
-spelled_freely : (ps : List Period) (cs : List Column) → Spells ps cs → SpellsBy freely ps cs
-spelled_freely [] cs h = h
-spelled_freely (p ∷ ps) cs h = (h.0, h.1, h.2, period_freely p h.0 h.3, spelled_freely ps h.1 h.4)
-
 own_front : (ps : List Period) (cs : List Column) → IsConforming ps → Spells ps cs → IsFront cs
-own_front ps cs good h = record { periods = ps; spelled = cs; conforming = good; spells = spelled_freely ps cs h; rest = []; front = sym (append-nil cs) }
+own_front ps cs good h = record { periods = ps; spelled = cs; conforming = good; spells = free_spelled ps cs h; rest = []; front = sym (append-nil cs) }
 
 account_fine : (ps : List Period) (cs : List Column) → IsConforming ps → Spells ps cs → Fine (account_from 0 (length cs) [] ps cs cs)
 unfolding heard heard_so_far
 account_fine ps cs good h =
-    subst (λ (ts : List Event). Fine ts) (ap (tells 0) (sym (take_all (length cs) cs (omega arith))) ∙ joining_law ps cs cs (undamaged ps cs good h) 0 (length cs)) (front_is_clean cs (own_front ps cs good h))
+    subst (λ (ts : List Event). Fine ts) (ap (tells 0) (sym (take_all (length cs) cs (omega arith))) ∙ joining_law ps cs cs (free_received ps cs cs (undamaged ps cs good h)) 0 (length cs)) (front_is_clean cs (own_front ps cs good h))
 
 -- ---- the text, period after period
 

@@ -1,16 +1,21 @@
--- The packets of a data island that stands alone are reported, each that is as sent in the account with the lines of the packet
+-- The packets of a data island that stands alone, or beside anything in one island, are reported, each that is as sent in the account with the lines of the packet
 -- as it was sent.
-use Rattle.std.proofs.Common.{◌≡◌, ℕ, suc, ◌+◌, ◌-◌, ◌*◌, ◌≤◌, List, [], ◌∷◌, ◌++◌, map, length, take, drop, ap, ap₂, ◌∙◌, arith}
+use Rattle.std.proofs.Common.{◌≡◌, ℕ, suc, ◌+◌, ◌-◌, ◌*◌, ◌≤◌, Bool, true, List, [], ◌∷◌, ◌++◌, map, length, take, drop, ap, ap₂, ◌∙◌, arith}
 use Rattle.std.proofs.lemmas.List.{map-append}
+use Rattle.std.specs.Prelude.{◌==◌}
 use Rattle.tmds_word.specs.Column.{Column}
+use Rattle.island_pack.specs.Packets.{CarriesFreely}
+use Rattle.island_pack.specs.Spelling.{column_words}
 use Rattle.island_pack.specs.Periods.{DataIsland, island}
 use Rattle.island_pack.specs.Repaired.{verdicts_of}
 use Rattle.island_pack.specs.declared.packet.Packet.{Packet}
-use Rattle.period_grammar.specs.Events.{Event, EventAt, all_at, event_of}
+use Rattle.period_grammar.specs.Events.{Event, EventAt, packet, long_island, all_at, event_of}
+use Rattle.period_grammar.specs.Island.{if_so, packet_faults, packet_events}
 use Rattle.period_grammar.proofs.Hearings.{events_at}
 use Rattle.link_laws.specs.Account.{packet_row, packet_reported, open_island_row, close_island_row}
 use Rattle.link_laws.specs.Literal.{packets_placed, island_placed}
 use Rattle.link_laws.proofs.Joining.{ArrivesPeriod}
+use Rattle.link_laws.proofs.PacketRow.{packet_row_taken}
 use Rattle.listing_laws.specs.ListingLaws.{Each}
 use Rattle.listing_laws.specs.PacketLaws.{each_at, ReportedPacket, reported_packets, received_packet}
 use Rattle.listing_laws.proofs.EachPlaced.{island_shown}
@@ -60,3 +65,18 @@ pub island_lines : (sent received : List Column) (a x : ℕ) (i : DataIsland) (o
     → Each (IsListed sent received a) (each_at (x + 2) i.packets)
 island_lines sent received a x i own reception ss rs arrives e d =
     island_shown (IsListed sent received a) sent received (λ y p first cs. listed_here sent received a y p first cs) x i own reception ss rs arrives e d
+
+-- A packet beside anything.
+
+no_long : (c : Bool) (s : ℕ) → reported_packets (if_so c (long_island s)) ≡ []
+unfolding reported_packets
+no_long c s = grind arith
+
+-- a packet of an island is reported as the account has it, whatever else was received of the island
+pub packet_alone : (s k : ℕ) (p : Packet) (ss rs : List Column) → CarriesFreely p (map column_words ss) → length rs ≡ 32
+    → reported_packets (packet_events s k rs) ≡ record { packet = packet_row p ss rs; verdicts = verdicts_of rs; column = s } ∷ []
+unfolding packet_events packet_reported
+packet_alone s k p ss rs carries long =
+    ap (λ q. reported_packets (packet q (verdicts_of rs) s ∷ (packet_faults s (verdicts_of rs) ++ if_so (k == 18) (long_island s)))) (packet_row_taken p true ss rs carries long)
+    ∙ reported_both (packet_reported s p ss rs) (if_so (k == 18) (long_island s))
+    ∙ ap₂ (λ (ks ls : List ReportedPacket). ks ++ ls) (one_packet s p ss rs) (no_long (k == 18) s)

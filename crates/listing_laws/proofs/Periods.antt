@@ -7,6 +7,7 @@ use Rattle.std.proofs.lemmas.Bool.{le-leb, eqb-true}
 use Rattle.hex.specs.Hex.{IsBytes}
 use Rattle.island_pack.specs.Periods.{ControlRun, DataIsland, Period, control, video, island, values_of, has_preamble, VIDEO_PREAMBLE, ISLAND_PREAMBLE, period_columns, columns_of}
 use Rattle.island_pack.specs.Conforming.{is_run, is_control_period, is_video_period, is_data_island, conforms, IsConforming}
+use Rattle.island_pack.specs.declared.ranges.TheConstants.{COLUMN_LIMIT}
 use Rattle.period_grammar.specs.Events.{run as run_event, line as line_event}
 use Rattle.source_end.specs.Refusals.{last_period, is_control_last, is_in_range, is_long_enough, push_fault}
 use Rattle.source_end.proofs.Faults.{push_none}
@@ -38,12 +39,12 @@ run_count r runs = grind (arith, common_steps, length-append)
 
 -- one run
 read_run : (n at : ℕ) (ps : List Period) (done : List ControlRun) (r : ControlRun) (rest : List ℕ) → is_control_last (last_period ps) ≡ false → is_run r ≡ true
-    → columns_of ps + (length (values_of done) + r.count) ≤ 20000000 → at ≤ 14 * (columns_of ps + length (values_of done))
+    → columns_of ps + (length (values_of done) + r.count) ≤ COLUMN_LIMIT → at ≤ 14 * (columns_of ps + length (values_of done))
     → read_lines link_step n at (reported (with_open ps done)) (pieces_of (line_of (run_event r.value r.count) ++ rest)) ≡ read_lines link_step (n + 1) (at + length (run_body r) + 1) (reported (with_open ps (done ++ r ∷ []))) (pieces_of rest)
 read_run n at ps done r rest turn run few before =
     let below : r.value < 64 = below-from r.value 64 (and-left (nat_lt r.value 64) (nat_le 1 r.count) run) in
     let some : 1 ≤ r.count = least 1 r.count (and-right (nat_lt r.value 64) (nat_le 1 r.count) run) in
-    let small : r.count ≤ 20000000 = omega arith in
+    let small : r.count ≤ COLUMN_LIMIT = omega arith in
     let open_columns = columns_open ps done in
     let short = run_body_short r small in
     ap (λ (text : List ℕ). read_lines link_step n at (reported (with_open ps done)) (pieces_of text)) (line_is (run_event r.value r.count) (run_body r) rest (run_words r))
@@ -54,7 +55,7 @@ read_run n at ps done r rest turn run few before =
 
 -- all runs: `goal` is what the text after them reads as
 read_runs : (ps : List Period) (done runs all : List ControlRun) (n at : ℕ) (rest : List ℕ) (goal : Read (List Period)) → is_control_last (last_period ps) ≡ false → list_all is_run runs ≡ true
-    → done ++ runs ≡ all → columns_of ps + (length (values_of done) + length (values_of runs)) ≤ 20000000 → at ≤ 14 * (columns_of ps + length (values_of done))
+    → done ++ runs ≡ all → columns_of ps + (length (values_of done) + length (values_of runs)) ≤ COLUMN_LIMIT → at ≤ 14 * (columns_of ps + length (values_of done))
     → ((m to : ℕ) → to ≤ 14 * (columns_of ps + length (values_of all)) → read_lines link_step m to (reported (with_open ps all)) (pieces_of rest) ≡ goal)
     → read_lines link_step n at (reported (with_open ps done)) (pieces_of (run_lines runs ++ rest)) ≡ goal
 unfolding run_lines
@@ -89,7 +90,7 @@ some_runs ps runs h = grind arith
 
 -- a control period, from its first line on
 read_control : (ps : List Period) (runs : List ControlRun) (n at : ℕ) (rest : List ℕ) (goal : Read (List Period)) → is_control_last (last_period ps) ≡ false → is_control_period runs ≡ true
-    → columns_of ps + length (values_of runs) ≤ 20000000 → at ≤ 14 * columns_of ps
+    → columns_of ps + length (values_of runs) ≤ COLUMN_LIMIT → at ≤ 14 * columns_of ps
     → ((m to : ℕ) → to ≤ 14 * (columns_of ps + length (values_of runs)) → read_lines link_step m to (reported (ps ++ control runs ∷ [])) (pieces_of rest) ≡ goal)
     → read_lines link_step n at (reported ps) (pieces_of (run_lines runs ++ rest)) ≡ goal
 unfolding values_of
@@ -105,7 +106,7 @@ is_long : (ps : List Period) (runs : List ControlRun) → is_control_period runs
 is_long ps runs period = ap is_long_enough (last_of_more ps (control runs)) ∙ long_enough runs period
 
 -- the line `end`
-read_last : (n at : ℕ) (ps : List Period) (runs : List ControlRun) → is_control_period runs ≡ true → columns_of ps + length (values_of runs) ≤ 20000000
+read_last : (n at : ℕ) (ps : List Period) (runs : List ControlRun) → is_control_period runs ≡ true → columns_of ps + length (values_of runs) ≤ COLUMN_LIMIT
     → at ≤ 14 * (columns_of ps + length (values_of runs)) → read_lines link_step n at (reported (ps ++ control runs ∷ [])) (pieces_of (text_of [])) ≡ accepts (ps ++ control runs ∷ [])
 unfolding text_of
 read_last n at ps runs period few before =
@@ -124,12 +125,12 @@ video_is bytes period = grind (arith, and-right, bytes_from, and-left, eqb-true,
 
 -- a video data period after a control period has no fault
 video_follows : (ps : List Period) (runs : List ControlRun) (bytes : List ℕ) → is_control_period runs ≡ true → has_preamble VIDEO_PREAMBLE (values_of runs) ≡ true → IsVideo bytes
-    → columns_of (ps ++ control runs ∷ []) + period_columns (video bytes) ≤ 20000000 → push_fault (ps ++ control runs ∷ []) (video bytes) ≡ None
+    → columns_of (ps ++ control runs ∷ []) + period_columns (video bytes) ≤ COLUMN_LIMIT → push_fault (ps ++ control runs ∷ []) (video bytes) ≡ None
 video_follows ps runs bytes period announced is few = grind (arith, last_of_more, push_none, long_enough, le-leb)
 
 -- a video data period's line
 read_video : (n at : ℕ) (ps : List Period) (runs : List ControlRun) (bytes rest : List ℕ) → is_control_period runs ≡ true → has_preamble VIDEO_PREAMBLE (values_of runs) ≡ true → IsVideo bytes
-    → columns_of (ps ++ control runs ∷ []) + period_columns (video bytes) ≤ 20000000 → at ≤ 14 * columns_of (ps ++ control runs ∷ [])
+    → columns_of (ps ++ control runs ∷ []) + period_columns (video bytes) ≤ COLUMN_LIMIT → at ≤ 14 * columns_of (ps ++ control runs ∷ [])
     → read_lines link_step n at (reported (ps ++ control runs ∷ [])) (pieces_of (line_of (line_event bytes) ++ rest))
     ≡ read_lines link_step (n + 1) (at + length (video_body bytes) + 1) (reported ((ps ++ control runs ∷ []) ++ video bytes ∷ [])) (pieces_of rest)
 read_video n at ps runs bytes rest period announced is few before =
@@ -188,7 +189,7 @@ island_text x rest = refl
 
 -- a control period and a video data period, where `goal` is what the text after them reads as
 read_video_pair : (ps : List Period) (runs : List ControlRun) (bytes : List ℕ) (n at : ℕ) (rest : List Period) (goal : Read (List Period)) → is_control_last (last_period ps) ≡ false → is_control_period runs ≡ true
-    → has_preamble VIDEO_PREAMBLE (values_of runs) ≡ true → is_video_period bytes ≡ true → columns_of ps + (length (values_of runs) + (2 + length bytes / 3)) ≤ 20000000 → at ≤ 14 * columns_of ps
+    → has_preamble VIDEO_PREAMBLE (values_of runs) ≡ true → is_video_period bytes ≡ true → columns_of ps + (length (values_of runs) + (2 + length bytes / 3)) ≤ COLUMN_LIMIT → at ≤ 14 * columns_of ps
     → ((m to : ℕ) → to ≤ 14 * (columns_of ps + (length (values_of runs) + (2 + length bytes / 3))) → read_lines link_step m to (reported ((ps ++ control runs ∷ []) ++ video bytes ∷ [])) (pieces_of (text_of rest)) ≡ goal)
     → read_lines link_step n at (reported ps) (pieces_of (text_of (control runs ∷ (video bytes ∷ rest)))) ≡ goal
 read_video_pair ps runs bytes n at rest goal turn period announced good few before later =
@@ -206,7 +207,7 @@ read_video_pair ps runs bytes n at rest goal turn period announced good few befo
 
 -- a control period and a data island
 read_island_pair : (ps : List Period) (runs : List ControlRun) (x : DataIsland) (n at : ℕ) (rest : List Period) (goal : Read (List Period)) → is_control_last (last_period ps) ≡ false → is_control_period runs ≡ true
-    → has_preamble ISLAND_PREAMBLE (values_of runs) ≡ true → is_data_island x ≡ true → columns_of ps + (length (values_of runs) + (4 + 32 * length x.packets)) ≤ 20000000 → at ≤ 14 * columns_of ps
+    → has_preamble ISLAND_PREAMBLE (values_of runs) ≡ true → is_data_island x ≡ true → columns_of ps + (length (values_of runs) + (4 + 32 * length x.packets)) ≤ COLUMN_LIMIT → at ≤ 14 * columns_of ps
     → ((m to : ℕ) → to ≤ 14 * (columns_of ps + (length (values_of runs) + (4 + 32 * length x.packets))) → read_lines link_step m to (reported ((ps ++ control runs ∷ []) ++ island x ∷ [])) (pieces_of (text_of rest)) ≡ goal)
     → read_lines link_step n at (reported ps) (pieces_of (text_of (control runs ∷ (island x ∷ rest)))) ≡ goal
 read_island_pair ps runs x n at rest goal turn period announced good few before later =
@@ -224,7 +225,7 @@ joined_pair : (ps : List Period) (p q : Period) (rest : List Period) → ((ps ++
 joined_pair ps p q rest = append_assoc (ps ++ p ∷ []) (q ∷ []) rest ∙ append_assoc ps (p ∷ []) (q ∷ rest)
 
 -- the text of the periods `rest` after the periods `ps`
-read_periods : (rest ps : List Period) (n at : ℕ) → conforms rest ≡ true → is_control_last (last_period ps) ≡ false → columns_of ps + columns_of rest ≤ 20000000 → at ≤ 14 * columns_of ps
+read_periods : (rest ps : List Period) (n at : ℕ) → conforms rest ≡ true → is_control_last (last_period ps) ≡ false → columns_of ps + columns_of rest ≤ COLUMN_LIMIT → at ≤ 14 * columns_of ps
     → read_lines link_step n at (reported ps) (pieces_of (text_of rest)) ≡ accepts (ps ++ rest)
 unfolding conforms
 read_periods [] ps n at good turn few before = absurd cc
@@ -272,6 +273,6 @@ read_periods (control runs ∷ (island x ∷ rest)) ps n at good turn few before
     ∙ ap accepts (joined_pair ps (control runs) (island x) rest))
 
 -- the text of a conforming stream of at most 20,000,000 columns reads as that stream
-pub reads_back : (periods : List Period) → IsConforming periods → columns_of periods ≤ 20000000 → reads_as (text_of periods) ≡ accepts periods
+pub reads_back : (periods : List Period) → IsConforming periods → columns_of periods ≤ COLUMN_LIMIT → reads_as (text_of periods) ≡ accepts periods
 unfolding reads_as columns_of
 reads_back periods good few = read_periods periods [] 1 0 good refl (omega arith) (omega arith)

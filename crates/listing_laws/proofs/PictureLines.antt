@@ -82,7 +82,7 @@ unfolding vic_lines
 no_vic vic note = grind (arith, choice_none)
 
 -- the lines of a row, or of a frame
-abbrev reported_lines : Listed → List (List ℕ)
+abbrev pub reported_lines : Listed → List (List ℕ)
 reported_lines (row pixels note) = line_of (row pixels note) ∷ (if note.ragged then with_fields (codes "! ragged") (note.row ∷ []) ∷ [] else [])
 reported_lines (frame note) = line_of (frame note) ∷ []
 
@@ -95,7 +95,7 @@ ragged_line : (t : Bool) (n : ℕ)
 ragged_line t n = grind arith
 
 -- what is listed at an event
-event_lines : (reported : List Event) (event : Event) → filter tells_picture (lines_at reported event) ≡ flat_map reported_lines (listed_at (frame_events reported) event)
+pub event_lines : (reported : List Event) (event : Event) → filter tells_picture (lines_at reported event) ≡ flat_map reported_lines (listed_at (frame_events reported) event)
 unfolding lines_at frame_event_of line_words packet_lines row_lines
 event_lines reported event = grind (arith, frame_line, ragged_line, choice_none, no_carried)
 

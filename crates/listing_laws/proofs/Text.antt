@@ -1,4 +1,4 @@
--- The text that describes periods as a link listing (docs/FORMATS.md).
+-- The text that describes periods as a link listing (docs/guide/FORMATS.md).
 use Rattle.std.specs.Prelude.{ℕ, List, [], ◌∷◌, ◌++◌, codes}
 use Rattle.island_pack.specs.Periods.{ControlRun, Period, control, video, island}
 use Rattle.island_pack.specs.declared.packet.Packet.{Packet}

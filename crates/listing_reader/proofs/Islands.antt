@@ -5,6 +5,7 @@ use Rattle.std.specs.List.{list_all}
 use Rattle.island_pack.specs.Periods.{DataIsland, Period, video, island, period_columns, columns_of}
 use Rattle.island_pack.specs.Conforming.{is_sync_pair, is_packet, is_data_island}
 use Rattle.island_pack.specs.declared.packet.Packet.{Packet}
+use Rattle.island_pack.specs.declared.ranges.TheConstants.{COLUMN_LIMIT}
 use Rattle.source_end.specs.Refusals.{last_period, is_control_last, is_long_enough, is_in_range, is_in_order, has_control, is_announced, push_fault, close_fault}
 use Rattle.source_end.proofs.Faults.{first, push_fault_is}
 use Rattle.source_end.proofs.Turns.{left as first_of, right as second_of}
@@ -20,8 +21,8 @@ use Rattle.listing_reader.proofs.Feeds.{both}
 use Rattle.listing_reader.proofs.OpenPeriods.{le_from}
 use Rattle.listing_reader.proofs.Refused.{goes_past, test_held, rest_held}
 
-pub room_is : (draft : Draft) (count : ℕ) → has_room draft count ≡ true → draft_columns draft + count ≤ 20000000
-room_is draft count h = le_from (draft_columns draft + count) 20000000 h
+pub room_is : (draft : Draft) (count : ℕ) → has_room draft count ≡ true → draft_columns draft + count ≤ COLUMN_LIMIT
+room_is draft count h = le_from (draft_columns draft + count) COLUMN_LIMIT h
 
 -- ---- no island
 
@@ -43,10 +44,10 @@ turned T test true rest refusal h order range = absurd cc
 turned T true false rest refusal h order range = subst (λ (r : Refusal). AnswersCause {T = T} (Some Order) (Err r)) (sym (order refl)) refl
 turned T false false rest refusal h order range = subst (λ (r : Refusal). AnswersCause {T = T} (Some Range) (Err r)) (sym (range refl)) refl
 
-pub run_turned : (T : Type 0) (draft : Draft) (value count : ℕ) (refusal : Refusal) → is_closed draft.opened ≡ false → ((nat_lt value 64 && (nat_le 1 count && nat_le count 20000000)) ≡ true → refusal ≡ Cause Order)
-    → ((nat_lt value 64 && (nat_le 1 count && nat_le count 20000000)) ≡ false → refusal ≡ Cause Range) → AnswersCause {T = T} (line_cause draft (control_line value count)) (Err refusal)
+pub run_turned : (T : Type 0) (draft : Draft) (value count : ℕ) (refusal : Refusal) → is_closed draft.opened ≡ false → ((nat_lt value 64 && (nat_le 1 count && nat_le count COLUMN_LIMIT)) ≡ true → refusal ≡ Cause Order)
+    → ((nat_lt value 64 && (nat_le 1 count && nat_le count COLUMN_LIMIT)) ≡ false → refusal ≡ Cause Range) → AnswersCause {T = T} (line_cause draft (control_line value count)) (Err refusal)
 unfolding line_cause run_cause
-run_turned T draft value count refusal h order range = turned T (nat_lt value 64 && (nat_le 1 count && nat_le count 20000000)) (is_closed draft.opened) _ refusal h order range
+run_turned T draft value count refusal h order range = turned T (nat_lt value 64 && (nat_le 1 count && nat_le count COLUMN_LIMIT)) (is_closed draft.opened) _ refusal h order range
 
 pub video_turned : (T : Type 0) (draft : Draft) (bytes : List ℕ) (refusal : Refusal) → is_closed draft.opened ≡ false → (is_in_range (video bytes) ≡ true → refusal ≡ Cause Order) → (is_in_range (video bytes) ≡ false → refusal ≡ Cause Range)
     → AnswersCause {T = T} (line_cause draft (video_line bytes)) (Err refusal)
@@ -65,8 +66,8 @@ unfolding line_cause run_cause
 run_judged draft value count h =
     let none = closed_columns draft.opened h in
     let same : draft_columns draft ≡ columns_of draft.periods = omega arith in
-    ap (unless (nat_lt value 64 && (nat_le 1 count && nat_le count 20000000)) Range)
-    (goes_past (is_closed draft.opened) Order (unless (has_room draft count) Long None) h ∙ ap (λ n. unless (nat_le (n + count) 20000000) Long None) same)
+    ap (unless (nat_lt value 64 && (nat_le 1 count && nat_le count COLUMN_LIMIT)) Range)
+    (goes_past (is_closed draft.opened) Order (unless (has_room draft count) Long None) h ∙ ap (λ n. unless (nat_le (n + count) COLUMN_LIMIT) Long None) same)
 
 judged_twice : (a b c d e : Bool) → unless a Range (caused (first a b c d e)) ≡ caused (first a b c d e)
 judged_twice true b c d e = refl
@@ -79,7 +80,7 @@ video_judged draft bytes h =
     let before = last_period draft.periods in
     let all = push_fault_is draft.periods p in
     ap (unless (is_in_range p) Range) (goes_past (is_closed draft.opened) Order (caused (push_fault draft.periods p)) h ∙ ap caused all)
-    ∙ judged_twice (is_in_range p) (is_in_order before p) (has_control before p) (is_announced before p) (nat_le (columns_of draft.periods + period_columns p) 20000000)
+    ∙ judged_twice (is_in_range p) (is_in_order before p) (has_control before p) (is_announced before p) (nat_le (columns_of draft.periods + period_columns p) COLUMN_LIMIT)
     ∙ sym (ap caused all)
 
 pub end_judged : (draft : Draft) → is_closed draft.opened ≡ true → end_cause draft ≡ caused (close_fault draft.periods)
@@ -193,8 +194,8 @@ closes periods x draft a b y begun same some more =
     let sum : columns_of periods + (4 + 32 * length y.packets) ≡ draft_columns draft + 2 = omega arith in
     judged_close (nat_lt a 4 && nat_lt b 4) (has_packets 1 18 draft.opened) (has_room draft 2) some
     ∙ ap caused
-    (sym (same_first (is_in_range (island y)) (is_in_order before (island y)) (has_control before (island y)) (is_announced before (island y)) (nat_le (columns_of periods + (4 + 32 * length y.packets)) 20000000) (nat_lt a 4 && nat_lt b 4) (has_room draft 2)
-    range (ends_control before y begun.long) begun.long (is_announced_is before y ∙ begun.announced) (ap (λ n. nat_le n 20000000) sum))
+    (sym (same_first (is_in_range (island y)) (is_in_order before (island y)) (has_control before (island y)) (is_announced before (island y)) (nat_le (columns_of periods + (4 + 32 * length y.packets)) COLUMN_LIMIT) (nat_lt a 4 && nat_lt b 4) (has_room draft 2)
+    range (ends_control before y begun.long) begun.long (is_announced_is before y ∙ begun.announced) (ap (λ n. nat_le n COLUMN_LIMIT) sum))
     ∙ sym (push_fault_is periods (island y)))
 
 pub closes_at : (periods : List Period) (before : Option DataIsland) (x : DataIsland) (draft : Draft) (a b : ℕ) (y : DataIsland) → before ≡ Some x → MayStand periods before → drafted periods before ≡ draft → has_packets 1 18 draft.opened ≡ true

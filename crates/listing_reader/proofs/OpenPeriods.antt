@@ -3,6 +3,7 @@ use Rattle.std.proofs.Common.{◌≡◌, ℕ, ◌+◌, ◌≤◌, ◌==◌, Bool
 use Rattle.std.specs.Prelude.{nat_le, nat_lt}
 use Rattle.std.specs.List.{list_all}
 use Rattle.island_pack.specs.Periods.{ControlRun, Period, control, video, island, values_of, has_preamble, ISLAND_PREAMBLE, period_columns, columns_of}
+use Rattle.island_pack.specs.declared.ranges.TheConstants.{COLUMN_LIMIT}
 use Rattle.source_end.specs.Kept.{capped}
 use Rattle.source_end.specs.Refusals.{last_period, is_control_last, is_in_range, is_in_order, is_long_enough}
 use Rattle.source_end.proofs.Turns.{columns_of-more, left as first_of, right as second_of}
@@ -49,9 +50,9 @@ passes_more : (p : ControlRun → Bool) (rs : List ControlRun) (r : ControlRun) 
 passes_more p [] r h k = both (p r) true k refl
 passes_more p (q ∷ rs) r h k = both (p q) (list_all p (rs ++ r ∷ [])) (first_of (p q) (list_all p rs) h) (passes_more p rs r (second_of (p q) (list_all p rs) h) k)
 
-pub in_range_more : (rs : List ControlRun) (r : ControlRun) → is_in_range (control rs) ≡ true → (nat_lt r.value 64 && (nat_le 1 r.count && nat_le r.count 20000000)) ≡ true → is_in_range (control (rs ++ r ∷ [])) ≡ true
+pub in_range_more : (rs : List ControlRun) (r : ControlRun) → is_in_range (control rs) ≡ true → (nat_lt r.value 64 && (nat_le 1 r.count && nat_le r.count COLUMN_LIMIT)) ≡ true → is_in_range (control (rs ++ r ∷ [])) ≡ true
 unfolding is_in_range
-in_range_more rs r h range = passes_more (λ q. nat_lt q.value 64 && (nat_le 1 q.count && nat_le q.count 20000000)) rs r h range
+in_range_more rs r h range = passes_more (λ q. nat_lt q.value 64 && (nat_le 1 q.count && nat_le q.count COLUMN_LIMIT)) rs r h range
 
 pub none_in_range : (rs : List ControlRun) → rs ≡ [] → is_in_range (control rs) ≡ true
 unfolding is_in_range

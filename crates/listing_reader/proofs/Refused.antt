@@ -6,6 +6,7 @@ use Rattle.hex.specs.Hex.{decode_of}
 use Rattle.hex.specs.declared.error.FromHexError.{FromHexError}
 use Rattle.island_pack.specs.Periods.{video}
 use Rattle.island_pack.specs.declared.packet.Packet.{Packet}
+use Rattle.island_pack.specs.declared.ranges.TheConstants.{COLUMN_LIMIT}
 use Rattle.source_end.specs.declared.items.ItemFault.{ItemFault}
 use Rattle.source_end.specs.Refusals.{last_period, is_control_last, is_long_enough, is_in_range, push_fault, close_fault, AnswersFault}
 use Rattle.source_end.proofs.Faults.{last_first}
@@ -34,7 +35,7 @@ rest_held test cause rest h = grind arith
 
 -- Runs.
 
-pub run_fits : (draft : Draft) (value count : ℕ) → (nat_lt value 64 && (nat_le 1 count && nat_le count 20000000)) ≡ true → is_closed draft.opened ≡ true → has_room draft count ≡ true → run_cause draft value count ≡ None
+pub run_fits : (draft : Draft) (value count : ℕ) → (nat_lt value 64 && (nat_le 1 count && nat_le count COLUMN_LIMIT)) ≡ true → is_closed draft.opened ≡ true → has_room draft count ≡ true → run_cause draft value count ≡ None
 unfolding run_cause
 run_fits draft value count range closed room = goes_past _ Range _ range ∙ goes_past _ Order _ closed ∙ goes_past _ Long _ room
 

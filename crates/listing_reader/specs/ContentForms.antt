@@ -1,4 +1,4 @@
--- The forms of the lines of a content listing (docs/FORMATS.md).
+-- The forms of the lines of a content listing (docs/guide/FORMATS.md).
 use Rattle.std.specs.Prelude.{ℕ, ◌+◌, ◌*◌, ◌%◌, Bool, true, false, ◌==◌, ◌&&◌, if◌then◌else◌, List, [], ◌∷◌, ◌++◌, length, take, drop, nat_le, nat_lt, nat_eq, slice_index, Option, Some, None, Result, Ok, Err, codes}
 use Rattle.std.specs.List.{list_all, starts_with}
 use Rattle.hex.specs.Hex.{decode_of}

@@ -3,6 +3,7 @@ use Rattle.std.specs.Prelude.{◌≡◌, ◌+◌, ◌*◌, ◌≤◌, true, List
 use Rattle.std.specs.List.{list_all}
 use Rattle.island_pack.specs.Periods.{ControlRun, DataIsland, Period, control, columns_of}
 use Rattle.island_pack.specs.Conforming.{is_sync_pair, is_packet}
+use Rattle.island_pack.specs.declared.ranges.TheConstants.{COLUMN_LIMIT}
 use Rattle.source_end.specs.Refusals.{last_period, is_long_enough}
 use Rattle.source_end.specs.declared.items.ItemFault.{ItemFault}
 use Rattle.source_end.specs.declared.items.ItemFault.TheVariants.{Range as range_fault, Order as order_fault, Control as control_fault, Preamble as preamble_fault, Long as long_fault, NoMemory as no_memory}
@@ -34,7 +35,7 @@ pub record IsBegun (periods : List Period) (x : DataIsland) : Type 0 where
   pub opening : is_sync_pair x.opening ≡ true
   pub packets : list_all is_packet x.packets ≡ true
   pub few : length x.packets ≤ 18
-  pub room : columns_of periods + (2 + 32 * length x.packets) ≤ 20000000
+  pub room : columns_of periods + (2 + 32 * length x.packets) ≤ COLUMN_LIMIT
 
 -- no island, or such a one
 abbrev pub MayStand : List Period → Option DataIsland → Type 0

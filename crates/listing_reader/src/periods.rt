@@ -1,6 +1,7 @@
 //! The periods that the lines of a listing have given, with guard bands or without them.
 ghost use Rattle.std.specs.Prelude.{◌≡◌, ◌≤◌, ◌++◌, ◌∷◌, [], Some, None, IfOk, IfErr, IsTrue, false, true};
 ghost use Rattle.island_pack.specs.Periods.{control};
+ghost use Rattle.island_pack.specs.declared.ranges.TheConstants.{COLUMN_LIMIT};
 ghost use Rattle.source_end.specs.ItemPeriods.{period_of};
 ghost use Rattle.source_end.specs.Refusals.{close_fault, last_period, is_control_last, is_in_range, is_long_enough};
 ghost use Rattle.listing_reader.specs.Causes.{caused, announces_island, run_cause_after};
@@ -26,6 +27,7 @@ pub(crate) struct Periods<F: Framing> {
 impl<F: Framing> Model for Periods<F> {
     ghost use Rattle.std.specs.Prelude.{◌≡◌, ◌≤◌, List, false, true};
     ghost use Rattle.island_pack.specs.Periods.{Period, control};
+    ghost use Rattle.island_pack.specs.declared.ranges.TheConstants.{COLUMN_LIMIT};
     ghost use Rattle.source_end.specs.Refusals.{last_period, is_control_last, is_in_range};
     ghost use Rattle.listing_reader.specs.Reported.{with_open};
 
@@ -34,7 +36,7 @@ impl<F: Framing> Model for Periods<F> {
     ghost view = { λ p. with_open p.items p.runs };
 
     ghost invariant = { λ p. record {
-      few : F.rules.columns_of (with_open p.items p.runs) ≤ 20000000;
+      few : F.rules.columns_of (with_open p.items p.runs) ≤ COLUMN_LIMIT;
       turn : is_control_last (last_period p.items) ≡ false;
       in_range : is_in_range (control p.runs) ≡ true;
     } };
@@ -59,7 +61,7 @@ impl<F: Framing> Periods<F> {
     /// How many columns they take.
     pub(crate) fn columns(&self) -> u32
         ensures value { result ≡ F.rules.columns_of self.now }
-        ensures few { result ≤ 20000000 }
+        ensures few { result ≤ COLUMN_LIMIT }
     {
         F::lawful();
         self.items.columns() + self.runs.columns()
@@ -149,7 +151,7 @@ fn renewed<F: Framing>(alloc: Global, items: FramedItems<F>) -> Periods<F>
 fn closed<F: Framing>(items: FramedItems<F>, runs: Runs) -> Result<FramedItems<F>, Refusal>
     requires turn { is_control_last (last_period items) ≡ false }
     requires in_range { is_in_range (control runs) ≡ true }
-    requires few { F.rules.columns_of (with_open items runs) ≤ 20000000 }
+    requires few { F.rules.columns_of (with_open items runs) ≤ COLUMN_LIMIT }
     ensures ok { IfOk result (λ all. all ≡ with_open items runs) }
     ensures err { IfErr result (λ refusal. refusal ≡ Refusal.NoMemory) }
 {

@@ -3,6 +3,7 @@ ghost use Rattle.std.specs.Prelude.{◌≡◌, ◌≢◌, ℕ, ◌%◌, ◌≤�
 ghost use Rattle.std.specs.List.{list_all};
 ghost use Rattle.hex.specs.Hex.{decode_of};
 ghost use Rattle.island_pack.specs.Conforming.{is_packet};
+ghost use Rattle.island_pack.specs.declared.ranges.TheConstants.{COLUMN_LIMIT};
 ghost use Rattle.source_end.specs.Refusals.{last_period, is_control_last};
 ghost use Rattle.listing_reader.specs.Causes.{island_cause, packet_cause, close_cause, end_cause, line_cause, has_room, is_closed, has_packets, is_nineteenth};
 ghost use Rattle.listing_reader.specs.Drafts.{draft_columns, with_line};
@@ -90,7 +91,7 @@ impl Reader {
     /// How many columns were given, at most 20,000,000.
     fn columns(&self) -> u32
         ensures value { result ≡ draft_columns self.now }
-        ensures few { result ≤ 20000000 }
+        ensures few { result ≤ COLUMN_LIMIT }
     {
         match &self.island {
             Some(island) => self.periods.columns() + 2 + 32 * island.len() as u32,

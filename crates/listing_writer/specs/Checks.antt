@@ -1,4 +1,4 @@
--- The text of a check: the lines of faults and of the cut, and whether there was a fault (docs/FORMATS.md).
+-- The text of a check: the lines of faults and of the cut, and whether there was a fault (docs/guide/FORMATS.md).
 use Rattle.std.specs.Prelude.{ℕ, zero, suc, Bool, true, false, ◌||◌, List, ◌++◌, filter, codes}
 use Rattle.period_grammar.specs.Exact.{is_fault_event}
 use Rattle.period_grammar.specs.Events.{Event, cut}

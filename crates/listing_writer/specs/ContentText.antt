@@ -1,4 +1,4 @@
--- The text of a content listing: rows, frames, what packets carry, and what is wrong (docs/FORMATS.md). `reported` is all that
+-- The text of a content listing: rows, frames, what packets carry, and what is wrong (docs/guide/FORMATS.md). `reported` is all that
 -- was reported before an event, the oldest first.
 use Rattle.std.specs.Prelude.{ℕ, ◌/◌, ◌%◌, ◌==◌, Bool, true, false, not, ◌&&◌, ◌||◌, if◌then◌else◌, List, [], ◌∷◌, ◌++◌, map, reverse, length, flat_map, filter_map, count_by, slice_index, nat_le, Option, Some, None, option_map, is_some, Result, Ok, Err, codes}
 use Rattle.hex.specs.Hex.{encode_lower}

@@ -1,4 +1,4 @@
--- The text of a listing: a line for each event that is reported, and the line `end` (docs/FORMATS.md).
+-- The text of a listing: a line for each event that is reported, and the line `end` (docs/guide/FORMATS.md).
 use Rattle.std.specs.Prelude.{ℕ, ◌+◌, ◌-◌, ◌^◌, List, [], ◌∷◌, ◌++◌, map, min, max, count_by, codes, decimal}
 use Rattle.hex.specs.Hex.{encode_lower}
 use Rattle.island_pack.specs.Packets.{body_of}

@@ -163,7 +163,7 @@ fn is_lost(verdict: Verdict) -> bool
 
 /// The line of a sample.
 #[tactic(auto, unfolding(crate::specs::ContentText::sample_words))]
-pub fn sample_line(sample: &Sample) -> Line
+fn sample_line(sample: &Sample) -> Line
     ensures items { result.items ≡ sample_words sample.now ++ codes "\n" }
     ensures few { array_vec_len result ≤ 60 }
 {

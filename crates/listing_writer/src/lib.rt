@@ -13,6 +13,5 @@ mod lister;
 
 pub use checker::CheckLister;
 pub use content_lister::ContentLister;
-pub use content_packets::sample_line;
 pub use line::Line;
 pub use lister::LinkLister;

@@ -12,7 +12,7 @@ use Rattle.period_grammar.specs.ControlAfter.{IsControlAfter}
 use Rattle.period_grammar.specs.Stands.{IsStretchAfter, closed, going_on}
 use Rattle.period_grammar.specs.declared.island.Island.{Island}
 use Rattle.period_grammar.specs.declared.control.ControlState.{ControlState}
-use Rattle.period_grammar.specs.declared.phase.Phase.TheVariants.{Control, First, Island as InIsland, Noise}
+use Rattle.period_grammar.specs.declared.phase.Phase.TheVariants.{Control, First, Noise}
 use Rattle.period_grammar.proofs.Leads.{no_change, goes_run}
 use Rattle.period_grammar.proofs.Phases.{close_control}
 
@@ -54,9 +54,6 @@ control_goes kept line isle n c x h = grind arith
 
 pub first_stays : (kept : ControlState) (line : LineSeen) (isle : Island) (n start p q digit : ℕ) (c : Column) (x : Stretch) → IsStretchAfter (First start p q digit) kept line isle n x → false ≡ goes_on x c
 first_stays kept line isle n start p q digit c x h = grind arith
-
-pub island_stays : (kept : ControlState) (line : LineSeen) (isle : Island) (n start : ℕ) (c : Column) (x : Stretch) → IsStretchAfter (InIsland start) kept line isle n x → false ≡ goes_on x c
-island_stays kept line isle n start c x h = grind arith
 
 pub noise_stays : (kept : ControlState) (line : LineSeen) (isle : Island) (n : ℕ) (c : Column) (x : Stretch) → IsStretchAfter Noise kept line isle n x → false ≡ goes_on x c
 noise_stays kept line isle n c x h = grind arith

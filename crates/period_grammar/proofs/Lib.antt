@@ -16,6 +16,7 @@ pub mod Sizes
 pub mod Pixels
 pub mod Balanced
 pub mod Many
+pub mod InPacket
 pub mod Groups
 pub mod Alike
 pub mod Pushed

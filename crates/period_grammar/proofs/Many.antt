@@ -122,7 +122,7 @@ run_heard kept control cs (c ∷ ds) at was all =
 module _ (control cs : List Column) (g h c : Column) (rest : List Column) (at : last (stretches cs) ≡ stretch control (g ∷ (h ∷ rest))) (opens : opened g h ≡ video) where
   pixel_goes : goes_on (last (stretches cs)) c ≡ is_pixel c
   unfolding is_pixel
-  pixel_goes = ap (λ x. goes_on x c) at ∙ ap (λ k. goes_on_line k c) opens
+  pixel_goes = ap (λ x. goes_on x c) at ∙ ap (λ k. goes_on_line k rest c) opens
 
   pixel_last : is_control_column c ≡ false → last (stretches (cs ++ c ∷ [])) ≡ stretch control (g ∷ (h ∷ (rest ++ c ∷ [])))
   pixel_last e = last_push_stretch cs c ∙ ap₂ (λ p x. grown p c x) e at

@@ -11,7 +11,7 @@ ghost use Rattle.period_grammar.specs.After.{last};
 ghost use Rattle.period_grammar.specs.GoesOn.{goes_on, count_going_on};
 ghost use Rattle.period_grammar.specs.Stands.{HearingRepresents};
 ghost use Rattle.period_grammar.specs.Lending.{lent_event, last_reported};
-ghost use Rattle.period_grammar.specs.declared.phase.Phase.TheVariants.{Control, Video};
+ghost use Rattle.period_grammar.specs.declared.phase.Phase.TheVariants.{Control, Video, Island as InIsland};
 
 use crate::column;
 use crate::control::ControlState;
@@ -76,14 +76,14 @@ impl Hearing {
         ensures reported { (cs : List Column) → HearingRepresents self.old cs → heard_so_far (cs ++ column_of column.now ∷ []) ≡ heard_so_far cs ++ all_at (length cs) (last_reported self.new) }
     {
         self.notes.clear();
-        // Nearly every column goes on with a run or a line, and nothing is reported at it.
+        // Nearly every column goes on with a run, a line or a packet, and nothing is reported at it.
         if !self.hear_on(column) {
             self.hear_any(column);
         }
     }
 
-    /// Hears columns from the first on, as long as they go on with the run or the line that is open, and answers how many
-    /// these are: none where none is open. Nothing is reported. `hear` takes the column that follows.
+    /// Hears columns from the first on, as long as they go on with the run, the line or the packet that is open, and answers
+    /// how many these are: none where none is open. Nothing is reported. `hear` takes the column that follows.
     pub fn hear_while(&mut self, columns: Columns<'_>) -> usize
         requires few { self.old.columns + length (columns_in columns) ≤ 429496730 }
         requires open { self.old.finished ≡ false }
@@ -126,8 +126,8 @@ impl Hearing {
         match self.phase {
             Phase::Control => self.hear_run(columns),
             Phase::Video { .. } => self.hear_line(columns),
+            Phase::Island { .. } => self.hear_packet(columns),
             Phase::First { .. } => 0,
-            Phase::Island { .. } => 0,
             Phase::Noise => 0,
         }
     }
@@ -167,8 +167,24 @@ impl Hearing {
         count
     }
 
-    /// Hears a column that goes on with the run or the line that is open, and says whether it does. Of any other it
-    /// hears nothing.
+    /// Hears columns of the packet that is being received, and answers how many these are.
+    fn hear_packet(&mut self, columns: Columns<'_>) -> usize
+        requires phase { (start : ℕ) × (self.old.phase ≡ InIsland start) }
+        requires few { self.old.columns + length (columns_in columns) ≤ 429496730 }
+        ensures within { result ≤ length (columns_in columns.entry) }
+        ensures count { (cs : List Column) → HearingRepresents self.old cs → result ≡ count_going_on cs (columns_in columns.entry) }
+        ensures columns { self.new.columns ≡ self.old.columns + result }
+        ensures open { self.new.finished ≡ self.old.finished }
+        ensures notes { self.new.notes ≡ self.old.notes }
+        ensures heard { (cs : List Column) → HearingRepresents self.old cs → HearingRepresents self.new (cs ++ take result (columns_in columns.entry)) }
+        ensures reported { (cs : List Column) → HearingRepresents self.old cs → heard_so_far (cs ++ take result (columns_in columns.entry)) ≡ heard_so_far cs }
+    {
+        let count = self.island.hear_while(columns);
+        self.columns += count as u32;
+        count
+    }
+
+    /// Hears a column that goes on with what is open, and says whether it does. Of any other it hears nothing.
     fn hear_on(&mut self, column: &[Word; 3]) -> bool
         requires { self.old.columns < 429496730 }
         ensures count { (cs : List Column) → HearingRepresents self.old cs → result ≡ goes_on (last (stretches cs)) (column_of column.now) }
@@ -196,7 +212,17 @@ impl Hearing {
                 self.line.hear(column);
                 true
             }
-            Phase::First { .. } | Phase::Island { .. } | Phase::Noise => false,
+            Phase::Island { .. } => {
+                if is_control_column(column) {
+                    return false;
+                }
+                if !self.island.hear_on(column) {
+                    return false;
+                }
+                self.columns += 1;
+                true
+            }
+            Phase::First { .. } | Phase::Noise => false,
         }
     }
 

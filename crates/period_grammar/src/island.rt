@@ -1,13 +1,17 @@
 //! The columns of an island after its opening guard.
-ghost use Rattle.std.specs.Prelude.{◌≡◌, ◌<◌, ◌≤◌, ◌+◌, ◌*◌, ◌^◌, ◌++◌, ◌∷◌, [], List, ℕ, length, take, Bool, true, false, not, ◌==◌};
+ghost use Rattle.std.specs.Prelude.{◌≡◌, ◌↔◌, ◌<◌, ◌≤◌, ◌+◌, ◌*◌, ◌^◌, ◌++◌, ◌∷◌, [], List, ℕ, All, IsTrue, length, map, take, Bool, true, false, not, ◌==◌, nat_le};
+ghost use Rattle.std.specs.Bool.{OnTrue, OnFalse};
 ghost use Rattle.tmds_word.specs.Column.{Column, column_of};
+ghost use Rattle.tmds_word.specs.Lent.{columns_in};
 ghost use Rattle.period_grammar.specs.Column.{sync_digit};
-ghost use Rattle.terc4.specs.Columns.{is_island_guard};
+ghost use Rattle.terc4.specs.Columns.{is_island_guard, closing_words};
 ghost use Rattle.period_grammar.specs.Events.{Event, guard, empty, symbols, long_island};
 ghost use Rattle.island_pack.specs.Spelling.{column_words};
 ghost use Rattle.island_pack.specs.Repaired.{packet_of, verdicts_of, packet_in, verdicts_in};
 ghost use Rattle.period_grammar.specs.Island.{Payload, payload, packet_events, closing_events, breaks, if_so, block_fault, packet_faults};
 ghost use Rattle.period_grammar.specs.After.{island_gain, after_payload};
+ghost use Rattle.period_grammar.specs.GoesOn.{goes_on_packet, count_in_island, AreGoingOn};
+ghost use Rattle.period_grammar.specs.Balanced.{is_pixel};
 ghost use Rattle.period_grammar.specs.IslandAfter.{IsIslandAfter, IsBlocked, IsPartsAfter, at_some};
 ghost use Rattle.period_grammar.specs.Noted.{events, Lent, lent};
 
@@ -16,8 +20,8 @@ use crate::event::Fault;
 use crate::event_queue::{EventQueue, QueuedEvent};
 use bch_block::Verdict;
 use island_pack::{Packet, PacketVerdicts, take};
-use terc4::{closing_guard_words, is_island_guard, terc};
-use tmds_word::Word;
+use terc4::{closing_guard_words, is_control_column, is_island_guard, terc};
+use tmds_word::{Columns, Word};
 
 /// What the columns after the last whole packet are.
 #[derive(Clone, Copy, Drop)]
@@ -165,6 +169,13 @@ fn tell_close(
     tell_empty(packets == 0, start, notes);
 }
 
+/// Whether a column closes the island, where so many words of the one before are the closing guard's.
+fn is_closed_by(words: u8, column: &[Word; 3]) -> bool
+    ensures { result ≡ nat_le 3 (words + closing_words (column_of column.now)) }
+{
+    column::at_least(3, words, closing_guard_words(column))
+}
+
 /// Puts a column at a place after those before it.
 fn put_column(block: &mut [[Word; 3]; 32], at: u32, column: &[Word; 3])
     requires { at < 32 }
@@ -172,6 +183,30 @@ fn put_column(block: &mut [[Word; 3]; 32], at: u32, column: &[Word; 3])
     ensures put { take (at + 1) block.new ≡ take at block.old ++ column_words (column_of column.now) ∷ [] }
 {
     block[at as usize] = *column;
+}
+
+/// Puts columns at a place after those before it, as long as they are no control columns, and answers how many these are.
+fn put_columns(block: &mut [[Word; 3]; 32], at: u32, columns: Columns<'_>) -> usize
+    requires { at + length (columns_in columns) ≤ 32 }
+    ensures within { result ≤ length (columns_in columns.entry) }
+    ensures pixels { All (λ c. is_pixel c ≡ true) (take result (columns_in columns.entry)) }
+    ensures put { take (at + result) block.new ≡ take at block.old ++ map column_words (take result (columns_in columns.entry)) }
+{
+    for i in 0..columns.len() {
+        let column = columns.get(i);
+        if is_control_column(&column) {
+            return i;
+        }
+        put_column(block, at + i as u32, &column);
+    }
+    columns.len()
+}
+
+/// Whether the columns after the last whole packet are of a packet, and not the first alone.
+fn is_packet(left: &Left) -> bool
+    ensures { IsTrue result ↔ (left.now ≡ Left.Packet) }
+{
+    matches!(left, Left::Packet)
 }
 
 impl WholePacket {
@@ -261,7 +296,7 @@ impl Island {
                 digit,
                 guard,
             } => {
-                if column::at_least(3, words, closing_guard_words(column)) {
+                if is_closed_by(words, column) {
                     tell_close(start, at, self.packets, digit, guard, column, notes);
                     self.left = Left::Closed;
                     return;
@@ -275,6 +310,92 @@ impl Island {
                 self.left = Left::Over;
             }
             Left::Over => {}
+        }
+    }
+
+    /// Hears columns as long as they go on with the packet that is being received, and answers how many these are. Nothing
+    /// is reported of them.
+    pub fn hear_while(&mut self, columns: Columns<'_>) -> usize
+        requires blocked { IsBlocked self.old }
+        ensures blocked { IsBlocked self.new }
+        ensures within { result ≤ length (columns_in columns.entry) }
+        ensures packets { self.new.packets ≡ self.old.packets }
+        ensures placed { self.new.within ≤ self.old.within + result }
+        ensures count { (rest : List Column) → IsIslandAfter self.old rest → result ≡ count_in_island rest (columns_in columns.entry) }
+        ensures heard { (rest : List Column) → IsIslandAfter self.old rest → IsIslandAfter self.new (rest ++ take result (columns_in columns.entry)) }
+    {
+        let mut at = 0;
+        while at < columns.len() {
+            at += self.hear_within(columns.from(at));
+            if at == columns.len() {
+                return at;
+            }
+            let column = columns.get(at);
+            if is_control_column(&column) {
+                return at;
+            }
+            if !self.hear_on(&column) {
+                return at;
+            }
+            at += 1;
+        }
+        at
+    }
+
+    /// Hears columns of a packet after its first two and before its last, as long as they are no control columns, and
+    /// answers how many these are.
+    fn hear_within(&mut self, columns: Columns<'_>) -> usize
+        requires blocked { IsBlocked self.old }
+        ensures blocked { IsBlocked self.new }
+        ensures within { result ≤ length (columns_in columns.entry) }
+        ensures packets { self.new.packets ≡ self.old.packets }
+        ensures placed { self.new.within ≤ self.old.within + result }
+        ensures going { (rest : List Column) → IsIslandAfter self.old rest → AreGoingOn rest (take result (columns_in columns.entry)) }
+        ensures heard { (rest : List Column) → IsIslandAfter self.old rest → IsIslandAfter self.new (rest ++ take result (columns_in columns.entry)) }
+    {
+        if !is_packet(&self.left) || self.within == 0 {
+            return 0;
+        }
+        let few = columns.len().min(31 - self.within as usize);
+        let count = put_columns(&mut self.block, self.within, columns.first(few));
+        self.within += count as u32;
+        count
+    }
+
+    /// Hears a column that goes on with the packet that is being received, and says whether it does. Of any other it hears
+    /// nothing. The column is no control column.
+    pub fn hear_on(&mut self, column: &[Word; 3]) -> bool
+        requires blocked { IsBlocked self.old }
+        ensures blocked { IsBlocked self.new }
+        ensures packets { self.new.packets ≡ self.old.packets }
+        ensures placed { self.new.within ≤ self.old.within + 1 }
+        ensures count { (rest : List Column) → IsIslandAfter self.old rest → result ≡ goes_on_packet (payload rest) (column_of column.now) }
+        ensures heard { (rest : List Column) → IsIslandAfter self.old rest → OnTrue result (IsIslandAfter self.new (rest ++ column_of column.now ∷ [])) }
+        ensures same { OnFalse result (self.new ≡ self.old) }
+    {
+        match self.left {
+            Left::Packet => {
+                if self.within == 0 {
+                    self.begin(column);
+                    return true;
+                }
+                if self.within == 31 {
+                    return false;
+                }
+                put_column(&mut self.block, self.within, column);
+                self.within += 1;
+                true
+            }
+            Left::First { words, .. } => {
+                if is_closed_by(words, column) {
+                    return false;
+                }
+                put_column(&mut self.block, 1, column);
+                self.within = 2;
+                self.left = Left::Packet;
+                true
+            }
+            Left::Closed | Left::Over => false,
         }
     }
 

@@ -10,6 +10,7 @@ use Rattle.island_pack.specs.Conforming.{is_sync_pair, is_packet, is_data_island
 use Rattle.island_pack.specs.Ranges.{is_island_in_range}
 use Rattle.island_pack.specs.Runs.{longest}
 use Rattle.island_pack.specs.declared.packet.Packet.{Packet}
+use Rattle.island_pack.specs.declared.ranges.TheConstants.{COLUMN_LIMIT}
 use Rattle.source_end.specs.declared.gathering.Gathering.{Gathering}
 use Rattle.source_end.specs.Gathering.{part_size, Has}
 use Rattle.source_end.specs.Gathering.{size as parts_size}
@@ -73,7 +74,7 @@ length-changed bits k [] = refl
 length-changed bits zero (v ∷ vs) = ap suc (length-changed bits zero vs)
 length-changed bits (suc k) (v ∷ vs) = ap suc (length-changed bits k vs)
 
-pub settled_has : (old now : Gathering) (t : Alternation) (bits k : ℕ) → Has old (settled_parts t.turns) → size_in t.turns + max 12 (length t.last) ≤ 20000000
+pub settled_has : (old now : Gathering) (t : Alternation) (bits k : ℕ) → Has old (settled_parts t.turns) → size_in t.turns + max 12 (length t.last) ≤ COLUMN_LIMIT
     → Took old now (changed_from bits k (lengthened (filled t.last))) → Has now (settled_parts t.turns ++ map column (changed_from bits k (lengthened (filled t.last))))
 settled_has old now t bits k h few f = grind (arith, settled_size, length-changed, length-lengthened)
 
@@ -91,7 +92,7 @@ ended_columns t d n m a b = let s = size_both t.turns (record { values = t.last;
 -- after a line or an island
 pub at_ended : (old mid now : Relay) (t : Alternation) (d : Data) (good : Bool) (more : ℕ) → more ≡ period_columns (period_of d)
     → IsSettled old mid t (changed_from (preamble_of d) (length (lengthened (filled t.last)) - 8) (lengthened (filled t.last)))
-    → old.faulty ≡ not good → old.island ≡ None → size (ended t d) ≤ 20000000
+    → old.faulty ≡ not good → old.island ≡ None → size (ended t d) ≤ COLUMN_LIMIT
     → Has now.whole ((settled_parts t.turns ++ map column (changed_from (preamble_of d) (length (lengthened (filled t.last)) - 8) (lengthened (filled t.last)))) ++ part_of d ∷ [])
     → now.period ≡ mid.period → now.period_columns ≡ mid.period_columns → now.columns ≡ min (mid.columns + more) (2 ^ 32 - 1) → now.island ≡ mid.island → now.faulty ≡ mid.faulty
     → IsAt now (ended t d) None good
@@ -204,7 +205,7 @@ pub closed_steps : {A : Type 0} (now : Relay) (r : Result A RelayFault) (t : Alt
 closed_steps now r t b good x pair e h p f g = grind (arith, some_or_none, closed_empty, closed_some, few_held)
 
 -- memory was wanting for what is not too long
-pub wanting_steps : {A : Type 0} (now : Relay) (r : Result A RelayFault) (t : Alternation) (b : Option Begun) (good : Bool) → IsErrAnd r (λ e. e ≡ NoMemory) → size t ≤ 20000000 → Steps now r t b good
+pub wanting_steps : {A : Type 0} (now : Relay) (r : Result A RelayFault) (t : Alternation) (b : Option Begun) (good : Bool) → IsErrAnd r (λ e. e ≡ NoMemory) → size t ≤ COLUMN_LIMIT → Steps now r t b good
 wanting_steps now (Ok a) t b good h few = absurd h
 wanting_steps now (Err Long) t b good h few = absurd (cc h)
 wanting_steps now (Err NoMemory) t b good h few = (tt, few)

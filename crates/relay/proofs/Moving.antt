@@ -10,6 +10,7 @@ use Rattle.island_pack.specs.Periods.{columns_of}
 use Rattle.island_pack.specs.Conforming.{is_video_period}
 use Rattle.island_pack.specs.declared.packet.Packet.{Packet}
 use Rattle.island_pack.specs.declared.packet.PacketVerdicts.{PacketVerdicts}
+use Rattle.island_pack.specs.declared.ranges.TheConstants.{COLUMN_LIMIT}
 use Rattle.period_grammar.specs.declared.event.Fault.{Fault}
 use Rattle.period_grammar.specs.declared.event.Fault.TheVariants.{Word, Short, Preamble, Noise, Empty, Code, LongLine, Symbols, Mended, Lost, LongIsland, Broken, Guard}
 use Rattle.period_grammar.specs.Faults.{fault_event}
@@ -92,7 +93,7 @@ pub if_err : (r : Result Unit RelayFault) (n m : ℕ) → n ≡ m → IfErr r (�
 if_err r n m same h = subst (λ k. IfErr r (λ fault. IsCause fault k)) (sym same) h
 
 -- memory was wanting for an event with which what is relayed is not too long
-pub wanting_refuses : (r : Result Unit RelayFault) (old : Relay) (x : Event) → IsErrAnd r (λ e. e ≡ NoMemory) → ((reported : List Event) → RelayRepresents old reported → columns_of (relayed (reported ++ x ∷ [])) ≤ 20000000)
+pub wanting_refuses : (r : Result Unit RelayFault) (old : Relay) (x : Event) → IsErrAnd r (λ e. e ≡ NoMemory) → ((reported : List Event) → RelayRepresents old reported → columns_of (relayed (reported ++ x ∷ [])) ≤ COLUMN_LIMIT)
     → IfErr r (Refuses old x)
 wanting_refuses (Ok u) old x h few = tt
 wanting_refuses (Err Long) old x h few = absurd (cc h)
@@ -149,5 +150,5 @@ pub moved_columns : (reported : List Event) (x y : Event) (t : Alternation) → 
 moved_columns reported x y t same e = ap (λ z. columns_of (relayed (reported ++ z ∷ []))) same ∙ columns_after reported y ∙ ap size e
 
 -- what a relay keeps is not too long
-pub few_at : (relay : Relay) (t : Alternation) (b : Option Begun) (good : Bool) → IsAt relay t b good → size t ≤ 20000000
+pub few_at : (relay : Relay) (t : Alternation) (b : Option Begun) (good : Bool) → IsAt relay t b good → size t ≤ COLUMN_LIMIT
 few_at relay t b good at = let n = at.few in let m = at.columns in let k = at.period_columns in omega arith

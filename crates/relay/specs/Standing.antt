@@ -5,6 +5,7 @@ use Rattle.outside_io.specs.Causes.{next}
 use Rattle.island_pack.specs.Periods.{SyncPair, DataIsland, columns_of}
 use Rattle.island_pack.specs.Conforming.{is_sync_pair, is_packet}
 use Rattle.island_pack.specs.Runs.{longest}
+use Rattle.island_pack.specs.declared.ranges.TheConstants.{COLUMN_LIMIT}
 use Rattle.period_grammar.specs.Events.{Event}
 use Rattle.period_grammar.specs.Exact.{faultless}
 use Rattle.source_end.specs.Gathering.{Has}
@@ -40,7 +41,7 @@ pub record IsAt (relay : Relay) (t : Alternation) (b : Option Begun) (good : Boo
   pub period : relay.period ≡ longest t.last
   pub period_columns : relay.period_columns ≡ length t.last
   pub columns : relay.columns ≡ size_in t.turns
-  pub few : relay.columns + max 12 relay.period_columns ≤ 20000000
+  pub few : relay.columns + max 12 relay.period_columns ≤ COLUMN_LIMIT
   pub island : relay.island ≡ held b
   pub fits : Fits b
   pub faulty : relay.faulty ≡ not good
@@ -55,8 +56,8 @@ Took x y events = ((reported : List Event) → RelayRepresents x reported → Re
 
 -- why so many columns are not relayed: for their number exactly where they are too many
 abbrev pub IsCause : RelayFault → ℕ → Type 0
-IsCause Long columns = 20000000 < columns
-IsCause NoMemory columns = columns ≤ 20000000
+IsCause Long columns = COLUMN_LIMIT < columns
+IsCause NoMemory columns = columns ≤ COLUMN_LIMIT
 
 -- why an event is refused: with it what is relayed is too long, or it is not, and memory was wanting
 abbrev pub Refuses : Relay → Event → RelayFault → Type 0
@@ -81,4 +82,4 @@ counted_again x = record {
 
 -- what a relay stands for takes no more than 20,000,000 columns
 abbrev pub RepresentsFew : Type 0
-RepresentsFew = (relay : Relay) (reported : List Event) → RelayRepresents relay reported → columns_of (relayed reported) ≤ 20000000
+RepresentsFew = (relay : Relay) (reported : List Event) → RelayRepresents relay reported → columns_of (relayed reported) ≤ COLUMN_LIMIT

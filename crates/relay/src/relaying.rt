@@ -4,6 +4,7 @@ ghost use Rattle.std.specs.List.{fold};
 ghost use Rattle.island_pack.specs.Periods.{DataIsland, columns_of};
 ghost use Rattle.island_pack.specs.Conforming.{is_sync_pair};
 ghost use Rattle.island_pack.specs.Packets.{IsPacket};
+ghost use Rattle.island_pack.specs.declared.ranges.TheConstants.{COLUMN_LIMIT};
 ghost use Rattle.outside_io.specs.Causes.{HasCause};
 ghost use Rattle.period_grammar.specs.Events.{Event, line};
 ghost use Rattle.period_grammar.specs.Lending.{lent_event};
@@ -18,7 +19,7 @@ ghost use Rattle.relay.specs.Steps.{Steps, IsSettled};
 
 use crate::packets::sent_on;
 use crate::settling::{at_least_twelve, settle};
-use island_pack::{ISLAND_CTL, Packet, PacketRef, VIDEO_CTL};
+use island_pack::{COLUMN_LIMIT, ISLAND_CTL, Packet, PacketRef, VIDEO_CTL};
 use link_sink::Ear;
 use outside_io::{Failed, NoMemory};
 use period_grammar::EventRef;
@@ -31,7 +32,7 @@ use thiserror::Error;
 /// Why a relay failed.
 #[derive(Clone, Copy, Debug, PartialEq, Eq, Error)]
 pub enum RelayFault {
-    /// What is relayed takes more than 20,000,000 columns.
+    /// What is relayed takes more than `COLUMN_LIMIT` columns.
     #[error("there are more than 20,000,000 columns")]
     Long,
     /// Want of memory.
@@ -71,12 +72,12 @@ pub struct Relay {
     pub(crate) faults: u64,
 }
 
-/// Whether settled columns, a control period of so many, and so many more pass 20,000,000.
+/// Whether settled columns, a control period of so many, and so many more pass `COLUMN_LIMIT`.
 fn is_long(columns: u32, period: u64, more: u32) -> bool
     requires { period < 2 ^ 33 }
-    ensures { result ≡ nat_lt 20000000 (columns + max 12 period + more) }
+    ensures { result ≡ nat_lt COLUMN_LIMIT (columns + max 12 period + more) }
 {
-    u64::from(columns) + period.max(u64::from(RUN)) + u64::from(more) > 20_000_000
+    u64::from(columns) + period.max(u64::from(RUN)) + u64::from(more) > u64::from(COLUMN_LIMIT)
 }
 
 /// How many columns a line takes, its guard columns included.

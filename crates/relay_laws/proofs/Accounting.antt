@@ -23,7 +23,7 @@ use Rattle.relay_laws.proofs.FaultsAlone.{AreFaults, are_faults_both, are_faults
 use Rattle.relay_laws.proofs.Fitting.{line_fits, island_fits, few_packets, as_many_packets}
 
 -- what is kept of events after an island that goes on or none, and the island that goes on after them
-abbrev keeps : Option Begun → List Event → List RelayedPart
+abbrev pub keeps : Option Begun → List Event → List RelayedPart
 keeps b ts = kept_from b (without_faults ts)
 
 abbrev after : Option Begun → List Event → Option Begun
@@ -83,7 +83,7 @@ control_ends j cs = ap (begun_after None) (runs_said j (runs cs)) ∙ runs_end (
 
 -- Lines.
 
-are_faults_video : (b : ℕ) (before rs : List Column) → AreFaults (open_video_row b before rs)
+pub are_faults_video : (b : ℕ) (before rs : List Column) → AreFaults (open_video_row b before rs)
 unfolding open_video_row without_faults
 are_faults_video b before rs = grind (arith, are_faults_both, are_faults_preamble, are_faults_guards)
 
@@ -92,7 +92,7 @@ abbrev line_said : Bool → List ℕ → List Said
 line_said true bytes = pixels bytes ∷ []
 line_said false bytes = ends ∷ []
 
-reported_line : (q : Bool) (b s : ℕ) (bytes : List ℕ) (rs : List Column) → without_faults (cond q (line bytes ∷ codes_of s rs) (cut b ∷ [])) ≡ line_said q bytes
+pub reported_line : (q : Bool) (b s : ℕ) (bytes : List ℕ) (rs : List Column) → without_faults (cond q (line bytes ∷ codes_of s rs) (cut b ∷ [])) ≡ line_said q bytes
 unfolding without_faults
 reported_line q b s bytes rs = grind (arith, are_faults_codes)
 
@@ -138,35 +138,35 @@ video_is_row f j (suc (suc i)) before bytes ss rs h a b = grind (arith, length-d
 
 -- Islands.
 
-open_said : (b : ℕ) (before rs : List Column) → 2 ≤ length rs → without_faults (open_island_row b before rs) ≡ opens (digits_of rs) ∷ []
+pub open_said : (b : ℕ) (before rs : List Column) → 2 ≤ length rs → without_faults (open_island_row b before rs) ≡ opens (digits_of rs) ∷ []
 unfolding open_island_row without_faults digits_of
 open_said b before rs h = grind (arith, are_faults_before, are_faults_preamble, are_faults_guards)
 
-close_said : (s : ℕ) (rs : List Column) → 2 ≤ length rs → without_faults (close_island_row s rs) ≡ closes (digits_of rs) ∷ []
+pub close_said : (s : ℕ) (rs : List Column) → 2 ≤ length rs → without_faults (close_island_row s rs) ≡ closes (digits_of rs) ∷ []
 unfolding close_island_row without_faults digits_of
 close_said s rs h = grind (arith, are_faults_guards)
 
-abbrev judged : Packet → List Column → List Column → Judged
+abbrev pub judged : Packet → List Column → List Column → Judged
 judged p ss rs = record { packet = packet_row p (take 32 ss) (take 32 rs); verdicts = verdicts_of (take 32 rs) }
 
-packet_said : (s : ℕ) (p : Packet) (ss rs : List Column) (ts : List Event)
+pub packet_said : (s : ℕ) (p : Packet) (ss rs : List Column) (ts : List Event)
     → without_faults (packet_reported s p (take 32 ss) (take 32 rs) ++ ts) ≡ carries (packet_row p (take 32 ss) (take 32 rs)) (verdicts_of (take 32 rs)) ∷ without_faults ts
 unfolding packet_reported without_faults
 packet_said s p ss rs ts =
     let v = verdicts_of (take 32 rs) in
     ap (λ xs. carries (packet_row p (take 32 ss) (take 32 rs)) v ∷ xs) (are_faults_before (packet_faults s v) ts (are_faults_packet s v))
 
-abbrev with_all : Begun → List Judged → Begun
+abbrev pub with_all : Begun → List Judged → Begun
 with_all b js = record { opening = b.opening; packets = b.packets ++ js }
 
-nothing_more : (b : Begun) → b ≡ with_all b []
+pub nothing_more : (b : Begun) → b ≡ with_all b []
 nothing_more b = ap (λ (js : List Judged). record { opening = b.opening; packets = js }) (sym (append-nil b.packets))
 
-closing_keeps : (b : Begun) (pair : SyncPair) → kept_from (Some b) (closes pair ∷ []) ≡ closed pair (Some b)
+pub closing_keeps : (b : Begun) (pair : SyncPair) → kept_from (Some b) (closes pair ∷ []) ≡ closed pair (Some b)
 unfolding kept_from
 closing_keeps b pair = append-nil (closed pair (Some b))
 
-carrying_keeps : (b : Begun) (p : Packet) (ss rs : List Column) (ts : List Event)
+pub carrying_keeps : (b : Begun) (p : Packet) (ss rs : List Column) (ts : List Event)
     → kept_from (Some b) (carries (packet_row p (take 32 ss) (take 32 rs)) (verdicts_of (take 32 rs)) ∷ without_faults ts) ≡ keeps (Some (record { opening = b.opening; packets = b.packets ++ judged p ss rs ∷ [] })) ts
 unfolding kept_from
 carrying_keeps b p ss rs ts = refl
@@ -206,7 +206,7 @@ packets_part s (p ∷ ps) i ss rs b part = elim (cases_lt i 32) [
 first_packets : (js : List Judged) → length js ≤ 18 → take 18 js ≡ js
 first_packets js h = take_all 18 js h
 
-closed_whole : Facts → (x : DataIsland) (ss rs : List Column) → is_data_island x ≡ true → length ss ≡ 4 + 32 * length x.packets → length rs ≡ 4 + 32 * length x.packets
+pub closed_whole : Facts → (x : DataIsland) (ss rs : List Column) → is_data_island x ≡ true → length ss ≡ 4 + 32 * length x.packets → length rs ≡ 4 + 32 * length x.packets
     → closed (digits_of (drop (32 * length x.packets) (drop 2 rs))) (Some (record { opening = digits_of rs; packets = packets_received x.packets (drop 2 ss) (drop 2 rs) })) ≡ some_island (island_received x ss rs) ∷ []
 unfolding island_received
 closed_whole f x ss rs h a b =

@@ -6,3 +6,4 @@ pub mod Own
 pub mod Completing
 pub mod Agreeing
 pub mod OneSpelling
+pub mod Local

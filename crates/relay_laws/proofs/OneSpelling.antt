@@ -13,7 +13,7 @@ use Rattle.island_pack.specs.declared.packet.Packet.{Packet}
 use Rattle.relay_laws.specs.Spelled.{OneSpelling, AgreeAs, Agree, FreeSpellingsAgree, FreeSpellingAgrees}
 use Rattle.relay_laws.proofs.Accounting.{pixel_count}
 use Rattle.relay_laws.proofs.Agreeing.{packet_count, packet_agrees, one_packet}
-use Rattle.relay_laws.proofs.Own.{freely_spelled}
+use Rattle.link_laws.proofs.Freely.{free_spelled}
 
 -- A line.
 
@@ -121,4 +121,4 @@ free_spellings_agree [] cs ds h k = let none : Agree [] [] [] = tt in over [] []
 free_spellings_agree (p ∷ ps) cs ds h k = grind (arith, over, agree_both, period_agrees, free_spellings_agree ps)
 
 pub free_spelling_agrees : FreeSpellingAgrees
-free_spelling_agrees ps cs ds h k = free_spellings_agree ps cs ds h (freely_spelled ps ds k)
+free_spelling_agrees ps cs ds h k = free_spellings_agree ps cs ds h (free_spelled ps ds k)

@@ -13,12 +13,12 @@ use Rattle.island_pack.specs.Nibbles.{nibble_of}
 use Rattle.island_pack.specs.Periods.{ControlRun, SyncPair, DataIsland, Period, control, video, island, values_of, ctl, has_preamble, pixels_of, period_columns, columns_of}
 use Rattle.island_pack.specs.Conforming.{is_run, is_control_period, is_video_period, is_sync_pair, is_data_island, conforms, are_bytes}
 use Rattle.island_pack.specs.Ranges.{is_line_in_range}
-use Rattle.island_pack.specs.Packets.{CarriesFreely, Carries}
+use Rattle.island_pack.specs.Packets.{CarriesFreely}
 use Rattle.island_pack.specs.Taken.{spotless}
 use Rattle.island_pack.specs.Repaired.{packet_in, verdicts_in, verdicts_of}
 use Rattle.island_pack.specs.Runs.{longest}
 use Rattle.island_pack.specs.Sparse.{unlike_words}
-use Rattle.island_pack.specs.Spelling.{control_column, guard_column, column_words, SpellsPixels, SpellsVideo, SpellsPacketsBy, SpellsIslandBy, SpellsPeriodBy, SpellsBy, freely, Spells}
+use Rattle.island_pack.specs.Spelling.{control_column, guard_column, column_words, SpellsPixels, SpellsVideo, SpellsPacketsBy, SpellsIslandBy, SpellsPeriodBy, SpellsBy, freely}
 use Rattle.island_pack.specs.declared.packet.Packet.{Packet}
 use Rattle.island_pack.specs.declared.packet.PacketVerdicts.{PacketVerdicts}
 use Rattle.island_pack.proofs.Runs.{values_longest}
@@ -26,6 +26,7 @@ use Rattle.period_grammar.specs.Column.{control_bits, value_of, sync_digit}
 use Rattle.period_grammar.specs.Cut.{Run, columns as same_columns, value, in_front, before_runs, runs as runs_in}
 use Rattle.period_grammar.specs.Events.{Event}
 use Rattle.link_laws.specs.Account.{byte, pixel_bytes, damage, sync_row, packet_row}
+use Rattle.link_laws.proofs.Freely.{free_spelled}
 use Rattle.link_laws.proofs.PacketRow.{one_is_as_sent}
 use Rattle.relay_laws.proofs.Below.{Facts}
 use Rattle.relay.specs.Relayed.{Judged, WholeIsland, RelayedPart, some_line, some_island, sure, with_nulls, nulled, Data, a_line, an_island, Turn, Alternation, ended, joined, none, gathered, on_turn, filled, lengthened, with_ctl, announcing, preamble_of, announced_turn, period_of, periods_in, settled, conformed, kept, relayed}
@@ -483,17 +484,6 @@ abbrev tail : List Period → List Period
 tail [] = []
 tail (p ∷ ps) = ps
 
-freely_packets : (first : Bool) (ps : List Packet) (pp : List Column) → SpellsPacketsBy Carries first ps pp → SpellsPacketsBy freely first ps pp
-freely_packets first [] pp h = h
-freely_packets first (p ∷ ps) pp h = (h.0, h.1, h.2, h.3.free, freely_packets false ps h.1 h.4)
-
-freely_period : (p : Period) (own : List Column) → SpellsPeriodBy Carries p own → SpellsPeriodBy freely p own
-freely_period p own h = grind (arith, freely_packets)
-
-pub freely_spelled : (ps : List Period) (cs : List Column) → Spells ps cs → SpellsBy freely ps cs
-freely_spelled [] cs h = h
-freely_spelled (p ∷ ps) cs h = (h.0, h.1, h.2, freely_period p h.0 h.3, freely_spelled ps h.1 h.4)
-
 period_long : (p : Period) (own : List Column) → SpellsPeriodBy freely p own → length own ≡ period_columns p
 unfolding period_columns
 period_long p own h = grind (arith, control_long, video_long, island_long)
@@ -526,7 +516,7 @@ unfolding normal cut_first
 normal_first a runs ps e = ap₂ (λ (us : List ControlRun) (qs : List Period). control us ∷ qs) (ap longest (values_longest (drop a (values_of runs)))) (ap tail e)
 
 pub relayed_again : Facts → RelayedAgain
-relayed_again f reported runs ps is cs h a m long le = grind (arith, relayed_conforms, freely_spelled, spelled_long, normal_relayed, relayed_account, own_relayed, normal_first)
+relayed_again f reported runs ps is cs h a m long le = grind (arith, relayed_conforms, free_spelled, spelled_long, normal_relayed, relayed_account, own_relayed, normal_first)
 
 -- Columns that are spelled whole.
 

@@ -1,3 +1,4 @@
 pub mod Received
 pub mod Own
 pub mod Spelled
+pub mod Local

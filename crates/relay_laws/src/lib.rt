@@ -3,6 +3,7 @@
 
 ghost use Rattle.relay.specs.Laws.{RelayedConforms, ColumnsGrow, Gained};
 ghost use Rattle.relay_laws.specs.Received.{RelayedAccount};
+ghost use Rattle.relay_laws.specs.Local.{LineRelayed, IslandRelayed};
 ghost use Rattle.relay_laws.specs.Own.{OwnRelayed, RelayedAgain, WholeRelayed};
 ghost use Rattle.relay.specs.Parts.{PartsGather};
 ghost use Rattle.relay.specs.Changed.{AnnouncedFrom, ChangedNone};
@@ -27,6 +28,17 @@ pub fn gained()
 /// What is relayed of an account is what was received of the periods that were sent.
 pub fn relayed_account()
     ensures { RelayedAccount }
+{
+    period_grammar::laws::value_below();
+    link_laws::link::decoded_is_byte();
+    island_pack::laws::repaired_is_taken();
+    island_pack::laws::carried_is_taken();
+}
+
+/// A line or an island of which the row is reported is sent on, whatever is reported before and after it.
+pub fn alone_relayed()
+    ensures line { LineRelayed }
+    ensures island { IslandRelayed }
 {
     period_grammar::laws::value_below();
     link_laws::link::decoded_is_byte();

@@ -2,6 +2,7 @@
 ghost use Rattle.std.specs.Prelude.{◌≡◌, ◌+◌, ◌-◌, ◌*◌, ◌^◌, ◌<◌, ◌≤◌, ◌++◌, ◌∷◌, [], List, length, All, IfOk, OnOk, option_to_list};
 ghost use Rattle.tmds_word.specs.Column.{Column};
 ghost use Rattle.island_pack.specs.Periods.{period_columns, columns_of};
+ghost use Rattle.island_pack.specs.declared.ranges.TheConstants.{COLUMN_LIMIT};
 ghost use Rattle.source_end.specs.ItemPeriods.{period_of};
 ghost use Rattle.capture_file.specs.Taps.{tap_count, tap_counts};
 ghost use Rattle.capture_file.specs.BlockDamage.{AllFitLanes};
@@ -35,7 +36,7 @@ pub fn hits_of(alloc: Global, stream: &Stream, tap: &Tap) -> Result<Vec<Hit>, No
 /// How many columns an item takes.
 #[tactic(auto, unfolding(island_pack::specs::Periods::period_columns))]
 fn columns_of(item: &Item) -> u32
-    requires { period_columns (period_of item.now) ≤ 20000000 }
+    requires { period_columns (period_of item.now) ≤ COLUMN_LIMIT }
     ensures { result ≡ period_columns (period_of item.now) }
 {
     match item {
@@ -53,7 +54,7 @@ fn push_item(
     tap: &Tap,
     columns: u32,
 ) -> Result<(), NoMemory>
-    requires few { columns ≤ 20000000 }
+    requires few { columns ≤ COLUMN_LIMIT }
     requires within { at + period_columns (period_of item.now) ≤ columns }
     ensures { OnOk result (hits.new.items ≡ hits.old.items ++ struck tap.now columns (period_strikes at (period_of item.now))) }
 {
@@ -72,7 +73,7 @@ fn push_packets(
     tap: &Tap,
     columns: u32,
 ) -> Result<(), NoMemory>
-    requires few { columns ≤ 20000000 }
+    requires few { columns ≤ COLUMN_LIMIT }
     requires within { at + 4 + 32 * packets ≤ columns }
     ensures { OnOk result (hits.new.items ≡ hits.old.items ++ struck tap.now columns (packet_strikes at packets)) }
 {
@@ -99,7 +100,7 @@ fn push_hit(hits: &mut Vec<Hit>, hit: Option<Hit>) -> Result<(), NoMemory>
 /// ten bits.
 fn hit_at(lane: u8, column: u32, value: Word, tap: &Tap, columns: u32) -> Option<Hit>
     requires lane { lane < 3 }
-    requires few { columns ≤ 20000000 }
+    requires few { columns ≤ COLUMN_LIMIT }
     ensures { option_to_list result ≡ struck tap.now columns (record { lane = lane; column = column; value = value } ∷ []) }
 {
     let first = u64::from(tap.offset) + u64::from(tap.skews[usize::from(lane)]);
@@ -119,7 +120,7 @@ fn hit_at(lane: u8, column: u32, value: Word, tap: &Tap, columns: u32) -> Option
 /// How many bits a tap of so many columns takes of a lane.
 fn bits_of(lane: u8, tap: &Tap, columns: u32) -> u32
     requires lane { lane < 3 }
-    requires few { columns ≤ 20000000 }
+    requires few { columns ≤ COLUMN_LIMIT }
     ensures value { result ≡ tap_count tap.now columns lane }
     ensures below { result ≤ 200000000 }
 {

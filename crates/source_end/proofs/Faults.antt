@@ -2,6 +2,7 @@
 use Rattle.std.proofs.Common.{arith, ◌≡◌, Bool, true, false, List, refl, Option, Some, None, ◌+◌, sym, subst, ◌∙◌, Result, Ok, Err}
 use Rattle.std.specs.Prelude.{nat_le}
 use Rattle.island_pack.specs.Periods.{Period, period_columns, columns_of}
+use Rattle.island_pack.specs.declared.ranges.TheConstants.{COLUMN_LIMIT}
 use Rattle.source_end.specs.declared.items.ItemFault.{ItemFault}
 use Rattle.source_end.specs.declared.items.ItemFault.TheVariants.{Range, Order, Control, Preamble, Long, NoMemory}
 use Rattle.source_end.specs.DviPeriods.{dvi_columns, dvi_columns_of}
@@ -10,7 +11,7 @@ use Rattle.source_end.specs.Refusals.{last_period, is_in_range, is_in_order, has
 abbrev pub first : Bool → Bool → Bool → Bool → Bool → Option ItemFault
 first a b c d e = unless a Range (unless b Order (unless c Control (unless d Preamble (unless e Long None))))
 
-pub push_fault_is : (periods : List Period) (p : Period) → push_fault periods p ≡ first (is_in_range p) (is_in_order (last_period periods) p) (has_control (last_period periods) p) (is_announced (last_period periods) p) (nat_le (columns_of periods + period_columns p) 20000000)
+pub push_fault_is : (periods : List Period) (p : Period) → push_fault periods p ≡ first (is_in_range p) (is_in_order (last_period periods) p) (has_control (last_period periods) p) (is_announced (last_period periods) p) (nat_le (columns_of periods + period_columns p) COLUMN_LIMIT)
 unfolding push_fault
 push_fault_is periods p = refl
 
@@ -49,10 +50,10 @@ none_holds a b c d e h = grind arith
 
 -- the same of a push
 
-pub push_none : (periods : List Period) (p : Period) → is_in_range p ≡ true → is_in_order (last_period periods) p ≡ true → has_control (last_period periods) p ≡ true → is_announced (last_period periods) p ≡ true → nat_le (columns_of periods + period_columns p) 20000000 ≡ true → push_fault periods p ≡ None
-push_none periods p h i j k l = push_fault_is periods p ∙ at_none (is_in_range p) (is_in_order (last_period periods) p) (has_control (last_period periods) p) (is_announced (last_period periods) p) (nat_le (columns_of periods + period_columns p) 20000000) h i j k l
+pub push_none : (periods : List Period) (p : Period) → is_in_range p ≡ true → is_in_order (last_period periods) p ≡ true → has_control (last_period periods) p ≡ true → is_announced (last_period periods) p ≡ true → nat_le (columns_of periods + period_columns p) COLUMN_LIMIT ≡ true → push_fault periods p ≡ None
+push_none periods p h i j k l = push_fault_is periods p ∙ at_none (is_in_range p) (is_in_order (last_period periods) p) (has_control (last_period periods) p) (is_announced (last_period periods) p) (nat_le (columns_of periods + period_columns p) COLUMN_LIMIT) h i j k l
 
-pub dvi_push_fault_is : (periods : List Period) (p : Period) → dvi_push_fault periods p ≡ first (is_in_range p) (is_in_order (last_period periods) p) (has_control (last_period periods) p) true (nat_le (dvi_columns_of periods + dvi_columns p) 20000000)
+pub dvi_push_fault_is : (periods : List Period) (p : Period) → dvi_push_fault periods p ≡ first (is_in_range p) (is_in_order (last_period periods) p) (has_control (last_period periods) p) true (nat_le (dvi_columns_of periods + dvi_columns p) COLUMN_LIMIT)
 unfolding dvi_push_fault
 dvi_push_fault_is periods p = refl
 

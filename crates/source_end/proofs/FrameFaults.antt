@@ -11,6 +11,7 @@ use Rattle.source_end.specs.Raster.{active, total, lines_of}
 use Rattle.source_end.specs.RasterRefusals.{or_else, is_in_range, numbers_of, bad_mode, bad_row, bad_rows, room_of, no_room, too_long, raster_fault}
 use Rattle.source_end.specs.FrameFaults.{too_many, unless_full, next_fault}
 use Rattle.source_end.proofs.RasterFaults.{at_mode, at_room, frame_room_is}
+use Rattle.island_pack.specs.declared.ranges.TheConstants.{COLUMN_LIMIT}
 use Rattle.source_end.proofs.RasterModes.{AreRows, IsFrame, AreFrames}
 
 -- ---- frames that have all their rows
@@ -68,7 +69,7 @@ room_more mode f (frame ∷ frames) x =
     after (nat_le (length frame.packets) (room_of mode (lines_of mode frame))) _ (no_room mode (suc f) frames) (alone mode (f + length (frame ∷ frames)) x) _
     (room_more mode (suc f) frames x ∙ ap (λ (n : ℕ). or_else (no_room mode (suc f) frames) (alone mode n x)) place)
 
-by_columns : (mode : Mode) (n packets : ℕ) (t : Bool) → nat_le (n * (total mode.across * total mode.down) + 32) 20000000 ≡ t
+by_columns : (mode : Mode) (n packets : ℕ) (t : Bool) → nat_le (n * (total mode.across * total mode.down) + 32) COLUMN_LIMIT ≡ t
     → unless_full mode n packets (too_many mode (n + 1)) ≡ next_fault mode (cond t None (Some Long)) n packets
 unfolding next_fault
 by_columns mode n packets t h = grind (arith, lt-leb, leb-false)

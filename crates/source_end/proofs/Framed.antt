@@ -5,6 +5,7 @@ use Rattle.std.specs.List.{list_all}
 use Rattle.std.proofs.lemmas.Bool.{and_parts, leb-true}
 use Rattle.tmds_word.specs.Column.{Column}
 use Rattle.island_pack.specs.Periods.{Period}
+use Rattle.island_pack.specs.declared.ranges.TheConstants.{COLUMN_LIMIT}
 use Rattle.source_end.specs.Fronts.{TookFront}
 use Rattle.source_end.specs.Framings.{Rules, IsFraming}
 use Rattle.source_end.specs.Kept.{capped, has_pixels}
@@ -30,18 +31,18 @@ framed_room r Own Whole f (p ∷ ps) (suc i) d lt =
 
 -- the fault that the five tests find
 pub framed_fault : (r : Rules) (Own : Period → List Column → Type 0) (Whole : List Period → List Column → Type 0) → IsFraming r Own Whole
-    → (periods seen : List Period) (p : Period) (announced room : Bool) (sum n : ℕ) → seen ≡ periods → announced ≡ r.is_announced (last_period seen) p → room ≡ nat_le (sum + n) 20000000
+    → (periods seen : List Period) (p : Period) (announced room : Bool) (sum n : ℕ) → seen ≡ periods → announced ≡ r.is_announced (last_period seen) p → room ≡ nat_le (sum + n) COLUMN_LIMIT
     → sum ≡ r.columns_of periods → n ≡ capped (r.columns p) → first_fault seen p announced room ≡ r.push_fault periods p
 framed_fault r Own Whole f periods seen p announced room sum n same a fits all e =
-    ap₂ (first_fault seen p) a (fits ∙ capped_room sum n (r.columns p) e ∙ ap (λ k. nat_le (k + r.columns p) 20000000) all)
-    ∙ ap (λ qs. first_fault qs p (r.is_announced (last_period qs) p) (nat_le (r.columns_of periods + r.columns p) 20000000)) same
+    ap₂ (first_fault seen p) a (fits ∙ capped_room sum n (r.columns p) e ∙ ap (λ k. nat_le (k + r.columns p) COLUMN_LIMIT) all)
+    ∙ ap (λ qs. first_fault qs p (r.is_announced (last_period qs) p) (nat_le (r.columns_of periods + r.columns p) COLUMN_LIMIT)) same
     ∙ sym (f.fault periods p)
 
 -- what holds of a list of items, and of their number of columns
 pub record IsKept (r : Rules) (periods : List Period) (sum : ℕ) : Type 0 where
   pub conforming : r.conforms_so_far periods ≡ true
   pub columns : sum ≡ r.columns_of periods
-  pub few : sum ≤ 20000000
+  pub few : sum ≤ COLUMN_LIMIT
 
 pub none_kept : (r : Rules) (Own : Period → List Column → Type 0) (Whole : List Period → List Column → Type 0) → IsFraming r Own Whole → (periods : List Period) → periods ≡ [] → IsKept r periods 0
 none_kept r Own Whole f periods e = subst (λ (ps : List Period). IsKept r ps 0) (sym e) record { conforming = f.nothing; columns = sym f.no_columns; few = omega arith }
@@ -50,15 +51,15 @@ pub more_kept : (r : Rules) (Own : Period → List Column → Type 0) (Whole : L
     → (periods now : List Period) (p : Period) (sum n : ℕ) → r.conforms_so_far periods ≡ true → sum ≡ r.columns_of periods → n ≡ capped (r.columns p) → r.is_carried p ≡ true → has_pixels p ≡ true
     → r.push_fault periods p ≡ None → now ≡ periods ++ p ∷ [] → IsKept r now (sum + n)
 more_kept r Own Whole f periods now p sum n so_far all e carried whole none grown =
-    let fits = (none_holds (is_in_range p) (is_in_order (last_period periods) p) (has_control (last_period periods) p) (r.is_announced (last_period periods) p) (nat_le (r.columns_of periods + r.columns p) 20000000)
+    let fits = (none_holds (is_in_range p) (is_in_order (last_period periods) p) (has_control (last_period periods) p) (r.is_announced (last_period periods) p) (nat_le (r.columns_of periods + r.columns p) COLUMN_LIMIT)
     (sym (f.fault periods p) ∙ none)).room in
-    let left = room_left sum n (nat_le (sum + n) 20000000) refl (capped_room sum n (r.columns p) e ∙ ap (λ k. nat_le (k + r.columns p) 20000000) all ∙ fits) in
+    let left = room_left sum n (nat_le (sum + n) COLUMN_LIMIT) refl (capped_room sum n (r.columns p) e ∙ ap (λ k. nat_le (k + r.columns p) COLUMN_LIMIT) all ∙ fits) in
     let same : sum + n ≡ sum + r.columns p = same_sum sum n (r.columns p) e left in
     subst (λ (ps : List Period). IsKept r ps (sum + n)) (sym grown)
     record {
       conforming = f.more periods p so_far carried whole none;
       columns = same ∙ ap (λ k. k + r.columns p) all ∙ sym (framed_columns-more r Own Whole f periods p);
-      few = leb-true (sum + n) 20000000 (capped_room sum n (r.columns p) e ∙ ap (λ k. nat_le (k + r.columns p) 20000000) all ∙ fits);
+      few = leb-true (sum + n) COLUMN_LIMIT (capped_room sum n (r.columns p) e ∙ ap (λ k. nat_le (k + r.columns p) COLUMN_LIMIT) all ∙ fits);
     }
 
 pub spelled-append : (r : Rules) (Own : Period → List Column → Type 0) (Whole : List Period → List Column → Type 0) → IsFraming r Own Whole

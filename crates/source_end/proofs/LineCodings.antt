@@ -1,5 +1,5 @@
 -- Pixels coded block after block.
-use Rattle.std.proofs.Common.{◌≡◌, ℕ, suc, zero, ◌+◌, ◌-◌, ◌*◌, ◌/◌, ◌%◌, ◌≤◌, ◌<◌, List, [], ◌∷◌, ◌++◌, length, take, drop, set, map, replicate, min, refl, ap, ap₂, sym, subst, ◌∙◌, arith, append_assoc, append-nil, take_all, length-take-le, get_or, ℤ}
+use Rattle.std.proofs.Common.{◌≡◌, ℕ, suc, zero, ◌+◌, ◌-◌, ◌*◌, ◌/◌, ◌%◌, ◌≤◌, ◌<◌, List, [], ◌∷◌, ◌++◌, length, take, drop, set, map, slice_index, replicate, min, refl, ap, ap₂, sym, subst, ◌∙◌, arith, append_assoc, append-nil, take_all, length-take-le, get_or, ℤ}
 use Rattle.std.proofs.lemmas.List.{take_more_set, map-append, take-replicate}
 use Rattle.std.proofs.Math.Seq.{take-add}
 use Rattle.tmds_word.specs.Column.{Column, column_of}
@@ -50,6 +50,15 @@ lanes_of (x ∷ bs) (y ∷ gs) [] e f = absurd (omega arith)
 lanes_of (x ∷ bs) (y ∷ gs) (z ∷ rs) e f = grind (arith, lanes_of bs gs rs)
 
 -- Equal columns.
+
+-- the columns of three lanes that are each a place of the columns' words
+columns_each : (ws : List (List ℕ)) → columns_of (map (λ w. slice_index w 0) ws) (map (λ w. slice_index w 1) ws) (map (λ w. slice_index w 2) ws) ≡ map column_of ws
+unfolding columns_of
+columns_each [] = refl
+columns_each (w ∷ ws) = ap (λ cs. column_of w ∷ cs) (columns_each ws)
+
+pub lanes_columns : (ws : List (List ℕ)) (bs gs rs : List ℕ) → bs ≡ map (λ w. slice_index w 0) ws → gs ≡ map (λ w. slice_index w 1) ws → rs ≡ map (λ w. slice_index w 2) ws → columns_of bs gs rs ≡ map column_of ws
+lanes_columns ws bs gs rs b g r = (λ j. columns_of (b j) (g j) (r j)) ∙ columns_each ws
 
 equal_columns : (n b g r : ℕ) → columns_of (replicate n b) (replicate n g) (replicate n r) ≡ replicate n (column_of (b ∷ g ∷ r ∷ []))
 unfolding columns_of

@@ -10,6 +10,7 @@ use Rattle.source_end.specs.declared.refusal.RasterFault.TheVariants.{BadMode, R
 use Rattle.source_end.specs.Content.{Frame}
 use Rattle.source_end.specs.Raster.{Line, active, front, sync, back, total, blank, row_line, lines_of, row_room, blank_room}
 use Rattle.source_end.specs.RasterRefusals.{or_else, is_in_range, numbers_of, bad_mode, bad_row, bad_rows, room_of, no_room, too_long, raster_fault}
+use Rattle.island_pack.specs.declared.ranges.TheConstants.{COLUMN_LIMIT}
 use Rattle.source_end.proofs.RasterModes.{IsFrame, AreFrames, are_frames}
 
 next : {A : Type 0} (i : ℕ) (xs : List A) (d : A) → i < length xs → drop i xs ≡ get_or xs i d ∷ drop (i + 1) xs
@@ -108,14 +109,14 @@ at_room mode frames found none right e =
 long_if : (t b : Bool) → t ≡ b → cond t (let n : Option RasterFault = None in n) (Some Long) ≡ cond b None (Some Long)
 long_if t b e = ap (λ (x : Bool). cond x None (Some Long)) e
 
-pub is_long : (n columns : ℕ) (t : ℕ) → columns ≡ min (n * t + 32) (2 ^ 64 - 1) → 20000000 < columns → nat_le (n * t + 32) 20000000 ≡ false
-is_long n columns t e more = lt-leb (n * t + 32) 20000000 (omega (arith, e, more))
+pub is_long : (n columns : ℕ) (t : ℕ) → columns ≡ min (n * t + 32) (2 ^ 64 - 1) → COLUMN_LIMIT < columns → nat_le (n * t + 32) COLUMN_LIMIT ≡ false
+is_long n columns t e more = lt-leb (n * t + 32) COLUMN_LIMIT (omega (arith, e, more))
 
-pub not_long : (n columns : ℕ) (t : ℕ) → columns ≡ min (n * t + 32) (2 ^ 64 - 1) → columns ≤ 20000000 → nat_le (n * t + 32) 20000000 ≡ true
-not_long n columns t e few = le-leb (n * t + 32) 20000000 (omega (arith, e, few))
+pub not_long : (n columns : ℕ) (t : ℕ) → columns ≡ min (n * t + 32) (2 ^ 64 - 1) → columns ≤ COLUMN_LIMIT → nat_le (n * t + 32) COLUMN_LIMIT ≡ true
+not_long n columns t e few = le-leb (n * t + 32) COLUMN_LIMIT (omega (arith, e, few))
 
-pub at_long : (mode : Mode) (frames : List Frame) (columns : ℕ) → columns ≡ min (length frames * (total mode.across * total mode.down) + 32) (2 ^ 64 - 1) → 20000000 < columns → too_long mode frames ≡ Some Long
-at_long mode frames columns e more = long_if (nat_le (length frames * (total mode.across * total mode.down) + 32) 20000000) false (is_long (length frames) columns (total mode.across * total mode.down) e more)
+pub at_long : (mode : Mode) (frames : List Frame) (columns : ℕ) → columns ≡ min (length frames * (total mode.across * total mode.down) + 32) (2 ^ 64 - 1) → COLUMN_LIMIT < columns → too_long mode frames ≡ Some Long
+at_long mode frames columns e more = long_if (nat_le (length frames * (total mode.across * total mode.down) + 32) COLUMN_LIMIT) false (is_long (length frames) columns (total mode.across * total mode.down) e more)
 
-pub at_none : (mode : Mode) (frames : List Frame) (columns : ℕ) → columns ≡ min (length frames * (total mode.across * total mode.down) + 32) (2 ^ 64 - 1) → columns ≤ 20000000 → too_long mode frames ≡ None
-at_none mode frames columns e few = long_if (nat_le (length frames * (total mode.across * total mode.down) + 32) 20000000) true (not_long (length frames) columns (total mode.across * total mode.down) e few)
+pub at_none : (mode : Mode) (frames : List Frame) (columns : ℕ) → columns ≡ min (length frames * (total mode.across * total mode.down) + 32) (2 ^ 64 - 1) → columns ≤ COLUMN_LIMIT → too_long mode frames ≡ None
+at_none mode frames columns e few = long_if (nat_le (length frames * (total mode.across * total mode.down) + 32) COLUMN_LIMIT) true (not_long (length frames) columns (total mode.across * total mode.down) e few)

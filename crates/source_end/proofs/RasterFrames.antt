@@ -10,6 +10,7 @@ use Rattle.tmds_word.specs.Column.{Column}
 use Rattle.terc4.specs.Columns.{one_if}
 use Rattle.island_pack.specs.Periods.{Period, columns_of}
 use Rattle.island_pack.specs.Spelling.{Spells}
+use Rattle.island_pack.specs.declared.ranges.TheConstants.{COLUMN_LIMIT}
 use Rattle.source_end.specs.declared.gathering.Gathering.{Gathering}
 use Rattle.source_end.specs.declared.item.Item.{Item}
 use Rattle.source_end.specs.declared.mode.Mode.{Mode}
@@ -153,7 +154,7 @@ more_sendable mode frames ps more none content begins =
     let all = sendable_all (raster_of mode frames) (raster_conforms mode frames none content) in
     grind (arith, list_all-append, left, right)
 
-pub more_fits : (mode : Mode) (frames : List Frame) (ps more : List Period) (columns : List Column) → raster_fault mode frames ≡ None → Begins mode frames (ps ++ more) → Spells ps columns → length columns + columns_of more ≤ 20000000
+pub more_fits : (mode : Mode) (frames : List Frame) (ps more : List Period) (columns : List Column) → raster_fault mode frames ≡ None → Begins mode frames (ps ++ more) → Spells ps columns → length columns + columns_of more ≤ COLUMN_LIMIT
 unfolding RasterColumns
 more_fits mode frames ps more columns none begins spelled =
     let all = raster_columns mode frames none in

@@ -8,6 +8,7 @@ use Rattle.source_end.specs.declared.refusal.RasterFault.{RasterFault}
 use Rattle.source_end.specs.declared.refusal.RasterFault.TheVariants.{Row}
 use Rattle.source_end.specs.Content.{Frame}
 use Rattle.source_end.specs.Raster.{active, front, sync, back, total}
+use Rattle.island_pack.specs.declared.ranges.TheConstants.{COLUMN_LIMIT}
 use Rattle.source_end.specs.RasterRefusals.{or_else, numbers_of, bad_mode, bad_row, bad_rows, no_room, too_long, raster_fault}
 
 -- what the numbers of a mode must be
@@ -78,6 +79,6 @@ pub no_bad_mode : (mode : Mode) (frames : List Frame) → raster_fault mode fram
 unfolding raster_fault
 no_bad_mode mode frames h = (both_none (bad_mode 0 (numbers_of mode)) (or_else (bad_rows mode 0 frames) (or_else (no_room mode 0 frames) (too_long mode frames))) h).0
 
-pub few_columns : (mode : Mode) (frames : List Frame) → raster_fault mode frames ≡ None → length frames * (total mode.across * total mode.down) + 32 ≤ 20000000
+pub few_columns : (mode : Mode) (frames : List Frame) → raster_fault mode frames ≡ None → length frames * (total mode.across * total mode.down) + 32 ≤ COLUMN_LIMIT
 unfolding raster_fault
 few_columns mode frames h = grind (arith, both_none, leb-true)

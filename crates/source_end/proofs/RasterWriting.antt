@@ -4,6 +4,7 @@ use Rattle.std.proofs.lemmas.List.{map-append, drop_all, take_min, length-take, 
 use Rattle.std.proofs.lemmas.Bool.{cases_lt, eqb-true}
 use Rattle.tmds_word.proofs.Below.{and-left, and-right}
 use Rattle.island_pack.specs.declared.packet.Packet.{Packet}
+use Rattle.island_pack.specs.declared.ranges.TheConstants.{COLUMN_LIMIT}
 use Rattle.source_end.specs.declared.mode.Mode.{Mode}
 use Rattle.source_end.specs.Content.{Frame}
 use Rattle.source_end.specs.Raster.{Line, Part, pixels, blank, row_line, room, sync, back, front, total, whole, laid, lines_of, parts_of, final_columns}
@@ -119,7 +120,7 @@ size_bodies mode ok [] are = size_none ∙ omega arith
 size_bodies mode ok (f ∷ frames) are = grind (arith, size_append, size_frame, more_times, size_bodies mode ok frames)
 
 -- the frames so far, and one more, are no more columns than all
-pub few_so_far : (mode : Mode) → IsMode mode → (frames : List Frame) → AreFrames mode frames → (i : ℕ) → i < length frames → length frames * (total mode.across * total mode.down) + 32 ≤ 20000000 → size (bodies mode (take i frames)) + total mode.across * total mode.down < 2 ^ 32
+pub few_so_far : (mode : Mode) → IsMode mode → (frames : List Frame) → AreFrames mode frames → (i : ℕ) → i < length frames → length frames * (total mode.across * total mode.down) + 32 ≤ COLUMN_LIMIT → size (bodies mode (take i frames)) + total mode.across * total mode.down < 2 ^ 32
 few_so_far mode ok frames are i lt few =
     let a = total mode.across * total mode.down in
     let s = size_bodies mode ok (take i frames) (frames_take mode i frames are) in
@@ -130,7 +131,7 @@ few_so_far mode ok frames are i lt few =
     let most = mul-le-mul_right a next in
     omega (arith, s, t, sum, most, few)
 
-pub few_at_end : (mode : Mode) → IsMode mode → (frames : List Frame) → AreFrames mode frames → length frames * (total mode.across * total mode.down) + 32 ≤ 20000000 → size (bodies mode frames) + 32 < 2 ^ 32
+pub few_at_end : (mode : Mode) → IsMode mode → (frames : List Frame) → AreFrames mode frames → length frames * (total mode.across * total mode.down) + 32 ≤ COLUMN_LIMIT → size (bodies mode frames) + 32 < 2 ^ 32
 few_at_end mode ok frames are few = omega (arith, size_bodies mode ok frames are, few)
 
 -- Parts in a row.

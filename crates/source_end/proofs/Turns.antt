@@ -5,6 +5,7 @@ use Rattle.std.specs.List.{list_all}
 use Rattle.std.proofs.lemmas.Bool.{leb-true}
 use Rattle.island_pack.specs.Periods.{ControlRun, Period, control, video, island, values_of, has_preamble, VIDEO_PREAMBLE, ISLAND_PREAMBLE, period_columns, columns_of}
 use Rattle.island_pack.specs.Conforming.{is_run, is_control_period, is_video_period, is_data_island, conforms}
+use Rattle.island_pack.specs.declared.ranges.TheConstants.{COLUMN_LIMIT}
 use Rattle.source_end.specs.Kept.{capped, is_run_in_range, are_pixels, has_pixels, conforms_so_far}
 use Rattle.source_end.specs.Refusals.{last_period, is_in_range, is_in_order, has_control, is_announced, is_long_enough}
 
@@ -127,12 +128,12 @@ pub more_columns : (p : Period) (ps : List Period) → columns_of (p ∷ ps) ≡
 unfolding columns_of
 more_columns p ps = refl
 
-pub capped_room : (sum n m : ℕ) → n ≡ capped m → nat_le (sum + n) 20000000 ≡ nat_le (sum + m) 20000000
+pub capped_room : (sum n m : ℕ) → n ≡ capped m → nat_le (sum + n) COLUMN_LIMIT ≡ nat_le (sum + m) COLUMN_LIMIT
 capped_room sum n m e = grind arith
 
-pub same_sum : (sum n m : ℕ) → n ≡ capped m → n ≤ 20000000 - sum → sum + n ≡ sum + m
+pub same_sum : (sum n m : ℕ) → n ≡ capped m → n ≤ COLUMN_LIMIT - sum → sum + n ≡ sum + m
 same_sum sum n m e fits = omega arith
 
 -- what the test on the columns says
-pub room_left : (sum n : ℕ) (fits : Bool) → fits ≡ nat_le (sum + n) 20000000 → fits ≡ true → n ≤ 20000000 - sum
-room_left sum n fits e t = let le : sum + n ≤ 20000000 = leb-true (sum + n) 20000000 (sym e ∙ t) in omega arith
+pub room_left : (sum n : ℕ) (fits : Bool) → fits ≡ nat_le (sum + n) COLUMN_LIMIT → fits ≡ true → n ≤ COLUMN_LIMIT - sum
+room_left sum n fits e t = let le : sum + n ≤ COLUMN_LIMIT = leb-true (sum + n) COLUMN_LIMIT (sym e ∙ t) in omega arith

@@ -4,6 +4,7 @@ ghost use Rattle.std.specs.Prelude.{◌≡◌, ℕ, ◌+◌, ◌%◌, ◌^◌, �
 ghost use Rattle.island_pack.specs.Runs.{longest};
 ghost use Rattle.island_pack.specs.Periods.{columns_of};
 ghost use Rattle.island_pack.specs.Conforming.{IsConforming};
+ghost use Rattle.island_pack.specs.declared.ranges.TheConstants.{COLUMN_LIMIT};
 ghost use Rattle.source_end.specs.ItemPeriods.{period_of};
 ghost use Rattle.source_end.specs.OpenRuns.{open_period};
 ghost use Rattle.source_end.specs.Raster.{Part, column, pixels, packets, gathered};
@@ -186,7 +187,7 @@ impl Gathering {
 
     /// The stream of the items, as long as their parts conform, and `columns` is how many columns they take.
     pub fn into_stream(self, columns: u32) -> Result<Stream, NoMemory>
-        requires { (parts : List Part) × Has self parts × IsConforming (gathered parts) × (columns ≡ columns_of (gathered parts)) × (columns ≤ 20000000) }
+        requires { (parts : List Part) × Has self parts × IsConforming (gathered parts) × (columns ≡ columns_of (gathered parts)) × (columns ≤ COLUMN_LIMIT) }
         ensures { (parts : List Part) → Has self parts → IfOk result (λ stream. stream ≡ gathered parts) }
     {
         let items = self.into_items()?;

@@ -1,5 +1,6 @@
 //! Lists of items that can be the first ones of a conforming list.
 ghost use Rattle.std.specs.Prelude.{◌≡◌, ◌≤◌, ◌++◌, ◌∷◌, [], List, OnOk, OnErr, IfOk, IsTrue};
+ghost use Rattle.island_pack.specs.declared.ranges.TheConstants.{COLUMN_LIMIT};
 
 use crate::Item;
 use crate::follow::{end_fault, first_fault};
@@ -66,13 +67,14 @@ pub struct FramedItems<F: Framing> {
 impl<F: Framing> Model for FramedItems<F> {
     ghost use Rattle.std.specs.Prelude.{◌≡◌, ◌≤◌, List, map, IsTrue};
     ghost use Rattle.island_pack.specs.Periods.{Period};
+    ghost use Rattle.island_pack.specs.declared.ranges.TheConstants.{COLUMN_LIMIT};
     ghost use Rattle.source_end.specs.ItemPeriods.{period_of};
 
     ghost Value = { List Period };
 
     ghost view = { λ i. map period_of i.list.items };
 
-    ghost invariant = { λ i. IsTrue (F.rules.conforms_so_far (map period_of i.list.items)) × (i.columns ≡ F.rules.columns_of (map period_of i.list.items)) × (i.columns ≤ 20000000) };
+    ghost invariant = { λ i. IsTrue (F.rules.conforms_so_far (map period_of i.list.items)) × (i.columns ≡ F.rules.columns_of (map period_of i.list.items)) × (i.columns ≤ COLUMN_LIMIT) };
 }
 
 impl<F: Framing> FramedItems<F> {
@@ -118,7 +120,7 @@ impl<F: Framing> FramedItems<F> {
     /// How many columns they take.
     pub fn columns(&self) -> u32
         ensures value { result ≡ F.rules.columns_of self.now }
-        ensures few { result ≤ 20000000 }
+        ensures few { result ≤ COLUMN_LIMIT }
     {
         self.columns
     }

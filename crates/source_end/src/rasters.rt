@@ -4,6 +4,7 @@ ghost use Rattle.tmds_word.specs.Column.{Column};
 ghost use Rattle.island_pack.specs.Conforming.{IsConforming};
 ghost use Rattle.island_pack.specs.Periods.{Period, columns_of};
 ghost use Rattle.island_pack.specs.Spelling.{Spells};
+ghost use Rattle.island_pack.specs.declared.ranges.TheConstants.{COLUMN_LIMIT};
 ghost use Rattle.source_end.specs.Gathering.{size, Parted};
 ghost use Rattle.source_end.specs.ItemPeriods.{period_of};
 ghost use Rattle.source_end.specs.Lines.{AreWide};
@@ -37,7 +38,7 @@ pub fn raster(alloc: Global, mode: &Mode, content: &Content) -> Result<Stream, R
 pub fn count_columns(mode: &Mode, content: &Content) -> Result<u32, RasterFault>
     ensures fault { AnswersRasterFault (raster_fault mode.now content.now) result }
     ensures refused { IfErr result (λ fault. raster_fault mode.now content.now ≡ Some fault) }
-    ensures columns { IfOk result (λ columns. (columns ≡ columns_of (raster_of mode.now content.now)) × (columns ≤ 20000000)) }
+    ensures columns { IfOk result (λ columns. (columns ≡ columns_of (raster_of mode.now content.now)) × (columns ≤ COLUMN_LIMIT)) }
     ensures conforming { IfOk result (λ columns. IsConforming (raster_of mode.now content.now)) }
 {
     match raster_fault(mode, content) {

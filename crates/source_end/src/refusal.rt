@@ -9,6 +9,7 @@ use crate::content::FrameContent;
 use crate::mode::{active, back, front, sync, total};
 use crate::rows::Rows;
 use crate::{Content, Mode};
+use island_pack::COLUMN_LIMIT;
 use outside_io::NoMemory;
 use thiserror::Error;
 
@@ -35,7 +36,7 @@ pub enum RasterFault {
         /// The packet of the frame, from 0.
         packet: u32,
     },
-    /// More than 20,000,000 columns.
+    /// More than `COLUMN_LIMIT` columns.
     #[error("there are more than 20,000,000 columns")]
     Long,
     /// Want of memory.
@@ -67,7 +68,7 @@ pub(crate) fn raster_fault(mode: &Mode, content: &Content) -> Option<RasterFault
     if let Some(fault) = room_fault(mode, frames) {
         return Some(fault);
     }
-    if raster_columns(mode, frames.len()) > 20_000_000 {
+    if raster_columns(mode, frames.len()) > u64::from(COLUMN_LIMIT) {
         return Some(RasterFault::Long);
     }
     None
@@ -173,7 +174,7 @@ pub fn next_fault(
     ensures { result ≡ next_fault mode.now fault count packets }
 {
     let is_long = match fault {
-        None => raster_columns(mode, count as usize + 1) > 20_000_000,
+        None => raster_columns(mode, count as usize + 1) > u64::from(COLUMN_LIMIT),
         Some(RasterFault::Long) => true,
         Some(_) => return fault,
     };

@@ -1,5 +1,5 @@
 //! The columns that spell one item.
-ghost use Rattle.std.specs.Prelude.{◌≡◌, ◌⊎◌, ◌<◌, ◌+◌, ◌*◌, ◌/◌, ◌%◌, ◌++◌, ◌∷◌, [], List, length, map, replicate, OnOk, OnErr, IsTrue, true};
+ghost use Rattle.std.specs.Prelude.{◌≡◌, ◌⊎◌, ◌<◌, ◌+◌, ◌*◌, ◌/◌, ◌%◌, ◌++◌, ◌∷◌, [], List, length, map, replicate, slice_index, OnOk, OnErr, IsTrue, true};
 ghost use Rattle.std.specs.List.{list_all};
 ghost use Rattle.outside_io.specs.Causes.{HasCause};
 ghost use Rattle.tmds_word.specs.Column.{Column, column_of};
@@ -184,10 +184,22 @@ fn each<C: ColumnSink>(block: &[[Word; 3]; 32], out: &mut C) -> Result<(), NoMem
     ensures part { OnErr result (TookFront (C.taken out.old) (C.taken out.new) (λ columns. columns ≡ map column_of block.now)) }
     ensures cause { HasCause (C.refusals out.old) (C.refusals out.new) result }
 {
-    for words in block {
-        out.column(*words)?;
+    let blue = lane_of(block, 0);
+    let green = lane_of(block, 1);
+    let red = lane_of(block, 2);
+    out.columns(&blue, &green, &red)
+}
+
+/// The words of one lane of 32 columns.
+fn lane_of(block: &[[Word; 3]; 32], lane: usize) -> [Word; 32]
+    requires { lane < 3 }
+    ensures { result ≡ map (λ words. slice_index words lane) block.now }
+{
+    let mut lane_words = [Word::of(0); 32];
+    for (i, words) in block.iter().enumerate() {
+        lane_words[i] = words[lane];
     }
-    Ok(())
+    lane_words
 }
 
 /// The guard words of a video period on lanes 0, 1 and 2.

@@ -2,6 +2,7 @@
 ghost use Rattle.std.specs.Prelude.{◌≡◌, ◌≤◌, ◌<◌, ◌++◌, List, length, map, OnOk, OnErr, IsTrue};
 ghost use Rattle.outside_io.specs.Causes.{HasCause};
 ghost use Rattle.tmds_word.specs.Column.{Column};
+ghost use Rattle.island_pack.specs.declared.ranges.TheConstants.{COLUMN_LIMIT};
 
 use crate::framing::{Framing, WithGuards, WithoutGuards};
 use crate::{Item, spell};
@@ -26,13 +27,14 @@ pub struct FramedStream<F: Framing> {
 impl<F: Framing> Model for FramedStream<F> {
     ghost use Rattle.std.specs.Prelude.{◌≡◌, ◌≤◌, List, map, IsTrue};
     ghost use Rattle.island_pack.specs.Periods.{Period};
+    ghost use Rattle.island_pack.specs.declared.ranges.TheConstants.{COLUMN_LIMIT};
     ghost use Rattle.source_end.specs.ItemPeriods.{period_of};
 
     ghost Value = { List Period };
 
     ghost view = { λ s. map period_of s.list.items };
 
-    ghost invariant = { λ s. IsTrue (F.rules.conforms (map period_of s.list.items)) × (s.columns ≡ F.rules.columns_of (map period_of s.list.items)) × (s.columns ≤ 20000000) };
+    ghost invariant = { λ s. IsTrue (F.rules.conforms (map period_of s.list.items)) × (s.columns ≡ F.rules.columns_of (map period_of s.list.items)) × (s.columns ≤ COLUMN_LIMIT) };
 }
 
 impl<F: Framing> FramedStream<F> {
@@ -41,7 +43,7 @@ impl<F: Framing> FramedStream<F> {
     pub(crate) fn new(list: Vec<Item>, columns: u32) -> FramedStream<F>
         requires conforming { IsTrue (F.rules.conforms (map period_of list.items)) }
         requires columns { columns ≡ F.rules.columns_of (map period_of list.items) }
-        requires few { columns ≤ 20000000 }
+        requires few { columns ≤ COLUMN_LIMIT }
         ensures { result ≡ map period_of list.items }
     {
         FramedStream {
@@ -54,7 +56,7 @@ impl<F: Framing> FramedStream<F> {
     /// How many columns its items take.
     pub fn columns(&self) -> u32
         ensures value { result ≡ F.rules.columns_of self.now }
-        ensures few { result ≤ 20000000 }
+        ensures few { result ≤ COLUMN_LIMIT }
         ensures conforming { IsTrue (F.rules.conforms self.now) }
     {
         self.columns

@@ -1,8 +1,8 @@
 -- The tables of the code hold the words and values of the definitions: each place is computed.
-use Rattle.std.proofs.Common.{arith, ◌≡◌, ℕ, ◌<◌, ◌≤◌, Bool, true, cond, List, length, refl, ap, ◌∙◌, ◌==◌, eqb-true, nat_eq, nat_lt, slice_index, Option, Some, None}
-use Rattle.std.specs.Prelude.{IfSome}
+use Rattle.std.proofs.Common.{arith, ◌≡◌, ℕ, ◌<◌, ◌≤◌, Bool, true, cond, List, length, refl, ap, ◌∙◌, ◌==◌, ◌&&◌, eqb-true, nat_eq, nat_lt, slice_index, Option, Some, None}
+use Rattle.std.specs.Prelude.{IfSome, unwrap_or}
 use Rattle.std.specs.Option.{option_eq}
-use Rattle.std.proofs.lemmas.Bool.{cond_below, cond_above}
+use Rattle.std.proofs.lemmas.Bool.{cond_below, cond_above, ltb-true}
 use Rattle.std.proofs.lemmas.List.Quantifiers.{position-Some}
 use Rattle.tmds_word.proofs.Below.{passes_below, passes_at}
 use Rattle.terc4.specs.Tables.{control_words, terc_words, value_in}
@@ -54,6 +54,25 @@ some_terc = some_entry TERC_CODES terc_words terc_agrees
 pub no_terc : (w code : ℕ) → w < 1024 → code ≡ slice_index TERC_CODES w → 16 ≤ code → None ≡ value_in terc_words w
 unfolding terc_words
 no_terc = none_entry TERC_CODES terc_words terc_agrees
+
+-- and the code itself is the value, or 16
+has_code : ℕ → Bool
+has_code w = (slice_index TERC_CODES w == unwrap_or (value_in terc_words w) 16) && nat_lt (slice_index TERC_CODES w) 17
+
+all_codes : passes_below 1024 has_code ≡ true
+unfolding passes_below has_code value_in terc_words
+all_codes = refl
+
+pub record IsCode (w code : ℕ) : Type 0 where
+  pub value : code ≡ unwrap_or (value_in terc_words w) 16
+  pub most : code < 17
+
+code_both : (w : ℕ) (code : ℕ) → code ≡ slice_index TERC_CODES w → has_code w ≡ true → IsCode w code
+unfolding has_code
+code_both w code e h = grind (arith, eqb-true, ltb-true)
+
+pub terc_code_is : (w code : ℕ) → w < 1024 → code ≡ slice_index TERC_CODES w → IsCode w code
+terc_code_is w code lt e = code_both w code e (passes_at 1024 has_code w all_codes lt)
 
 -- a value is the place of one of the table's words
 below_length : (o : Option ℕ) (n : ℕ) → ((v : ℕ) → o ≡ Some v → v < n) → IfSome o (λ v. v < n)

@@ -45,6 +45,10 @@ pub fn column_kind(words: &[Word; 3]) -> ColumnKind
 pub fn is_control_column(words: &[Word; 3]) -> bool
     ensures { result ≡ is_control_column (column_of words.now) }
 {
+    // Nearly every column that is none has no control word on these two lanes.
+    if !is_control_word(words[1]) && !is_control_word(words[2]) {
+        return false;
+    }
     controls(words[0], words[1], words[2]) >= ENOUGH
 }
 

@@ -11,7 +11,7 @@ pub use columns::{
     ColumnKind, closing_guard_words, column_kind, is_control_column, is_control_word,
     is_island_guard, is_video_guard, island_guard_words, video_guard_words,
 };
-pub use values::{control, control_of, nibble, terc};
+pub use values::{control, control_of, nibble, nibble_code, terc};
 
 /// How many control words stand in a row at least in each control period: locks and edges stand on as many (HDMI 1.4,
 /// section 5.4.2).

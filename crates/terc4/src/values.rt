@@ -1,5 +1,5 @@
 //! Words of the tables and their values.
-ghost use Rattle.std.specs.Prelude.{◌≡◌, ◌<◌, slice_index, IfSome};
+ghost use Rattle.std.specs.Prelude.{◌≡◌, ◌<◌, ◌≤◌, slice_index, unwrap_or, IfSome};
 ghost use Rattle.terc4.specs.Tables.{control_words, terc_words, value_in};
 
 use crate::tables::{control_code, control_word, terc_code, terc_word};
@@ -31,6 +31,14 @@ pub fn nibble(word: Word) -> Option<u8>
 {
     let code = terc_code(word.value());
     if code < 16 { Some(code) } else { None }
+}
+
+/// The four bits D3 to D0 that a TERC4 word carries, and 16 for any other word.
+pub fn nibble_code(word: Word) -> u8
+    ensures value { result ≡ unwrap_or (value_in terc_words word) 16 }
+    ensures most { result ≤ 16 }
+{
+    terc_code(word.value())
 }
 
 /// The TERC4 word of four bits D3 to D0, a value from 0 to 15 (HDMI 1.4, section 5.4.3).

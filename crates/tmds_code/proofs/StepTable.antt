@@ -8,7 +8,7 @@ use Rattle.tmds_word.specs.Bits.{bits_of, word_bits, number, ones, zeros, balanc
 use Rattle.tmds_word.proofs.Below.{and-left, and-right}
 use Rattle.tmds_code.specs.Coding.{coded_word, coded_at, coded_bits, balanced, minimised, takes_xnor, decoded_byte, decoded_bits}
 use Rattle.tmds_code.specs.Balances.{disparity_at, followed}
-use Rattle.tmds_code.specs.declared.following.TheConstants.{FOLLOWED}
+use Rattle.tmds_code.specs.declared.tables.following.TheConstants.{FOLLOWED}
 use Rattle.tmds_code.proofs.Steps.{step_balance}
 
 -- whether a word is the coding of its byte at step k

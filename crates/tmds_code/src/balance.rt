@@ -2,7 +2,7 @@
 ghost use Rattle.std.specs.Prelude.{◌≡◌, ◌≤◌, ◌*◌, ℕ, IfSome, Some, is_some, true, pos, negsuc, ◌-ℤ◌, ◌≤ℤ◌};
 ghost use Rattle.tmds_code.specs.Balances.{disparity_at, followed};
 
-use crate::following::followed;
+use crate::tables::followed;
 use std::marker::Model;
 use tmds_word::Word;
 

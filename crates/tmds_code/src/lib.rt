@@ -4,7 +4,6 @@
 mod balance;
 mod coder;
 mod coding;
-mod following;
 mod judge;
 pub mod laws;
 mod stepping;

@@ -9,6 +9,7 @@ use Rattle.lane_align.specs.Lanes.{IsEdge}
 use Rattle.lane_align.specs.Words.{words_from}
 use Rattle.lane_deskew.specs.Triples.{IsFirst}
 use Rattle.lane_deskew.specs.Aligned.{aligned_columns}
+use Rattle.link_laws.proofs.Freely.{free_received}
 use Rattle.link_laws.specs.Alternating.{IsAlternating}
 use Rattle.link_laws.proofs.LaneEnds.{edge_ends}
 use Rattle.link_laws.proofs.Shapes.{alternating, ends_apart}
@@ -141,7 +142,7 @@ front_columns x y (suc (suc (suc l))) place dropped start d e f m slip long afte
 reported_front : (ps : List Period) (sent received : List Column) → ReceivedOf ps sent received → (cs ds : List Column) (a m : ℕ) → IsAccounted ps sent received ds a → m ≤ length ds → take m cs ≡ take m ds
     → heard (take m cs) ≡ account ps sent received a m
 reported_front ps sent received reception cs ds a m is within same =
-    ap heard (same ∙ ap (take m) is.columns ∙ take-take m (length ds) (drop a received) within) ∙ link_law ps sent received reception a m is.ends
+    ap heard (same ∙ ap (take m) is.columns ∙ take-take m (length ds) (drop a received) within) ∙ link_law ps sent received (free_received ps sent received reception) a m is.ends
 
 pub front_accounted : (ps : List Period) (sent received : List Column) (offset : ℕ) (skews counts : List ℕ) (x y : Fed) (lane place dropped first next start : ℕ)
     → Received ps sent received offset skews counts x → Slipped x lane place dropped y

@@ -11,6 +11,7 @@ use Rattle.track_sink.specs.Epochs.{lane_of, rest_of, IsEnd, HasNoEnd}
 use Rattle.tmds_word.specs.Column.{Column}
 use Rattle.island_pack.specs.Periods.{Period}
 use Rattle.island_pack.specs.Sparse.{IsSparseInPayload}
+use Rattle.link_laws.proofs.Freely.{free_received}
 use Rattle.link_laws.proofs.Lanes.{lanes_received}
 use Rattle.track_laws.specs.Laws.{Slipped, CalmLanes, Received}
 
@@ -82,8 +83,8 @@ at_most_two x y words marks from many lane place dropped lanes s slip found star
 pub payload_has_no_end : (ps : List Period) (sent received : List Column) (offset : ℕ) (skews counts : List ℕ) (x : Fed) → Received ps sent received offset skews counts x
     → IsSparseInPayload ps sent received → HasNoEnd x
 payload_has_no_end ps sent received offset skews counts x reception alone zero lt =
-    none_of x.blue _ reception.tapped.blue_part.bits_are (calm_has_none _ _ (lanes_received ps sent received reception.reception alone).blue.calm _ _)
+    none_of x.blue _ reception.tapped.blue_part.bits_are (calm_has_none _ _ (lanes_received ps sent received (free_received ps sent received reception.reception) alone).blue.calm _ _)
 payload_has_no_end ps sent received offset skews counts x reception alone (suc zero) lt =
-    none_of x.green _ reception.tapped.green_part.bits_are (calm_has_none _ _ (lanes_received ps sent received reception.reception alone).green.calm _ _)
+    none_of x.green _ reception.tapped.green_part.bits_are (calm_has_none _ _ (lanes_received ps sent received (free_received ps sent received reception.reception) alone).green.calm _ _)
 payload_has_no_end ps sent received offset skews counts x reception alone (suc (suc l)) lt =
-    none_of x.red _ reception.tapped.red_part.bits_are (calm_has_none _ _ (lanes_received ps sent received reception.reception alone).red.calm _ _)
+    none_of x.red _ reception.tapped.red_part.bits_are (calm_has_none _ _ (lanes_received ps sent received (free_received ps sent received reception.reception) alone).red.calm _ _)

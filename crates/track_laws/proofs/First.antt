@@ -11,6 +11,7 @@ use Rattle.lane_deskew.specs.Aligned.{aligned_columns}
 use Rattle.island_pack.specs.Periods.{Period}
 use Rattle.island_pack.specs.Sparse.{IsSparseInPayload}
 use Rattle.link_sink.specs.Sinks.{Fed}
+use Rattle.link_laws.proofs.Freely.{free_received}
 use Rattle.link_laws.specs.Laws.{BeginColumn, IsAccounted, PayloadAccounted}
 use Rattle.lane_track.proofs.Around.{length-part}
 use Rattle.track_sink.specs.Epochs.{lane_of}
@@ -47,7 +48,7 @@ first_reported law ps sent received offset skews counts x y zero place dropped s
     let q = front_part (greens received) (offset + slice_index skews 1) (slice_index counts 1) start x.green reception.tapped.green_part in
     let r = front_part (reds received) (offset + slice_index skews 2) (slice_index counts 2) start x.red reception.tapped.red_part in (
       here,
-      law ps sent received reception.reception alone offset skews (p.0 ∷ (q.0 ∷ (r.0 ∷ []))) (take place x.blue) (take start x.green) (take start x.red)
+      law ps sent received (free_received ps sent received reception.reception) alone offset skews (p.0 ∷ (q.0 ∷ (r.0 ∷ []))) (take place x.blue) (take start x.green) (take start x.red)
           (record { blue_part = p.1; green_part = q.1; red_part = r.1 }) small d e f here,
     )
 first_reported law ps sent received offset skews counts x y (suc zero) place dropped start reception alone slip small edges d e f first =
@@ -58,7 +59,7 @@ first_reported law ps sent received offset skews counts x y (suc zero) place dro
     let q = front_part (greens received) (offset + slice_index skews 1) (slice_index counts 1) place x.green reception.tapped.green_part in
     let r = front_part (reds received) (offset + slice_index skews 2) (slice_index counts 2) start x.red reception.tapped.red_part in (
       here,
-      law ps sent received reception.reception alone offset skews (p.0 ∷ (q.0 ∷ (r.0 ∷ []))) (take start x.blue) (take place x.green) (take start x.red)
+      law ps sent received (free_received ps sent received reception.reception) alone offset skews (p.0 ∷ (q.0 ∷ (r.0 ∷ []))) (take start x.blue) (take place x.green) (take start x.red)
           (record { blue_part = p.1; green_part = q.1; red_part = r.1 }) small d e f here,
     )
 first_reported law ps sent received offset skews counts x y (suc (suc l)) place dropped start reception alone slip small edges d e f first =
@@ -69,6 +70,6 @@ first_reported law ps sent received offset skews counts x y (suc (suc l)) place 
     let q = front_part (greens received) (offset + slice_index skews 1) (slice_index counts 1) start x.green reception.tapped.green_part in
     let r = front_part (reds received) (offset + slice_index skews 2) (slice_index counts 2) place x.red reception.tapped.red_part in (
       here,
-      law ps sent received reception.reception alone offset skews (p.0 ∷ (q.0 ∷ (r.0 ∷ []))) (take start x.blue) (take start x.green) (take place x.red)
+      law ps sent received (free_received ps sent received reception.reception) alone offset skews (p.0 ∷ (q.0 ∷ (r.0 ∷ []))) (take start x.blue) (take start x.green) (take place x.red)
           (record { blue_part = p.1; green_part = q.1; red_part = r.1 }) small d e f here,
     )

@@ -10,6 +10,7 @@ use Rattle.lane_deskew.specs.Aligned.{aligned_columns}
 use Rattle.island_pack.specs.Periods.{Period}
 use Rattle.island_pack.specs.Sparse.{IsSparseInPayload}
 use Rattle.link_sink.specs.Sinks.{Fed}
+use Rattle.link_laws.proofs.Freely.{free_received}
 use Rattle.link_laws.specs.Laws.{BeginColumn, IsAccounted, PayloadAccounted}
 use Rattle.lane_track.specs.Slips.{slipped}
 use Rattle.lane_track.proofs.Around.{length-part, drop_part, rest_is_part}
@@ -57,19 +58,19 @@ second_reported law ps sent received offset skews counts x y zero place dropped 
     let blue = lost (blues received) offset (slice_index skews 0) (slice_index counts 0) place dropped start x.blue y.blue d reception.tapped.blue_part slip.this after t.blue in
     let green = kept (greens received) offset (slice_index skews 1) (slice_index counts 1) start x.green y.green e reception.tapped.green_part (slip.others 1 (omega arith) (λ h. omega arith)) t.green in
     let red = kept (reds received) offset (slice_index skews 2) (slice_index counts 2) start x.red y.red f reception.tapped.red_part (slip.others 2 (omega arith) (λ h. omega arith)) t.red in
-    law ps sent received reception.reception alone (offset + start) (later_skews skews zero dropped) (blue.0 ∷ (green.0 ∷ (red.0 ∷ []))) (drop start y.blue) (drop start y.green) (drop start y.red)
+    law ps sent received (free_received ps sent received reception.reception) alone (offset + start) (later_skews skews zero dropped) (blue.0 ∷ (green.0 ∷ (red.0 ∷ []))) (drop start y.blue) (drop start y.green) (drop start y.red)
     (record { blue_part = blue.1; green_part = green.1; red_part = red.1 }) small d e f first
 second_reported law ps sent received offset skews counts x y (suc zero) place dropped start reception alone slip small after d e f first =
     let t = first.triple in
     let blue = kept (blues received) offset (slice_index skews 0) (slice_index counts 0) start x.blue y.blue d reception.tapped.blue_part (slip.others 0 (omega arith) (λ h. omega arith)) t.blue in
     let green = lost (greens received) offset (slice_index skews 1) (slice_index counts 1) place dropped start x.green y.green e reception.tapped.green_part slip.this after t.green in
     let red = kept (reds received) offset (slice_index skews 2) (slice_index counts 2) start x.red y.red f reception.tapped.red_part (slip.others 2 (omega arith) (λ h. omega arith)) t.red in
-    law ps sent received reception.reception alone (offset + start) (later_skews skews (suc zero) dropped) (blue.0 ∷ (green.0 ∷ (red.0 ∷ []))) (drop start y.blue) (drop start y.green) (drop start y.red)
+    law ps sent received (free_received ps sent received reception.reception) alone (offset + start) (later_skews skews (suc zero) dropped) (blue.0 ∷ (green.0 ∷ (red.0 ∷ []))) (drop start y.blue) (drop start y.green) (drop start y.red)
     (record { blue_part = blue.1; green_part = green.1; red_part = red.1 }) small d e f first
 second_reported law ps sent received offset skews counts x y (suc (suc l)) place dropped start reception alone slip small after d e f first =
     let t = first.triple in
     let blue = kept (blues received) offset (slice_index skews 0) (slice_index counts 0) start x.blue y.blue d reception.tapped.blue_part (slip.others 0 (omega arith) (λ h. omega arith)) t.blue in
     let green = kept (greens received) offset (slice_index skews 1) (slice_index counts 1) start x.green y.green e reception.tapped.green_part (slip.others 1 (omega arith) (λ h. omega arith)) t.green in
     let red = lost (reds received) offset (slice_index skews 2) (slice_index counts 2) place dropped start x.red y.red f reception.tapped.red_part slip.this after t.red in
-    law ps sent received reception.reception alone (offset + start) (later_skews skews (suc (suc l)) dropped) (blue.0 ∷ (green.0 ∷ (red.0 ∷ []))) (drop start y.blue) (drop start y.green) (drop start y.red)
+    law ps sent received (free_received ps sent received reception.reception) alone (offset + start) (later_skews skews (suc (suc l)) dropped) (blue.0 ∷ (green.0 ∷ (red.0 ∷ []))) (drop start y.blue) (drop start y.green) (drop start y.red)
     (record { blue_part = blue.1; green_part = green.1; red_part = red.1 }) small d e f first

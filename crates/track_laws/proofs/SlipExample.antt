@@ -9,6 +9,7 @@ use Rattle.island_pack.specs.Kinds.{control_column, pixel_column}
 use Rattle.island_pack.specs.Periods.{values_of}
 use Rattle.lane_align.specs.Lanes.{IsLock, IsEdge}
 use Rattle.lane_deskew.specs.Triples.{IsFirst}
+use Rattle.link_laws.proofs.Freely.{free_received}
 use Rattle.link_laws.proofs.Computed.{has, runs_at, none_before, is_lock}
 use Rattle.tmds_word.proofs.Below.{passes_below}
 use Rattle.link_laws.specs.Laws.{HoldsEnd}
@@ -132,7 +133,7 @@ first_alignment start end far near =
       red_part = front (reds received) 42 868 start long_red (omega arith) (omega arith);
     } in
     let holds : HoldsEnd 7 skews ns 24 = grind arith in
-    let h = first_until stream sent received reception 7 skews ns _ _ _ tap before 24 (record { after = after_first; spares = alone.spares 24; holds = holds }) in
+    let h = first_until stream sent received (free_received stream sent received reception) 7 skews ns _ _ _ tap before 24 (record { after = after_first; spares = alone.spares 24; holds = holds }) in
     let blue_edges = edges_at stream sent received 7 skews counts x y 0 400 3 26 56 start tapped slips in_line end in (
       h.0,
       h.1,
@@ -156,7 +157,7 @@ second_alignment start far near =
       red_part = moved (reds received) (42 + start) (7 + start + 35) (868 - start) (drop start y.red) long_red (omega arith) (omega arith) (drop_part (reds received) 42 868 start);
     } in
     let holds : HoldsEnd (7 + start) later ns 76 = grind arith in
-    let h = first_until stream sent received reception (7 + start) later ns _ _ _ tap after 76 (record { after = after_second; spares = alone.spares 76; holds = holds }) in
+    let h = first_until stream sent received (free_received stream sent received reception) (7 + start) later ns _ _ _ tap after 76 (record { after = after_second; spares = alone.spares 76; holds = holds }) in
     (h.0, h.1, h.2, h.3)
 
 pub example : HasSlipExample

@@ -5,6 +5,7 @@ use Rattle.std.specs.Prelude.{slice_index}
 use Rattle.std.proofs.lemmas.List.{length-map}
 use Rattle.tmds_word.specs.Column.{Column}
 use Rattle.tmds_word.specs.Taps.{IsPart}
+use Rattle.link_laws.proofs.Freely.{free_received}
 use Rattle.link_laws.specs.LaneEnds.{IsReceived, IsLaneSent, damaged}
 use Rattle.island_pack.specs.Periods.{Period}
 use Rattle.island_pack.specs.Kinds.{Kind, control_column, pixel_column, kinds_of, kind_at}
@@ -24,9 +25,9 @@ marks_at sent received l = damaged (words_at sent l) (words_at received l)
 
 pub received_at : (ps : List Period) (sent received : List Column) → ReceivedOf ps sent received → IsSparseInPayload ps sent received → (l : ℕ)
     → IsReceived (kinds_of ps) (words_at received l) (marks_at sent received l)
-received_at ps sent received reception alone zero = (lanes_received ps sent received reception alone).blue
-received_at ps sent received reception alone (suc zero) = (lanes_received ps sent received reception alone).green
-received_at ps sent received reception alone (suc (suc l)) = (lanes_received ps sent received reception alone).red
+received_at ps sent received reception alone zero = (lanes_received ps sent received (free_received ps sent received reception) alone).blue
+received_at ps sent received reception alone (suc zero) = (lanes_received ps sent received (free_received ps sent received reception) alone).green
+received_at ps sent received reception alone (suc (suc l)) = (lanes_received ps sent received (free_received ps sent received reception) alone).red
 
 sent_at : (ps : List Period) (sent received : List Column) → ReceivedOf ps sent received → (l : ℕ) → IsLaneSent (kinds_of ps) (words_at sent l)
 sent_at ps sent received reception zero =

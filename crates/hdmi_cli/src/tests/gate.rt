@@ -2,13 +2,15 @@
 ghost use Rattle.std.specs.Prelude.{◌<◌};
 
 use super::trial::{STEADY, answer_of, answer_through};
+use crate::BlockGate;
 use lane_team::Gate;
-use link_sink::LinkSink;
+use link_sink::{Ear, Hears, LaneSink, LinkSink};
 use listing_writer::LinkLister;
-use outside_io::MemSink;
+use outside_io::{Failed, MemSink};
 use std::process::Abort;
 use std::sync::atomic::{AtomicU64, Ordering};
 use std::test::*;
+use std::thread::Threads;
 use tmds_word::LaneBits;
 
 /// For how many turns a lane looks for another at most.
@@ -64,6 +66,18 @@ impl Gate for Meeting {
                 self.missed.fetch_add(1, Ordering::SeqCst);
             }
         }
+    }
+}
+
+impl BlockGate for Meeting {
+    fn feed<R: Threads, H: Hears, E: Ear>(
+        &self,
+        rt: &R,
+        sink: &mut LaneSink<H>,
+        block: LaneBits<'_>,
+        ear: &mut E,
+    ) -> Result<(), Failed> {
+        sink.feed(rt, block, self, ear)
     }
 }
 

@@ -1,6 +1,6 @@
 //! Runs of the program over sources and sinks in memory, and tables of what they must answer.
-use crate::{Words, run};
-use lane_team::{Gate, Open};
+use crate::{BlockGate, Words, run};
+use lane_team::Open;
 use outside_io::{MemSink, MemSource};
 use std::alloc::Global;
 use std::process::Abort;
@@ -47,7 +47,7 @@ pub(super) fn answer_of(
 }
 
 /// The same, where the workers pass a gate.
-pub(super) fn answer_through<G: Gate>(
+pub(super) fn answer_through<G: BlockGate>(
     rt: &(impl Threads + AllocGlobal),
     words: &str,
     input: &[u8],

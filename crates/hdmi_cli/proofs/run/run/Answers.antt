@@ -6,14 +6,19 @@ use Rattle.hdmi_cli.specs.Listers.{after_link, last_link, link_is_text, after_co
 use Rattle.hdmi_cli.proofs.Ends.{says}
 use Rattle.hdmi_cli.proofs.Exact.{check_is_exact}
 use Rattle.hdmi_cli.proofs.Headline.{headlined, headlined_anywhere, dvi_headlined, recovered}
+use Rattle.hdmi_cli.proofs.Beside.{beside_locally}
+use Rattle.hdmi_cli.proofs.DviLocal.{dvi_headlined_locally}
 use Rattle.hdmi_cli.proofs.Local.{headlined_locally}
 use Rattle.hdmi_cli.proofs.LocalPackets.{packeted_locally}
+use Rattle.hdmi_cli.proofs.LocalPictures.{pictured_locally}
 use Rattle.hdmi_cli.proofs.RelayAgain.{relay_again}
 use Rattle.hdmi_cli.proofs.RelayClean.{relay_passes}
 use Rattle.hdmi_cli.proofs.RelayHeadline.{relay_headlined}
+use Rattle.hdmi_cli.proofs.RelayLocal.{relayed_locally}
 use Rattle.hdmi_cli.proofs.RelaySettles.{relay_agrees, relay_settles}
 use Rattle.hdmi_cli.proofs.Taken.{run_refused, run_wants}
 use Rattle.hdmi_cli.proofs.TrackHeadline.{tracks_as_link}
+use Rattle.hdmi_cli.proofs.TrackLocal.{tracked_locally}
 use Rattle.hdmi_cli.proofs.TrackSlip.{tracked_across}
 use Rattle.hdmi_cli.proofs.TrackPasses.{tracked_as_one}
 use Rattle.hdmi_cli.proofs.Pictures.{packeted, pictured}
@@ -59,13 +64,18 @@ returns g c =
         packets = packeted words ending before after status ends known;
         content_local = headlined_locally content_listing after_content last_link content_is_text RecoverContent (λ bytes o does. does) words ending before after status ends known;
         check_local = headlined_locally check_listing after_check last_check check_is_text Check (λ bytes o does. does) words ending before after status ends known;
+        pictures_local = pictured_locally words ending before after status ends known;
         packets_local = packeted_locally words ending before after status ends known;
+        packets_beside = beside_locally words ending before after status ends known;
         biphase_headline = sounded words ending before after status ends known;
         dvi_headline = dvi_headlined words ending before after status ends known;
+        dvi_local = dvi_headlined_locally words ending before after status ends known;
         track_headline = recovered link_listing RecoverTrack tracks_as_link words ending before after status ends known;
+        track_local = tracked_locally words ending before after status ends known;
         track_slip = tracked_across words ending before after status ends known;
         track_slip_passes = tracked_as_one words ending before after status ends known;
         relay_headline = relay_headlined c.relayed_account.ensures words ending before after status ends known;
+        relay_local = relayed_locally c.alone_relayed.ensures.line c.alone_relayed.ensures.island words ending before after status ends known;
         relay_clean = relay_passes c.whole_relayed.ensures words ending before after status ends known;
         relay_clean_columns = relay_agrees c.whole_relayed.ensures words ending before after status ends known;
         relay_again = relay_again c.relayed_again.ensures words ending before after status ends known;

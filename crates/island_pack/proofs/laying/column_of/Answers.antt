@@ -1,4 +1,4 @@
-use Rattle.std.proofs.Common.{arith, []}
+use Rattle.std.proofs.Common.{arith}
 use Rattle.island_pack.specs.Registers.{laid_nibbles, register_words}
 use Rattle.island_pack.proofs.laying.column_of.Goals as goal
 

@@ -1,4 +1,4 @@
-use Rattle.std.proofs.Common.{[], arith}
+use Rattle.std.proofs.Common.{arith}
 use Rattle.island_pack.proofs.Parts.{eight_from}
 use Rattle.island_pack.proofs.Registers.{bits_of_sum}
 use Rattle.island_pack.proofs.taking.header_byte.Goals as goal

@@ -18,18 +18,22 @@ returns-in-Some-room_fault c =
     at_room mode c.args.content.now (Some c.in-Some-room_fault.fault) (sym c.mode_fault.ensures ∙ c.in_default.is) (sym (c.rows_fault.ensures ∙ ap (bad_rows mode 0) same) ∙ c.in_default-rows_fault.is)
     (sym (c.room_fault.ensures ∙ ap (no_room mode 0) same) ∙ c.in-Some-room_fault.is)
 
-pub returns-then-raster_columns-gt20000000 : goal.returns-then-raster_columns-gt20000000
-returns-then-raster_columns-gt20000000 c =
+pub returns-then-raster_columns-from : goal.returns-then-raster_columns-from
+returns-then-raster_columns-from c =
     let mode = c.args.mode.now in
+    let most = c.from.ensures in
+    let more = c.if-raster_columns-from.true in
     let same = c.frames-frames.ensures.value in
-    sym (at_long mode c.args.content.now c.raster_columns.result (c.raster_columns.ensures ∙ ap (λ (fs : List Frame). min (length fs * (total mode.across * total mode.down) + 32) (2 ^ 64 - 1)) same) c.if-raster_columns-gt20000000.true)
+    sym (at_long mode c.args.content.now c.raster_columns.result (c.raster_columns.ensures ∙ ap (λ (fs : List Frame). min (length fs * (total mode.across * total mode.down) + 32) (2 ^ 64 - 1)) same) (omega (arith, most, more)))
     ∙ at_room mode c.args.content.now None (sym c.mode_fault.ensures ∙ c.in_default.is) (sym (c.rows_fault.ensures ∙ ap (bad_rows mode 0) same) ∙ c.in_default-rows_fault.is)
     (sym (c.room_fault.ensures ∙ ap (no_room mode 0) same) ∙ c.in_default-room_fault.is)
 
 pub returns : goal.returns
 returns c =
     let mode = c.args.mode.now in
+    let most = c.from.ensures in
+    let few = c.if-raster_columns-from.false in
     let same = c.frames-frames.ensures.value in
-    sym (at_none mode c.args.content.now c.raster_columns.result (c.raster_columns.ensures ∙ ap (λ (fs : List Frame). min (length fs * (total mode.across * total mode.down) + 32) (2 ^ 64 - 1)) same) c.if-raster_columns-gt20000000.false)
+    sym (at_none mode c.args.content.now c.raster_columns.result (c.raster_columns.ensures ∙ ap (λ (fs : List Frame). min (length fs * (total mode.across * total mode.down) + 32) (2 ^ 64 - 1)) same) (omega (arith, most, few)))
     ∙ at_room mode c.args.content.now None (sym c.mode_fault.ensures ∙ c.in_default.is) (sym (c.rows_fault.ensures ∙ ap (bad_rows mode 0) same) ∙ c.in_default-rows_fault.is)
     (sym (c.room_fault.ensures ∙ ap (no_room mode 0) same) ∙ c.in_default-room_fault.is)

@@ -6,7 +6,7 @@ use Rattle.period_grammar.specs.After.{last}
 use Rattle.period_grammar.specs.Seen.{Seen}
 use Rattle.period_grammar.specs.Stands.{HearingRepresents, IsStretchAfter}
 use Rattle.period_grammar.specs.declared.phase.Phase.{Phase}
-use Rattle.period_grammar.proofs.Going.{first_stays, island_stays, noise_stays}
+use Rattle.period_grammar.proofs.Going.{first_stays, noise_stays}
 use Rattle.period_grammar.proofs.Many.{Went, none_went}
 use Rattle.period_grammar.proofs.hearing.Hearing.hear_front.Goals as goal
 
@@ -17,23 +17,6 @@ returns-in-First c =
     let went : (cs : List Column) → HearingRepresents h cs → Went h cs cols 0 = λ cs was.
     none_went h cs cols (λ d. first_stays h.control h.line h.island h.columns _ _ _ _ d (last (stretches cs))
     (subst (λ (p : Phase). IsStretchAfter p h.control h.line h.island h.columns (last (stretches cs))) (ap (λ (s : Seen). s.phase) (sym c.self.view_is) ∙ c.in-First.is) was.stretch)) was in
-    record {
-      within = omega arith;
-      count = λ cs was. (went cs was).count;
-      columns = omega arith;
-      «open» = refl;
-      notes = refl;
-      heard = λ cs was. (went cs was).stands;
-      reported = λ cs was. (went cs was).reported;
-    }
-
-pub returns-in-Island : goal.returns-in-Island
-returns-in-Island c =
-    let cols = columns_in c.args.columns in
-    let h = c.args.self.now in
-    let went : (cs : List Column) → HearingRepresents h cs → Went h cs cols 0 = λ cs was.
-    none_went h cs cols (λ d. island_stays h.control h.line h.island h.columns _ d (last (stretches cs))
-    (subst (λ (p : Phase). IsStretchAfter p h.control h.line h.island h.columns (last (stretches cs))) (ap (λ (s : Seen). s.phase) (sym c.self.view_is) ∙ c.in-Island.is) was.stretch)) was in
     record {
       within = omega arith;
       count = λ cs was. (went cs was).count;

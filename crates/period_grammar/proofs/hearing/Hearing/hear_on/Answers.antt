@@ -1,4 +1,4 @@
-use Rattle.std.proofs.Common.{arith, ◌+◌, false, [], refl, sym, subst, ◌∙◌, append-nil}
+use Rattle.std.proofs.Common.{arith, ◌+◌, false, [], ◌∷◌, refl, sym, subst, ◌∙◌, append-nil}
 use Rattle.tmds_word.specs.Column.{column_of}
 use Rattle.period_grammar.specs.Seen.{Seen}
 use Rattle.period_grammar.specs.Stands.{HearingRepresents, IsStretchAfter, going_on}
@@ -9,6 +9,7 @@ use Rattle.period_grammar.specs.Heard.{heard_so_far}
 use Rattle.period_grammar.specs.declared.phase.Phase.{Phase}
 use Rattle.period_grammar.proofs.Phases.{on_video, video_stands}
 use Rattle.period_grammar.proofs.Going.{whole_going, is_column, tells_no_word, still_control, closes_nothing, control_goes}
+use Rattle.period_grammar.proofs.InPacket.{one_in_island, island_went}
 use Rattle.period_grammar.proofs.Hearings.{start_of, reported_control, reported_other, stands_control, stands_other}
 use Rattle.period_grammar.proofs.hearing.Hearing.hear_on.Goals as goal
 
@@ -54,3 +55,25 @@ returns-else-not-goes_on-clause-count c cs was = grind (arith, still_control, go
 
 pub returns-in-First : goal.returns-in-First
 returns-in-First c = grind arith
+
+pub returns-else-not-hear_on-clause-heard : goal.returns-else-not-hear_on-clause-heard
+returns-else-not-hear_on-clause-heard c cs was =
+    let h = c.self.inside in
+    let d = column_of c.args.column.now in
+    let was_seen : Seen = record { columns = h.columns; phase = h.phase; control = h.control; line = h.line; island = h.island; notes = h.notes; finished = h.finished } in
+    let now_seen : Seen = record { columns = h.columns + 1; phase = h.phase; control = h.control; line = h.line; island = c.hear_on.new.self; notes = h.notes; finished = h.finished } in
+    let w = subst (λ (s : Seen). HearingRepresents s cs) (sym c.self.view_is) was in
+    (island_went was_seen now_seen cs (d ∷ []) 1 c.in-Island.start c.in-Island.is c.in-Island.is refl refl (omega arith)
+    (λ rest r. one_in_island rest d (sym c.is_control_column-in-Island.ensures ∙ c.if-is_control_column-2.false) (sym c.if-not-hear_on.false ∙ c.hear_on.ensures.count rest r))
+    (λ rest r. c.if-not-hear_on.ensures.heard rest r) w).stands
+
+pub returns-else-not-hear_on-clause-reported : goal.returns-else-not-hear_on-clause-reported
+returns-else-not-hear_on-clause-reported c cs was =
+    let h = c.self.inside in
+    let d = column_of c.args.column.now in
+    let was_seen : Seen = record { columns = h.columns; phase = h.phase; control = h.control; line = h.line; island = h.island; notes = h.notes; finished = h.finished } in
+    let now_seen : Seen = record { columns = h.columns + 1; phase = h.phase; control = h.control; line = h.line; island = c.hear_on.new.self; notes = h.notes; finished = h.finished } in
+    let w = subst (λ (s : Seen). HearingRepresents s cs) (sym c.self.view_is) was in
+    (island_went was_seen now_seen cs (d ∷ []) 1 c.in-Island.start c.in-Island.is c.in-Island.is refl refl (omega arith)
+    (λ rest r. one_in_island rest d (sym c.is_control_column-in-Island.ensures ∙ c.if-is_control_column-2.false) (sym c.if-not-hear_on.false ∙ c.hear_on.ensures.count rest r))
+    (λ rest r. c.if-not-hear_on.ensures.heard rest r) w).reported

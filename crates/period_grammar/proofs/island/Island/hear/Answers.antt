@@ -1,4 +1,4 @@
-use Rattle.std.proofs.Common.{ap, refl, sym, subst, ◌∙◌, ℕ, nat_le, ◌+◌, ◌*◌, arith, ◌<◌}
+use Rattle.std.proofs.Common.{ap, refl, sym, subst, ◌∙◌, ℕ, ◌+◌, ◌*◌, arith, ◌<◌}
 use Rattle.std.proofs.lemmas.Grind.{common_steps}
 use Rattle.tmds_word.specs.Column.{column_of}
 use Rattle.period_grammar.specs.Island.{payload}
@@ -42,23 +42,23 @@ returns-else-self-eq31-clause-heard c rest was =
     let pos : 0 < c.args.self.now.within = omega arith in
     after_rest _ rest (column_of c.args.column.now) (subst (λ (l : Left). IsPartsAfter l c.args.self.now.packets (c.args.self.now.within + 1) c.put_column.new.block (after_payload (column_of c.args.column.now) (payload rest))) (sym c.in-Packet.is) (within_stands c.args.self.now.packets c.args.self.now.within c.args.self.now.block c.put_column.new.block (column_of c.args.column.now) (payload rest) (subst (λ (l : Left). IsPartsAfter l c.args.self.now.packets c.args.self.now.within c.args.self.now.block (payload rest)) c.in-Packet.is was.stands) pos lt c.put_column.ensures.put))
 
-pub returns-then-at_least-clause-reported : goal.returns-then-at_least-clause-reported
-returns-then-at_least-clause-reported c rest bytes was =
+pub returns-then-is_closed_by-clause-reported : goal.returns-then-is_closed_by-clause-reported
+returns-then-is_closed_by-clause-reported c rest bytes was =
     closing_reported c.args.self.now.packets c.args.start c.args.self.now.within ((c.args.start + 2) + 32 * c.args.self.now.packets) _ _ _ c.args.self.now.block (column_of c.args.column.now) _ (payload rest) (subst (λ (l : Left). IsPartsAfter l c.args.self.now.packets c.args.self.now.within c.args.self.now.block (payload rest)) c.in-First.is was.stands)
-    (ap (λ n. nat_le 3 (c.in-First.words + n)) (sym c.closing_guard_words.ensures.count) ∙ sym c.at_least.ensures ∙ c.if-at_least.true) refl
+    (sym c.is_closed_by.ensures ∙ c.if-is_closed_by.true) refl
     (λ g e f. c.tell_close.ensures.reported (lent bytes c.args.self.now.whole) g e f)
 
-pub returns-then-at_least-clause-heard : goal.returns-then-at_least-clause-heard
-returns-then-at_least-clause-heard c rest was =
-    after_rest _ rest (column_of c.args.column.now) (closing_stands c.args.self.now.packets c.args.self.now.within _ _ _ c.args.self.now.block c.args.self.now.block (column_of c.args.column.now) (payload rest) (subst (λ (l : Left). IsPartsAfter l c.args.self.now.packets c.args.self.now.within c.args.self.now.block (payload rest)) c.in-First.is was.stands) (ap (λ n. nat_le 3 (c.in-First.words + n)) (sym c.closing_guard_words.ensures.count) ∙ sym c.at_least.ensures ∙ c.if-at_least.true))
+pub returns-then-is_closed_by-clause-heard : goal.returns-then-is_closed_by-clause-heard
+returns-then-is_closed_by-clause-heard c rest was =
+    after_rest _ rest (column_of c.args.column.now) (closing_stands c.args.self.now.packets c.args.self.now.within _ _ _ c.args.self.now.block c.args.self.now.block (column_of c.args.column.now) (payload rest) (subst (λ (l : Left). IsPartsAfter l c.args.self.now.packets c.args.self.now.within c.args.self.now.block (payload rest)) c.in-First.is was.stands) (sym c.is_closed_by.ensures ∙ c.if-is_closed_by.true))
 
-pub returns-else-at_least-clause-reported : goal.returns-else-at_least-clause-reported
-returns-else-at_least-clause-reported c rest bytes was =
-    no_notes _ _ c.requires.room ∙ second_reported c.args.self.now.packets c.args.start c.args.self.now.within _ _ _ c.args.self.now.block (column_of c.args.column.now) (payload rest) (subst (λ (l : Left). IsPartsAfter l c.args.self.now.packets c.args.self.now.within c.args.self.now.block (payload rest)) c.in-First.is was.stands) (ap (λ n. nat_le 3 (c.in-First.words + n)) (sym c.closing_guard_words.ensures.count) ∙ sym c.at_least.ensures ∙ c.if-at_least.false)
+pub returns-else-is_closed_by-clause-reported : goal.returns-else-is_closed_by-clause-reported
+returns-else-is_closed_by-clause-reported c rest bytes was =
+    no_notes _ _ c.requires.room ∙ second_reported c.args.self.now.packets c.args.start c.args.self.now.within _ _ _ c.args.self.now.block (column_of c.args.column.now) (payload rest) (subst (λ (l : Left). IsPartsAfter l c.args.self.now.packets c.args.self.now.within c.args.self.now.block (payload rest)) c.in-First.is was.stands) (sym c.is_closed_by.ensures ∙ c.if-is_closed_by.false)
 
-pub returns-else-at_least-clause-heard : goal.returns-else-at_least-clause-heard
-returns-else-at_least-clause-heard c rest was =
-    after_rest _ rest (column_of c.args.column.now) (second_stands c.args.self.now.packets c.args.self.now.within _ _ _ c.args.self.now.block _ (column_of c.args.column.now) (payload rest) (subst (λ (l : Left). IsPartsAfter l c.args.self.now.packets c.args.self.now.within c.args.self.now.block (payload rest)) c.in-First.is was.stands) (ap (λ n. nat_le 3 (c.in-First.words + n)) (sym c.closing_guard_words.ensures.count) ∙ sym c.at_least.ensures ∙ c.if-at_least.false) c.put_column-in-First.ensures.put)
+pub returns-else-is_closed_by-clause-heard : goal.returns-else-is_closed_by-clause-heard
+returns-else-is_closed_by-clause-heard c rest was =
+    after_rest _ rest (column_of c.args.column.now) (second_stands c.args.self.now.packets c.args.self.now.within _ _ _ c.args.self.now.block _ (column_of c.args.column.now) (payload rest) (subst (λ (l : Left). IsPartsAfter l c.args.self.now.packets c.args.self.now.within c.args.self.now.block (payload rest)) c.in-First.is was.stands) (sym c.is_closed_by.ensures ∙ c.if-is_closed_by.false) c.put_column-in-First.ensures.put)
 
 pub returns-in-Closed-clause-reported : goal.returns-in-Closed-clause-reported
 returns-in-Closed-clause-reported c rest bytes was =

@@ -1,6 +1,7 @@
 use Rattle.std.proofs.Common.{◌≤◌, ◌∙◌, sym, refl, arith, None}
 use Rattle.std.proofs.lemmas.Bool.{ltb-true, ltb-false}
 use Rattle.island_pack.specs.Periods.{period_columns}
+use Rattle.island_pack.specs.declared.ranges.TheConstants.{COLUMN_LIMIT}
 use Rattle.relay.specs.Relayed.{a_line, ended}
 use Rattle.relay.specs.Sizes.{size}
 use Rattle.relay.specs.Standing.{IsAt}
@@ -49,5 +50,5 @@ returns-clause-steps c t b good h =
     let settled = c.in_ok-settle.ensures.settled t None good at in
     let mid = c.settle.new.self in
     let now : Relay = record { whole = c.row.new.self; period = mid.period; period_columns = mid.period_columns; columns = c.saturating_add-self.result; island = mid.island; faulty = mid.faulty; trouble = mid.trouble; faults = mid.faults } in
-    let few : size (ended t d) ≤ 20000000 = omega arith in
+    let few : size (ended t d) ≤ COLUMN_LIMIT = omega arith in
     (at_ended old mid now t d good c.line_columns-columns.result (omega arith) settled at.faulty at.island few (c.in_ok-row.ensures _ settled.whole) refl refl c.saturating_add-self.ensures refl refl, tt)

@@ -1,6 +1,6 @@
 use Rattle.std.proofs.Common.{arith, ◌≡◌, ℕ, ◌+◌, ◌*◌, ◌/◌, ◌%◌, ◌<◌, ◌≤◌, ◌∙◌, ap₂, subst, sym, refl, slice_index}
 use Rattle.tmds_code.specs.Balances.{followed}
-use Rattle.tmds_code.specs.declared.following.TheConstants.{FOLLOWED}
+use Rattle.tmds_code.specs.declared.tables.following.TheConstants.{FOLLOWED}
 use Rattle.tmds_code.proofs.StepTable.{table_step, table_row}
 use Rattle.tmds_code.proofs.balance.Balance.after.Goals as goal
 

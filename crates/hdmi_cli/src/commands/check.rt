@@ -1,0 +1,38 @@
+//! The command `check`.
+ghost use Rattle.std.specs.Prelude.{ℕ, ◌≤◌, List};
+ghost use Rattle.std.specs.Io.KnownBytes.{Consumes};
+ghost use Rattle.hdmi_cli.specs.Endings.{Ends, seen};
+ghost use Rattle.command_line.specs.declared.command.Command.TheVariants.{Check};
+
+use crate::block_gate::BlockGate;
+use crate::ending::Ending;
+use crate::listing::list_capture;
+use listing_writer::CheckLister;
+use outside_io::{Sink, Source};
+use period_grammar::Hearing;
+use std::alloc::Global;
+use std::thread::Threads;
+
+/// Writes what a check of a capture lists, while it is read.
+pub(crate) fn check<R: Threads, S: Source, K: Sink, G: BlockGate>(
+    rt: &R,
+    alloc: Global,
+    input: &mut S,
+    output: &mut K,
+    gate: &G,
+) -> Ending
+    ensures ends { Ends Check result
+        (seen (S.left input.old) (S.faults input.old) (K.held output.old) (K.faults output.old))
+        (seen (S.left input.new) (S.faults input.new) (K.held output.new) (K.faults output.new)) }
+    ensures taken { (taken : List ℕ) × Consumes (S.left input.old) (S.left input.new) taken }
+    ensures input_later { S.faults input.old ≤ S.faults input.new }
+    ensures output_later { K.faults output.old ≤ K.faults output.new }
+{
+    list_capture::<R, S, Hearing, CheckLister<'_, K>, G>(
+        rt,
+        alloc,
+        input,
+        gate,
+        &mut CheckLister::open(output),
+    )
+}
