@@ -5,6 +5,7 @@ import os
 import re
 import shutil
 import subprocess
+import tomllib
 
 import pytest
 from tests.support import TOP
@@ -142,6 +143,7 @@ def test_version(front, tmp_path):
     for name in ("vabgrot", *(f"vabgrot-{name}" for name in tools())):
         assert front("--version", script=tmp_path / "prefix/bin" / name, has_kit=False) == (0, line, "")
     assert re.search(r"(?m)^## (\S+)$", (TOP / "CHANGELOG.md").read_text())[1] == "1.0.0"
+    assert tomllib.loads((TOP / "pyproject.toml").read_text())["project"]["version"] == "1.0.0"
     assert '.TH VABGROT 1 "" "Vabgrot 1.0.0"' in (TOP / "docs/vabgrot.1").read_text()
 
 
