@@ -4,8 +4,15 @@ import importlib
 import sys
 from collections.abc import Sequence
 
-NAMES = ("content", "lanes", "pictures", "report", "slice", "sound", "survey", "timing")
-PACKAGES = {"PIL": "python3-pil", "jinja2": "python3-jinja2", "numpy": "python3-numpy", "tqdm": "python3-tqdm"}  # of Debian
+NAMES = ("characters", "compare", "conform", "content", "errors", "lanes", "pictures", "report", "slice", "sound", "survey", "timing")
+PACKAGES = {  # of Debian
+    "PIL": "python3-pil",
+    "jinja2": "python3-jinja2",
+    "numpy": "python3-numpy",
+    "scipy": "python3-scipy",
+    "skimage": "python3-skimage",
+    "tqdm": "python3-tqdm",
+}
 
 
 def start(name: str, argv: Sequence[str] | None = None) -> int:
