@@ -215,3 +215,30 @@ def test_the_decoders_of_the_source(program, core, decoded):
     """What one core sends the other one reads."""
     rows = decoded(core().read_bytes(), "icarus")
     assert rows == [f"v {row(frame, down)}" for frame in range(FRAMES) for down in range(HEIGHT)]
+
+
+NAMED = (  # a bug, the tool that names it, its words, and a part of what it says
+    ("BIT_ORDER", "characters", (), "alike: the highest bit of each character is sent first: 186 of 186 openings"),
+    ("DISPARITY", "characters", (), "alike: the right bytes at another disparity: the coder does not start at 0 after blanking"),
+    ("GUARD", "characters", (), "alike: no guard band before a row, else right (24 of 24 looked at)"),
+    ("PREAMBLE", "characters", (), "alike: a preamble of 6 columns before a row, wants 8 (24 of 24 looked at)"),
+    ("PARITY", "characters", (), "alike: the parity in reverse: its highest bit is sent first"),
+    ("LANES", "characters", (), "alike: lanes 0 and 2 exchanged: 186 of 186 openings are right then"),
+    ("CHECKSUM", "conform", (), "AVI InfoFrame: its bytes sum to 82, and checksum d9 wants 57: the type was left out of it"),
+    ("PORCH", "conform", (), "H front porch 18, wants 16 (VIC 1)"),
+)
+
+
+@pytest.mark.parametrize("bug, name, words, says", NAMED, ids=[bug for bug, *_ in NAMED])
+def test_each_bug_is_named(tool, program, core, bug, name, words, says):
+    """In words, whoever's mistake it is."""
+    status = 0 if bug == "PORCH" else 1
+    assert says in tool(name, core(bug), *words, status=status).stdout.decode()
+
+
+def test_the_right_source_breaks_no_rule(tool, program, core):
+    """Nor does one of DVI have a fault; a clock makes the rules of sound judged."""
+    said = tool("conform", core(), "--clock", 25_200_000).stdout.decode()
+    assert "FAIL" not in said and "pass        sample rate " in said and said.endswith(" 0 fail, 7 are not judged\n")
+    tool("characters", core(dvi="1"), "--dvi")
+    tool("errors", core(dvi="1"), "--dvi")

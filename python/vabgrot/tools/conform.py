@@ -11,15 +11,18 @@ from tqdm import tqdm
 
 from vabgrot import command, link, listing, place, program
 from vabgrot.errors import Refused
+from vabgrot.judging.diagnosis import causes_of
 from vabgrot.judging.judge import verdicts
 from vabgrot.judging.record import Gatherer, Record
 from vabgrot.judging.verdicts import FAIL, OPEN, PASS, Verdict
+from vabgrot.lanes.columns import Columns
 from vabgrot.replacing import replacing
 from vabgrot.tools.timing import positive
 from vabgrot.video.matching import Rate
 
 TEXT = """Holds a capture of HDMI against the rules of HDMI 1.4, CTA-861 and IEC 60958, and writes a line for each: pass, fail or
-not judged, what was found, of a failure the first column, and the clause that asks it. Not judged is what a capture cannot show:
+not judged, what was found, of a failure the first column, and the clause that asks it; then, where faults are alike, what makes
+them so. Not judged is what a capture cannot show:
 it is too short, has no sound, or its pixel clock is not known. The pixel clock is the one that is given, or that of the format
 that the raster is. `tools/characters` shows what stands at a column."""
 FAULTY = "done, and a rule is broken"
@@ -92,11 +95,12 @@ def work(argv: Sequence[str] | None) -> int:
     if args.junit:
         write_junit(args.junit, args.capture, found)
     faulty = any(one.state == FAIL for one in found)
+    causes = causes_of(args.capture, record.spans, Columns(args.capture)) if record.spans.faults else []
     if args.json:
         said = {"capture": str(args.capture), "faulty": faulty, "columns": record.columns}
-        print(json.dumps(said | {"rules": [one.plain() for one in found]}, indent=1))
+        print(json.dumps(said | {"rules": [one.plain() for one in found], "alike": causes}, indent=1))
     else:
-        print("\n".join([*map(line_of, found), total_of(found)]))
+        print("\n".join([*map(line_of, found), *(f"alike: {cause}" for cause in causes), total_of(found)]))
     return command.FAULTY if faulty else command.DONE
 
 
