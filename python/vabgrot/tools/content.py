@@ -11,13 +11,15 @@ from vabgrot import command, listing, pcm
 from vabgrot.errors import Refused
 from vabgrot.formats.audio import BLOCK, RATES
 from vabgrot.formats.modes import CUSTOM_CLOCK, VICS, Mode, Timing
+from vabgrot.video import patterns
 
 TEXT = """Writes the content listing of one frame an image to standard output, for `vabgrot make content`. Each frame
 has its AVI InfoFrame; with a sound it has the audio InfoFrame, a clock packet and as many samples as the rate asks
 for, with their channel status. A capture that begins within a frame shows the pictures from the next one on: give an
-image twice to see it come back."""
+image twice to see it come back. In place of files test patterns and a tone may be given."""
 EXAMPLES = """tools/content docs/sent.png docs/sent.png > sent.content
-./vabgrot make content < sent.content > sent.tmc"""
+./vabgrot make content < sent.content > sent.tmc
+tools/content pattern:bars pattern:moving*2 --vic 1 --sound tone:1000 | ./vabgrot make content > bars.tmc"""
 ASPECTS = {"4:3": 1, "16:9": 2, "": 0}
 LEAST, MOST_LENGTH = {3: 14}, 4096  # of the numbers of a mode; the back porch across has a data island in it
 DEEP = ("I;16", "I;16B", "I;16L", "I")  # grey of 16 bits a pixel
@@ -143,7 +145,8 @@ def write_frames(args, vic, timing, clock, sound):
 
 def work(argv):
     parser = command.parser("content", TEXT, examples=EXAMPLES)
-    parser.add_argument("images", nargs="+", metavar="IMAGE", help="a picture file, one a frame")
+    text = f"a picture file, one a frame; or pattern:NAME[*N], N frames of a test pattern: {', '.join(patterns.PATTERNS)}"
+    parser.add_argument("images", nargs="+", metavar="IMAGE", help=text)
     mode = parser.add_mutually_exclusive_group()
     text = "a video identification code: %(choices)s; if left out, the first of the first image's size"
     mode.add_argument("--vic", type=int, choices=sorted(VICS), metavar="V", help=text)
@@ -155,10 +158,32 @@ def work(argv):
     parser.add_argument("--clock", type=int, metavar="HZ", help=text)
     text = "what is done with an image of another size than the mode's; if left out, it is refused"
     parser.add_argument("--fit", choices=["refuse", "scale"], default="refuse", help=text)
-    parser.add_argument("--sound", metavar="FILE.wav", help="the sound: one or two channels of linear PCM")
+    parser.add_argument("--sound", metavar="FILE.wav", help="the sound: one or two channels of linear PCM; or tone:HZ[@RATE], a sine")
     args = parser.parse_args(argv)
     if args.clock is not None and args.clock < 1:
         parser.error("--clock is at least 1")
+    with patterns.as_files(args.images, pattern_size(args)) as args.images:
+        return write(args)
+
+
+def pattern_size(args):
+    """The width and height of patterns: those of the mode that is given, or of the first image that is a file."""
+    if args.mode or args.vic:
+        return (args.mode or VICS[args.vic].mode).size
+    files = [word for word in args.images if not patterns.wanted_of(word)]
+    if not files:
+        raise Refused(f"{args.images[0]}: --vic or --mode tells the size of a pattern")
+    return size_of(files[0])
+
+
+def sound_of(word, seconds):
+    """The sound of a file, or a tone of so many seconds; None where there is none."""
+    with patterns.sound_file(word, seconds) as path:
+        return pcm.read(path) if path else None
+
+
+def write(args):
+    """Writes the listing of images and sound."""
     vic, timing, clock = timing_of(args, size_of(args.images[0]))
     if args.fit == "refuse":
         refuse_unfit(args.images, timing.mode)
@@ -166,12 +191,12 @@ def work(argv):
     if columns > listing.MOST_COLUMNS:
         most = f"a listing has at most {listing.MOST_COLUMNS}"
         raise Refused(f"{len(args.images)} frames have {columns} columns, and {most}")
-    sound = pcm.read(args.sound) if args.sound else None
+    sound = sound_of(args.sound, columns / clock)
     refuse_crowded(timing.mode, clock, sound)
     print(f"vic {vic}" if vic else f"mode {' '.join(map(str, timing.mode))}")
     sent = write_frames(args, vic, timing, clock, sound)
     print("end")
-    if sound and sound.samples > sent:
+    if sound and sound.samples > sent and not args.sound.startswith(patterns.TONE):
         left = f"{sound.samples - sent} of {sound.samples} samples are left out"
         print(f"content: {left}, since the frames end before", file=sys.stderr)
     return command.DONE
