@@ -95,6 +95,10 @@ class Namer:
 
     def __init__(self, spans: Spans, columns: Columns) -> None:
         self.spans, self.columns = spans, columns
+        (runs, counts, _), packets = spans.runs, spans.packets
+        pairs = [(begins, np.full(len(begins), 2)) for begins in spans.guards]
+        self.parts = [(runs, counts), *pairs, (packets, np.full(len(packets), PACKET)), spans.rows]
+        self.told = spans.of_kind("mended")
 
     def at(self, column: int, count: int) -> list[Column]:
         """So many columns from one on, or as many as there are."""
@@ -103,11 +107,8 @@ class Namer:
 
     def column(self, column: int, words: Words) -> Column:
         """One column, by what it stands in."""
-        (runs, counts, _), (rows, widths), packets = self.spans.runs, self.spans.rows, self.spans.packets
-        pairs = [(begins, np.full(len(begins), 2)) for begins in self.spans.guards]
-        spans = [(runs, counts), *pairs, (packets, np.full(len(packets), PACKET)), (rows, widths)]
         named = (self.control, self.row_guard, self.island_guard, self.island_guard, self.packet, self.pixel)
-        for (begins, lengths), name in zip(spans, named):
+        for (begins, lengths), name in zip(self.parts, named):
             at = int(np.searchsorted(begins, column, "right")) - 1
             if at >= 0 and column < int(begins[at] + lengths[at]):
                 return name(column, words.astype(np.int64), at)
@@ -169,7 +170,7 @@ class Namer:
     def mended(self, packet: int) -> list[tuple[int, int, int]]:
         """The lane, the column and the nibble's bit of what was mended in a packet."""
         found = []
-        for at, numbers in self.spans.of_kind("mended"):
+        for at, numbers in self.told:
             if at == packet:
                 block, bit = numbers[1:3]
                 found.append((0, bit, 4) if block == 4 else (1 + bit % 2, bit // 2, 1 << block))

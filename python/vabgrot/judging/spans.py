@@ -47,6 +47,30 @@ class Spans:
             name, *numbers = thing.fields
             self.faults.append((name, at, tuple(numbers)))
 
+    def set_runs(self, at: Ints, columns: Ints, values: Ints) -> None:
+        """Takes runs of control columns that are known."""
+        self._runs = array("q", at.tobytes()), array("q", columns.tobytes()), array("q", values.tobytes())
+
+    def set_rows(self, firsts: Ints, widths: Ints) -> None:
+        """Takes rows that are known."""
+        self._rows = array("q", firsts.tobytes()), array("q", widths.tobytes())
+
+    def set_islands(self, packets: Ints, opens: Ints, closes: Ints) -> None:
+        """Takes packets and guards of islands that are known."""
+        self._packets, self._opens, self._closes = (array("q", one.tobytes()) for one in (packets, opens, closes))
+
+    def before(self, column: int) -> Spans:
+        """The spans that begin before a column."""
+        found = Spans(self.is_dvi)
+        at, counts, values = self.runs
+        firsts, widths = self.rows
+        found.set_runs(*(one[at < column] for one in (at, counts, values)))
+        found.set_rows(*(one[firsts < column] for one in (firsts, widths)))
+        found.set_islands(*(one[one < column] for one in (self.packets, *self.guards[1:])))
+        found.faults = [fault for fault in self.faults if fault[1] < column]
+        found.columns = min(column, self.columns)
+        return found
+
     @property
     def runs(self) -> tuple[Ints, Ints, Ints]:
         """Runs of control columns: first columns, numbers of columns, values."""

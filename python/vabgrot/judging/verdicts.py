@@ -2,6 +2,7 @@
 
 from __future__ import annotations
 
+from collections import Counter
 from dataclasses import dataclass
 from functools import cached_property
 from typing import Any
@@ -135,6 +136,12 @@ class Case:
             else:
                 found.append(span)
         return found, doubtful
+
+
+def total_of(found: list[Verdict]) -> str:
+    """How many rules are kept and how many are not, in words."""
+    counts = Counter(one.state for one in found)
+    return f"{counts[PASS]} pass, {counts[FAIL]} fail, {counts[OPEN]} are not judged"
 
 
 def is_seen(timing: Timing) -> bool:

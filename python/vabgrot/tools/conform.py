@@ -3,7 +3,6 @@
 from __future__ import annotations
 
 import json
-from collections import Counter
 from collections.abc import Sequence
 from pathlib import Path
 
@@ -14,7 +13,7 @@ from vabgrot.errors import Refused
 from vabgrot.judging.diagnosis import causes_of
 from vabgrot.judging.judge import verdicts
 from vabgrot.judging.record import Gatherer, Record
-from vabgrot.judging.verdicts import FAIL, OPEN, PASS, Verdict
+from vabgrot.judging.verdicts import FAIL, OPEN, PASS, Verdict, total_of
 from vabgrot.lanes.columns import Columns
 from vabgrot.replacing import replacing
 from vabgrot.tools.timing import positive
@@ -50,12 +49,6 @@ def line_of(one: Verdict) -> str:
     """A verdict as a line of text."""
     where = f" (first at column {one.column:,})" if one.column is not None else ""
     return f"{MARKS[one.state]:<10}  {one.rule.name:<24}  {one.words}{where}  [{one.rule.clause}]"
-
-
-def total_of(found: list[Verdict]) -> str:
-    """How many rules are kept and how many are not, in words."""
-    counts = Counter(one.state for one in found)
-    return f"{counts[PASS]} pass, {counts[FAIL]} fail, {counts[OPEN]} are not judged"
 
 
 def write_junit(path: Path, capture: Path, found: list[Verdict]) -> None:

@@ -21,9 +21,11 @@ from vabgrot.formats.modes import VICS
 from vabgrot.lanes import openings
 from vabgrot.replacing import replacing
 from vabgrot.report import bursts
+from vabgrot.report import judged
 from vabgrot.report.album import Album
 from vabgrot.report.findings import Findings
 from vabgrot.video.matching import SIZES, Rate, change_note, timings
+from vabgrot.judging.verdicts import total_of
 from vabgrot.video.timings import PARTS
 
 TEXT = """Writes a page that shows what a capture carried: the verdict, the video timing as `tools/timing` has it, each
@@ -407,10 +409,14 @@ def advice_of(path, words, found, run):
 
 def page_of(path, words, found, album, run, bits, clock):
     """The page's text."""
+    record = judged.record_of(found)
+    characters = judged.Characters(path, found, record)
+    rules = judged.rules_of(record, clock) if words[1] != "dvi" and found.columns else []
+    found.faults["characters"] = characters.at_faults()
     sound = sound_of(found, clock)
-    sections = [("timing", "Timing")] * bool(found.rows) + [("pictures", "Pictures"), ("timeline", "Timeline"), ("faults", "Faults"), ("packets", "Packets")]
+    sections = [("timing", "Timing")] * bool(found.rows) + [("rules", "Rules")] * bool(rules) + [("pictures", "Pictures"), ("timeline", "Timeline"), ("faults", "Faults"), ("packets", "Packets")]
     sections += [("sound", "Sound")] * bool(sound) + [("listing", "Listing")]
-    advice = advice_of(path, words, found, run)
+    advice = (*advice_of(path, words, found, run), *characters.causes())
     slips = slips_of(found, bits)
     measured = timings(found.meter, Rate(clock))
     whole = "whole" if found.text.is_whole else "with the first pixels of each row"
@@ -424,6 +430,8 @@ def page_of(path, words, found, album, run, bits, clock):
             sections=([("advice", "What to look at")] if advice else []) + (sections if found.columns else []),
             counts=counts_of(found, bits, path.stat().st_size, slips),
             parts=PARTS,
+            rules=rules,
+            rules_say=total_of(rules),
             timings=measured[:SIZES],
             change=change_note(measured),
             notes=notes_of(found, words, album) if found.columns else [],

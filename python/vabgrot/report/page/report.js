@@ -589,6 +589,7 @@ async function start() {
   data = await unpacked(by("data").textContent);
   if (data.columns) {
     startTime();
+    startRules();
     startFaults();
     startPackets();
     startListing();

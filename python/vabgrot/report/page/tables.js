@@ -128,7 +128,7 @@ function foldedFaults() {
 }
 
 function faultTable(caption, rows) {
-  return table(caption, ["fault", "column", "picture", "listing"], rows.map((row) => (row.faults ? burstCells(row) : faultCells(row))));
+  return table(caption, ["fault", "column", "picture", "listing", "characters"], rows.map((row) => (row.faults ? burstCells(row) : faultCells(row))));
 }
 
 function columnButton(at) {
@@ -137,7 +137,8 @@ function columnButton(at) {
 }
 
 function faultCells(fault) {
-  return [faultText(fault), columnButton(data.faults.at[fault]), faultPlace(fault), lineLink(data.faults.line[fault])];
+  const characters = made("td", { className: "digits" }, data.faults.characters[fault]);
+  return [faultText(fault), columnButton(data.faults.at[fault]), faultPlace(fault), lineLink(data.faults.line[fault]), characters];
 }
 
 /* A burst in a row, under which its faults are folded; they are drawn when they are first opened. */
@@ -148,7 +149,30 @@ function burstCells(burst) {
     const paged = new Paged(details, "the burst", 20, (faults) => faultTable("The faults of the burst", faults));
     paged.set(burst.faults);
   }, { once: true });
-  return [made("td", {}, details), columnButton(burst.at), "", lineLink(data.faults.line[burst.faults[0]])];
+  return [made("td", {}, details), columnButton(burst.at), "", lineLink(data.faults.line[burst.faults[0]]), ""];
+}
+
+/* The rules: those of a verdict, or with a text, and the columns as places of the timeline. */
+function startRules() {
+  const place = by("rule-table");
+  if (!place) return;
+  const rows = [...place.querySelectorAll("tbody tr")];
+  const wanted = { verdict: "", text: "" };
+  const fill = () => {
+    for (const row of rows) {
+      const isWanted = (!wanted.verdict || row.dataset.verdict === wanted.verdict) && row.textContent.toLowerCase().includes(wanted.text);
+      row.hidden = !isWanted;
+    }
+  };
+  const verdicts = [["", "all"], ...["fail", "not judged", "pass"].map((one) => [one, one])];
+  const [label] = choice("verdict", verdicts, (value) => { wanted.verdict = value; fill(); });
+  const input = made("input", { type: "search", oninput: () => { wanted.text = input.value.trim().toLowerCase(); fill(); } });
+  const bar = made("div", { className: "bar", role: "group" }, label, made("label", {}, "text ", input));
+  bar.setAttribute("aria-label", "Which rules");
+  place.prepend(bar);
+  for (const button of place.querySelectorAll("button[data-column]")) {
+    button.onclick = () => { pointTo(Number(button.dataset.column)); by("timeline").scrollIntoView(); by("time").focus({ preventScroll: true }); };
+  }
 }
 
 function startFaults() {
