@@ -211,8 +211,9 @@ FORMS = {
 def of_lanes(path: Path) -> list[str]:
     """What is exchanged, inverted or turned round of the lanes of a capture, in words; nothing where they are right or nothing can be
     told."""
-    looked = [looking.looked(bits) for bits in beginnings(path, LOOKED)]
-    if any(ends is None for _, ends in looked):
+    found_of = [looking.looked(bits) for bits in beginnings(path, LOOKED)]
+    looked = [one for one in found_of if one is not None]
+    if len(looked) < len(found_of):
         return []
     rows = looking.openings([ends for _, ends in looked])
     if not rows.shape[1]:

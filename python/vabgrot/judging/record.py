@@ -75,20 +75,20 @@ class Gatherer:
 
     def take(self, thing: link.Thing) -> None:
         """The next thing of the listing."""
-        if self.pending is not None and not (thing.kind == "fault" and thing.fields[0] in OF_PACKET):
+        if self.pending is not None and thing.fault not in OF_PACKET:
             self.settle()
         self.meter.take(thing)
         self.spans.take(thing)
         if thing.kind == "packet":
             self.pending, self.is_lost = thing, False
         elif thing.kind == "fault":
-            self.is_lost |= thing.fields[0] == "lost"
+            self.is_lost |= thing.fault == "lost"
 
     def settle(self) -> None:
         """Keeps the last packet, now that all is said of it."""
         thing, self.pending = self.pending, None
         if thing is not None:
-            self.packets.append(Heard(thing.at, packets.packet_of(thing.fields, thing.line), not self.is_lost))
+            self.packets.append(Heard(thing.at, packets.packet_of(thing.texts, thing.line), not self.is_lost))
 
     def finish(self) -> Record:
         """The record, once no more lines come."""

@@ -31,10 +31,10 @@ class Spans:
         kind, at = thing.kind, thing.at
         self.columns = max(self.columns, at + thing.columns)
         if kind == "control":
-            for column, value in zip(self._runs, (at, thing.columns, thing.fields[0])):
+            for column, value in zip(self._runs, (at, thing.columns, thing.value)):
                 column.append(value)
         elif kind == "video":
-            pixels = len(thing.fields[0]) // 6
+            pixels = thing.pixels
             self._rows[0].append(at + thing.columns - pixels)
             self._rows[1].append(pixels)
         elif kind == "packet":
@@ -44,8 +44,7 @@ class Spans:
         elif kind == "close":
             self._closes.append(at)
         elif kind == "fault":
-            name, *numbers = thing.fields
-            self.faults.append((name, at, tuple(numbers)))
+            self.faults.append((thing.fault, at, thing.numbers))
 
     def set_runs(self, at: Ints, columns: Ints, values: Ints) -> None:
         """Takes runs of control columns that are known."""

@@ -167,8 +167,8 @@ def every_two(case: Case, name: str, what: str, places: list[int], among: list[S
         return unjudged(name, f"no two whole fields were seen; {counted(len(places), what)} came")
     found, doubtful = case.without(places, pairs)
     if found:
-        words = f"none in {len(found):,} of {len(pairs):,} pairs of fields; {counted(len(places), what)} in all"
+        words = f"none in {len(found):,} of {counted(len(pairs), 'pair')} of fields; {counted(len(places), what)} in all"
         return failed(name, words, found[0].begin, len(found))
     if doubtful:
-        return unjudged(name, f"{doubtful:,} of {len(pairs):,} pairs of fields have none, but a packet that was lost")
-    return passed(name, f"{counted(len(places), what)}, and one in each of {len(pairs):,} pairs of fields")
+        return unjudged(name, f"{doubtful:,} of {counted(len(pairs), 'pair')} of fields have none, but a packet that was lost")
+    return passed(name, f"{counted(len(places), what)}, and one in each of {counted(len(pairs), 'pair')} of fields")

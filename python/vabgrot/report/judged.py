@@ -3,6 +3,7 @@
 from __future__ import annotations
 
 from pathlib import Path
+from typing import Any
 
 import numpy as np
 
@@ -22,10 +23,11 @@ OF_COLUMN = frozenset(("guard", "noise", "symbols", "mended"))
 BEFORE = 8  # columns of a preamble
 
 
-def record_of(found: Findings) -> Record:
+def record_of(found: Findings[Any]) -> Record:
     """What was found, as it is judged."""
     spans, periods = Spans(), found.periods
-    kinds, at, columns, values = (np.array(periods[name], np.int64) for name in ("kind", "at", "columns", "value"))
+    lists = periods["kind"], periods["at"], periods["columns"], periods["value"]
+    kinds, at, columns, values = (np.array(one, np.int64) for one in lists)
     control, video, packet, opens, closes = (
         np.flatnonzero(kinds == PERIODS.index(kind)) for kind in ("control", "video", "packet", "open", "close")
     )
@@ -48,7 +50,7 @@ def rules_of(record: Record, clock: float | None) -> list[Verdict]:
 class Characters:
     """The characters at the faults of a capture, up to its first slip: behind that columns begin elsewhere."""
 
-    def __init__(self, path: Path, found: Findings, record: Record) -> None:
+    def __init__(self, path: Path, found: Findings[Any], record: Record) -> None:
         self.path, self.found = path, found
         self.end = found.epochs[1].at if len(found.epochs) > 1 else record.columns
         self.spans = record.spans.before(self.end)

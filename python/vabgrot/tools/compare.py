@@ -121,9 +121,9 @@ class Verdict:
 def frame_lines(pair: Pair, one: Compared | None, mine: Carried, other: Carried, is_difference: bool) -> Iterator[str]:
     """What is said of a pair of frames."""
     if None in pair:
-        side, number, its = ("A", pair.mine, "B") if pair.other is None else ("B", pair.other, "A")
+        side, number, another = ("A", pair.mine, "B") if pair.other is None else ("B", pair.other, "A")
         why = "" if is_difference else f" ({side} begins earlier or ends later)"
-        yield f"frame {number} of {side}: no frame of {its} is like it{why}"
+        yield f"frame {number} of {side}: no frame of {another} is like it{why}"
         return
     head = f"frame {pair.mine} of A, frame {pair.other} of B: "
     if one is None:

@@ -38,7 +38,8 @@ def ramp(width: int, height: int, _: int) -> Picture:
     """Four bands, grey, red, green and blue, that rise from 0 to 255 across."""
     level = np.linspace(0, 255, width).round().astype(np.uint8)
     band = np.array(BANDS, np.uint8)[np.arange(height) * len(BANDS) // height]
-    return level[None, :, None] * band[:, None, :]
+    picture: Picture = level[None, :, None] * band[:, None, :]
+    return picture
 
 
 def zone(width: int, height: int, _: int) -> Picture:
