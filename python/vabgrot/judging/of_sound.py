@@ -2,11 +2,13 @@
 
 from __future__ import annotations
 
+from bisect import bisect_right
 from collections import Counter
 from collections.abc import Iterator
 from dataclasses import dataclass, field
 
 import numpy as np
+import numpy.typing as npt
 
 from vabgrot import packets
 from vabgrot.formats.audio import BLOCK, RATES
@@ -14,10 +16,10 @@ from vabgrot.judging.of_packets import AUDIO, CLOCK, SAMPLES, first_of, wrong_of
 from vabgrot.judging.record import Heard
 from vabgrot.judging.verdicts import Case, Span, Verdict, counted, every_two, failed, passed, unjudged
 
-LAYOUT = 0x10  # of a sample packet's second byte: more than two channels
 MOST_RATE, LEAST_RATE = 1500, 300  # Hz: of 128 fs / N
 STEADY = 0.002  # the part by which a measured rate may be off
 NOT_SOUND = "no sample was received"
+ONES = np.array([byte.bit_count() for byte in range(256)], np.int64)  # of a byte
 
 
 @dataclass
@@ -39,37 +41,40 @@ class Sound:
 
 def sound_of(case: Case) -> Sound:
     """The samples of a capture."""
-    found, number, bits = Sound(), 0, ([], [])  # type: tuple[Sound, int, tuple[list[int], list[int]]]
-    for one in case.record.packets:
-        if not one.is_whole:
-            found.breaks.append(number)
-            bits = ([], [])
-            continue
-        if one.packet.kind != SAMPLES:
-            continue
-        layout = one.packet.header[1] >> 4 & 1
-        found.layouts[layout] += 1
-        content = packets.samples(one.packet)
-        if layout:
-            found.places.append(one.at)
-            found.counts.append(1 if one.packet.header[1] & 15 else 0)
-            continue
-        uneven = [side for sample in content.samples for side in sample.uneven()]
-        if uneven:
-            found.uneven.append((one, f"odd parity on {counted(len(uneven), 'side')}"))
-        for place, sample in enumerate(content.samples):
-            if sample.start:
-                found.starts.append((one.at, number + place))
-                bits = ([], [])
-            if sample.start or bits[0]:
-                bits[0].append(sample.left_flags >> 2 & 1)
-                bits[1].append(sample.right_flags >> 2 & 1)
-                if len(bits[0]) == BLOCK:
-                    found.status[tuple(bits[0]), tuple(bits[1])] += 1
-                    bits = ([], [])
-        number += len(content.samples)
-        found.places.append(one.at)
-        found.counts.append(len(content.samples))
+    heard = [one for one in case.whole if one.packet.kind == SAMPLES]
+    found = Sound([one.at for one in heard])
+    if not heard:
+        return found
+    headers = np.frombuffer(b"".join(one.packet.header for one in heard), np.uint8).reshape(-1, 3)
+    bodies = np.frombuffer(b"".join(one.packet.bytes for one in heard), np.uint8).reshape(-1, 4, 7)
+    layout = headers[:, 1] >> 4 & 1
+    present = (headers[:, 1, None] >> np.arange(4) & 1).astype(bool)
+    found.layouts.update(layout.tolist())
+    found.counts = np.where(layout, present.any(axis=1), present.sum(axis=1)).tolist()
+    present &= layout[:, None] == 0
+    flags = bodies[:, :, 6]
+    for sides, bits in ((bodies[:, :, 0:3], flags & 15), (bodies[:, :, 3:6], flags >> 4)):
+        odd = (ONES[sides].sum(axis=2) + ONES[bits]) % 2 * present
+        found.uneven += [(heard[place], f"odd parity on {counted(int(odd[place].sum()), 'side')}") for place in np.flatnonzero(odd.any(axis=1))]
+    found.uneven.sort(key=lambda one: one[0].at)
+    numbers = np.cumsum(np.append(0, present.sum(axis=1)))
+    found.breaks = sorted(set(numbers[np.searchsorted(found.places, case.lost)].tolist()))
+    starts = np.flatnonzero((headers[:, 2, None] >> 4 + np.arange(4) & 1).astype(bool)[present])
+    packets_of = np.searchsorted(numbers, starts, "right") - 1
+    found.starts = [(found.places[packet], number) for packet, number in zip(packets_of.tolist(), starts.tolist())]
+    found.status = status_of(flags[present], starts.tolist(), found.breaks)
+    return found
+
+
+def status_of(flags: npt.NDArray[np.uint8], starts: list[int], breaks: list[int]) -> Counter[tuple[tuple[int, ...], ...]]:
+    """The channel status of both sides in each whole block of samples whose V, U, C and P these are, and how often it came."""
+    found: Counter[tuple[tuple[int, ...], ...]] = Counter()
+    ends = sorted({*starts, *breaks, len(flags)})
+    for start in starts:
+        end = ends[bisect_right(ends, start)] if start < len(flags) else start
+        if end - start >= BLOCK:
+            block = flags[start : start + BLOCK]
+            found[tuple((block >> 2 & 1).tolist()), tuple((block >> 6 & 1).tolist())] += 1
     return found
 
 
