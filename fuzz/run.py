@@ -4,8 +4,9 @@
     fuzz/run.py [--seconds S] [--seed N] [--program PROGRAM] [--limit S] [--keep FOLDER]
 
 Each case is a seed of some command's input (the examples, captures, listings and biphase streams that are made of them, and random
-captures and listings of some blocks) after some random changes: bits flipped, bytes and lines cut, repeated, moved and spliced, numbers changed, characters of the
-lanes replaced, lanes shifted, bits of a lane left out. It is run twice, once over a file and once over a pipe that is fed in small pieces. A finding is
+captures and listings of some blocks) after some random changes: bits flipped, bytes and lines cut, repeated, moved and spliced,
+numbers changed, characters of the lanes replaced, lanes shifted, bits of a lane left out. It is run twice, once over a file and
+once over a pipe that is fed in small pieces. A finding is
 
 - a run that a signal ends, or that takes longer than the limit (twice in a row),
 - a status that the command has not over a whole input and a sound output,
@@ -137,7 +138,8 @@ class Seeds:
         self.contents.append(CONTENT)
         island = self.listings[0].split(b"v ")[0]
         self.listings.append(island + b"v " + b"0123ab" * 700 + b"\nc 03 3000\n" + self.listings[0])
-        self.listings.append(b"c 00 12\n" + (b"c 14 8\ni 01\n" + 18 * (b"p 82020d " + 4 * b"66000800010000 " + 32 * b"1" + b"\n") + b"e 23\nc 00 12\n") * 3 + b"end\n")
+        packet = b"p 82020d " + 4 * b"66000800010000 " + 32 * b"1" + b"\n"
+        self.listings.append(b"c 00 12\n" + (b"c 14 8\ni 01\n" + 18 * packet + b"e 23\nc 00 12\n") * 3 + b"end\n")
         makes = [(["make", "link"], it) for it in self.listings] + [(["make", "content"], it) for it in self.contents]
         self.dvi = [b"c 00 12\nv ff0000\nc 00 12\nend\n", b"c 00 30\n" + (b"v " + b"0123ab" * 300 + b"\nc 02 3\nc 01 20\n") * 5 + b"end\n"]
         makes += [(["make", "dvi"], it) for it in self.dvi]
@@ -228,7 +230,8 @@ def change_text(rng, data, other):
     elif kind == 6:
         fields = lines[at].split(b" ")
         spot = rng.randrange(len(fields))
-        fields[spot : spot + 1] = rng.choice(([], [b""], [fields[spot]] * 2, [b"%x" % rng.randrange(2**24)], [fields[spot][:-1]], [b"-1"], [b"0x1"]))
+        others = ([], [b""], [fields[spot]] * 2, [b"%x" % rng.randrange(2**24)], [fields[spot][:-1]], [b"-1"], [b"0x1"])
+        fields[spot : spot + 1] = rng.choice(others)
         lines[at] = b" ".join(fields)
     else:
         lines[at] = lines[at][: rng.randrange(len(lines[at]) + 1)] + rng.choice((b"", b" ", b"\0", b"\r", b"0" * 40_000))
@@ -347,6 +350,10 @@ def tap(rng):
     return words
 
 
+ODD_WORDS = ("--", "-", "--offset", "--offset=7", "", "link", "dvi", "check", "biphase", "track", "relay", "4")
+ODD_WORDS += ("--skew=1,2", "0:0:000", "é", "\udcff", "x" * 5000)
+
+
 def spoil(rng, words):
     """Words after one change."""
     words = words[:]
@@ -355,7 +362,7 @@ def spoil(rng, words):
     if kind == 0 and words:
         del words[at % len(words)]
     elif kind == 1:
-        words.insert(at, rng.choice(("--", "-", "--offset", "--offset=7", "", "link", "dvi", "check", "biphase", "track", "relay", "4", "--skew=1,2", "0:0:000", "é", "\udcff", "x" * 5000)))
+        words.insert(at, rng.choice(ODD_WORDS))
     elif kind == 2 and words:
         word = words[at % len(words)]
         spot = rng.randrange(len(word) + 1)
@@ -479,7 +486,8 @@ def wrong_output(name, status, output, notes):
             return "a last line without a line feed"
         if (status in (0, 1)) != (lines[-2:] == [b"end", b""]):
             return "a wrong last line"
-        if name in ("recover link", "recover track", "recover dvi") and status in (0, 1) and (status == 1) != any(it.startswith(b"! ") for it in lines):
+        is_whole = name in ("recover link", "recover track", "recover dvi") and status in (0, 1)
+        if is_whole and (status == 1) != any(it.startswith(b"! ") for it in lines):
             return "fault lines that do not fit the status"
     if name == "check":
         last = {0: [b"clean", b""], 1: [b"faulty", b""]}.get(status)

@@ -5,12 +5,14 @@ import sys
 from collections.abc import Sequence
 
 NAMES = ("characters", "compare", "conform", "content", "errors", "lanes", "pictures", "report", "slice", "sound", "survey", "timing")
-PACKAGES = {  # of Debian
+# Debian's packages, by their modules.
+PACKAGES = {
     "PIL": "python3-pil",
     "jinja2": "python3-jinja2",
     "numpy": "python3-numpy",
     "scipy": "python3-scipy",
     "skimage": "python3-skimage",
+    "soundfile": "python3-soundfile",
     "tqdm": "python3-tqdm",
 }
 
