@@ -11,6 +11,7 @@ import pytest
 from PIL import Image
 
 from tests.models.timed import Sent, text
+from vabgrot.formats.rules import RULES
 from tests.support import HANGS, built, ran
 
 webdriver = pytest.importorskip("selenium.webdriver", reason="Debian's package python3-selenium is missing")
@@ -644,3 +645,21 @@ def test_narrow_and_wide(report, program, sent):
             assert page.run(tall) == 0
     finally:
         page.driver.execute_cdp_cmd("Emulation.clearDeviceMetricsOverride", {})
+
+
+def test_rules(report, program, sent, tmp_path):
+    """They are those of tools/conform; one chooses those of a verdict, and a column is a place of the timeline."""
+    capture = program("make", "content", source=sent)
+    hurt = program("damage", f"1:{10 * (ACROSS * (FIRST_ROW + 3) + FIRST_PIXEL + 7)}:0ab", source=capture)
+    page = report(hurt, 1)
+    count = "return [...document.querySelectorAll('#rule-table tbody tr')].filter((row) => !row.hidden).map((row) => row.cells[0].textContent)"
+    every = page.run(count)
+    assert len(every) == len(RULES) and every == list(RULES)
+    Select(page.driver.find_element(By.CSS_SELECTOR, "#rule-table select")).select_by_value("fail")
+    assert page.run(count) == ["video coding"]
+    page.run("document.querySelector('#rule-table tr:not([hidden]) button').click()")
+    column = int(page.run("return document.querySelector('#rule-table tr:not([hidden]) button').dataset.column"))
+    assert page.run("return time.cursor") == column
+    fault = page.rows("fault-table")[0]
+    assert f"{column:,}" in fault[1] and re.match(r"lane 1: [0-9a-f]{3}, byte [0-9a-f]{2}, not at disparity", fault[4])
+    page.check()

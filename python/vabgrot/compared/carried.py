@@ -74,7 +74,7 @@ def small_of(picture: Picture) -> npt.NDArray[np.float32]:
     across = np.add.reduceat(picture.astype(np.float32), columns, axis=1)
     sums = np.add.reduceat(across, rows, axis=0)
     widths, heights = np.diff(columns, append=picture.shape[1]), np.diff(rows, append=picture.shape[0])
-    small: npt.NDArray[np.float32] = sums / np.maximum(np.outer(heights, widths), 1)[:, :, None].astype(np.float32)
+    small: npt.NDArray[np.float32] = (sums / np.maximum(np.outer(heights, widths), 1)[:, :, None]).astype(np.float32)
     return small
 
 

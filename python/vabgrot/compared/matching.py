@@ -5,6 +5,7 @@ from __future__ import annotations
 from typing import NamedTuple
 
 import numpy as np
+import numpy.typing as npt
 
 from vabgrot.compared.carried import Carried, Still
 from vabgrot.video.timings import Ints
@@ -42,7 +43,7 @@ def pairs_of(mine: Carried, other: Carried) -> list[Pair]:
     return aligned(np.array([[cost_of(one, still) for still in other.frames] for one in mine.frames]).reshape(len(mine.frames), -1))
 
 
-def aligned(costs: np.ndarray) -> list[Pair]:
+def aligned(costs: npt.NDArray[np.float64]) -> list[Pair]:
     """The cheapest order of pairs and of frames alone."""
     rows, columns = costs.shape
     total = np.zeros((rows + 1, columns + 1))
@@ -79,9 +80,11 @@ def offset_of(mine: Ints, other: Ints) -> int | None:
     """By how many samples what stands in `mine` stands later in `other`; None where nothing of it is found there."""
     votes: dict[int, int] = {}
     order = np.argsort(other, kind="stable")
+    ordered = other[order]
     for start in np.linspace(0, max(len(mine) - WINDOW, 0), TRIED).astype(int).tolist():
         pattern = mine[start : start + WINDOW]
-        first, last = (int(np.searchsorted(other[order], pattern[0], side)) for side in ("left", "right"))
+        first = int(np.searchsorted(ordered, pattern[0], "left"))
+        last = int(np.searchsorted(ordered, pattern[0], "right"))
         for at in order[first : min(last, first + 2048)].tolist():
             if len(other) - at >= len(pattern) and (other[at : at + len(pattern)] == pattern).mean() > 0.5:
                 votes[at - start] = votes.get(at - start, 0) + 1

@@ -3,7 +3,7 @@
 from __future__ import annotations
 
 from collections import Counter
-from collections.abc import Iterator
+from collections.abc import Callable, Iterator
 from itertools import permutations
 from pathlib import Path
 from typing import NamedTuple
@@ -201,7 +201,7 @@ def reversed_byte(byte: int) -> int:
     return int(f"{byte:08b}"[::-1], 2)
 
 
-FORMS = {
+FORMS: dict[str, Callable[[Block], int]] = {
     "the parity in reverse: its highest bit is sent first": lambda block: reversed_byte(parity_of(block)),
     "the parity inverted": lambda block: parity_of(block) ^ 0xFF,
     "no parity: its byte is 0": lambda block: 0,

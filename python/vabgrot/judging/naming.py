@@ -128,11 +128,13 @@ class Namer:
             one = min(near or CONTROL, key=lambda other: (word ^ other).bit_count())
             wanted.append("" if is_right else f"{one:03x}, {control_name(lane, CONTROL.index(one))}")
         value, number = int(self.spans.runs[2][at]), column - int(self.spans.runs[0][at]) + 1
-        return self.made(column, f"control column {number:,} of a run of {int(self.spans.runs[1][at]):,}, value {value:02x}", words, names, wanted)
+        says = f"control column {number:,} of a run of {int(self.spans.runs[1][at]):,}, value {value:02x}"
+        return self.made(column, says, words, names, wanted)
 
     def row_guard(self, column: int, words: Words, at: int) -> Column:
         """A guard column before a row."""
-        wanted = ["" if word == VIDEO_GUARD[lane] else f"{VIDEO_GUARD[lane]:03x}, guard of a row" for lane, word in enumerate(words.tolist())]
+        pairs = list(zip(words.tolist(), VIDEO_GUARD))
+        wanted = ["" if word == guard else f"{guard:03x}, guard of a row" for word, guard in pairs]
         names = ["guard of a row" if not it else name_of(lane, int(words[lane])) for lane, it in enumerate(wanted)]
         return self.made(column, f"guard column {column - int(self.spans.guards[0][at]) + 1} before row {at:,}", words, names, wanted)
 
@@ -191,7 +193,7 @@ class Namer:
             disparity = int(BALANCE[self.columns.words(lane, first, column - first)].sum())
             byte = int(BYTES[word])
             code = int(CODES[int(np.sign(disparity)) + 1, byte])
-            names.append(f"byte {byte:02x} at disparity {disparity:+d}" if code == word else f"byte {byte:02x}, not at disparity {disparity:+d}")
+            names.append(f"byte {byte:02x}{' at' if code == word else ', not at'} disparity {disparity:+d}")
             wanted.append("" if code == word else wanted_code(word, byte, code))
         return self.made(column, f"pixel {column - first:,} of row {at:,}", words, names, wanted)
 

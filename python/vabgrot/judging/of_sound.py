@@ -55,7 +55,8 @@ def sound_of(case: Case) -> Sound:
     flags = bodies[:, :, 6]
     for sides, bits in ((bodies[:, :, 0:3], flags & 15), (bodies[:, :, 3:6], flags >> 4)):
         odd = (ONES[sides].sum(axis=2) + ONES[bits]) % 2 * present
-        found.uneven += [(heard[place], f"odd parity on {counted(int(odd[place].sum()), 'side')}") for place in np.flatnonzero(odd.any(axis=1))]
+        for place in np.flatnonzero(odd.any(axis=1)).tolist():
+            found.uneven.append((heard[place], f"odd parity on {counted(int(odd[place].sum()), 'side')}"))
     found.uneven.sort(key=lambda one: one[0].at)
     numbers = np.cumsum(np.append(0, present.sum(axis=1)))
     found.breaks = sorted(set(numbers[np.searchsorted(found.places, case.lost)].tolist()))

@@ -147,7 +147,8 @@ def packets_of(mine: Carried, other: Carried) -> list[dict[str, Any]]:
         for header, data in [it for it in one.packets if it not in two.packets]:
             packet = packets.Packet(header, [data[at : at + 7] for at in range(0, 28, 7)])
             says = packets.content_of(packet).words
-            found.append({"in": side, "name": packet.name, "times": one.packets[header, data], "says": says, "bytes": (header + data).hex()})
+            times, digits = one.packets[header, data], (header + data).hex()
+            found.append({"in": side, "name": packet.name, "times": times, "says": says, "bytes": digits})
     return found
 
 

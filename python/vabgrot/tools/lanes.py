@@ -2,6 +2,7 @@
 
 import importlib
 import io
+import json
 import sys
 from argparse import ArgumentParser, ArgumentTypeError, Namespace
 from collections.abc import Callable, Iterable, Sequence
@@ -161,7 +162,12 @@ def look(args: Namespace) -> int:
     with open(args.capture, "rb") as file:
         lanes, counts = capture.lanes_of(file.read())
     lines, is_right = looking.judged(sys.argv[0], args.capture, lanes, counts)
-    print("\n".join(lines))
+    if args.json:
+        paste = next((line.removeprefix("to be pasted: ") for line in lines if line.startswith("to be pasted: ")), None)
+        said = {"capture": args.capture, "faulty": not is_right, "bits": counts, "lanes": lines[:3], "says": lines[3:], "paste": paste}
+        print(json.dumps(said, indent=1))
+    else:
+        print("\n".join(lines))
     return command.DONE if is_right else command.FAULTY
 
 
@@ -204,6 +210,8 @@ def work(argv: Sequence[str] | None) -> int:
     ):
         words = add(name, its_work, says, text)
         words.add_argument("capture", metavar="CAPTURE", help="the file of a capture")
+        if its_work is look:
+            words.add_argument("--json", action="store_true", help="write JSON in place of text")
         if its_work is cut:
             text = "the bit of each lane, or of all of them, with which it is to begin"
             words.add_argument("--from", type=bit_counts, required=True, dest="starts", metavar="P[,P,P]", help=text)

@@ -481,6 +481,41 @@ def page_of(path: Path, words: list[str], found: Found, album: Album, run: progr
     )
 
 
+def plain_of(path: Path, words: list[str], found: Found, run: program.Run, bits: list[int], clock: int | None) -> dict[str, Any]:
+    """What the page says, for machines: no pictures, no sound and no listing."""
+    slips, record = slips_of(found, bits), judged.record_of(found)
+    verdict = verdict_of(found, run, slips)
+    rules = judged.rules_of(record, clock) if words[1] != "dvi" and found.columns else []
+    characters = judged.Characters(path, found, record)
+    faults, says = found.faults, characters.at_faults()
+    return {
+        "capture": str(path),
+        "faulty": bool(run.status or contents_in_words(found)),
+        "verdict": verdict["word"],
+        "says": verdict["says"],
+        "columns": found.aligned_columns,
+        "rows": found.rows,
+        "samples": found.sound.samples,
+        "bits": bits,
+        "slips": str(slips) if slips else None,
+        "advice": [place.named(line) for line in (*advice_of(path, words, found, run), *characters.causes())],
+        "timing": [one.plain() for one in timings(found.meter, Rate(clock))[:SIZES]],
+        "rules": [one.plain() for one in rules],
+        "frames": [
+            {"width": it["width"], "height": it["height"], "whole": it["whole"], "faults": it["faults"], "says": it["says"]}
+            for it in found.frames
+        ],
+        "faults": [
+            {"kind": kind, "lane": lane, "column": at, "line": line, "numbers": more, "characters": words}
+            for kind, lane, at, line, more, words in zip(
+                faults["kind"], faults["lane"], faults["at"], faults["line"], faults["more"], says
+            )
+        ],
+        "contents": dict(found.content_counts),
+        "packets": [{"name": it.packet.name, "column": it.at, "says": it.words, "blocks": it.verdicts} for it in found.packets],
+    }
+
+
 def sections_of(
     found: Found, words: list[str], advice: tuple[str, ...], sound: dict[str, object] | None, has_rules: bool
 ) -> dict[str, Any]:
@@ -515,9 +550,9 @@ def work(argv: Sequence[str] | None) -> int:
         "--output",
         metavar="FILE.html",
         type=Path,
-        default=Path("report.html"),
-        help="the page; if left out, %(default)s",
+        help="the page; if left out, report.html, or none with --json",
     )
+    parser.add_argument("--json", action="store_true", help="write what the page says as JSON too, to standard output")
     parser.add_argument("--dvi", action="store_true", help="the source is one of DVI, without guard bands and islands")
     text = "the pixel clock, for the rate of the frames, and that of the sound where the AVI InfoFrame does not say it"
     parser.add_argument("--clock", type=int, metavar="HZ", help=text)
@@ -531,11 +566,15 @@ def work(argv: Sequence[str] | None) -> int:
     found, album, run = gather(words, args.capture, max(bits))
     if run.status == program.NO_CAPTURE and not found.columns:
         raise Refused(f"{args.capture}: {program.explained(run.note)}")
-    with replacing(args.output, "w", encoding="utf-8", errors="surrogateescape") as page:
-        page.write(page_of(args.capture, words, found, album, run, bits, args.clock))
+    if args.json:
+        print(json.dumps(plain_of(args.capture, words, found, run, bits, args.clock), indent=1))
+    output = args.output or (None if args.json else Path("report.html"))
+    if output:
+        with replacing(output, "w", encoding="utf-8", errors="surrogateescape") as page:
+            page.write(page_of(args.capture, words, found, album, run, bits, args.clock))
     total, contents = found.counts.total(), contents_in_words(found)
     told = f"{len(found.frames)} frames, {len(found.packets)} packets, {total} faults"
-    print(f"{args.output}: {told}{', in the contents ' if contents else ''}{', '.join(contents)}", file=sys.stderr)
+    print(f"{output or args.capture}: {told}{', in the contents ' if contents else ''}{', '.join(contents)}", file=sys.stderr)
     return command.FAULTY if run.status or contents else command.DONE
 
 

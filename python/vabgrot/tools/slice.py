@@ -1,5 +1,6 @@
 """A waveform of three lanes, or the words of a simulation, into a capture."""
 
+import json
 import sys
 from argparse import ArgumentParser, Namespace
 from collections.abc import Iterator, Sequence
@@ -59,6 +60,7 @@ def words(argv: Sequence[str] | None) -> Namespace:
     text = "FILE has raw samples of this kind, of each channel in turn, low byte first; asks for --channels"
     parser.add_argument("--raw", choices=waveform.RAW, help=text)
     parser.add_argument("--channels", type=int, metavar="N", help="how many channels raw samples have")
+    parser.add_argument("--json", action="store_true", help="say on standard error what was found as JSON in place of text")
     parser.add_argument("--eye", metavar="FILE.png", help="draw the three eye diagrams")
     text = "how many samples are taken at once; %(default)s if left out"
     parser.add_argument("--piece", type=int, metavar="N", default=waveform.PIECE, help=text)
@@ -145,9 +147,36 @@ def take_words(args: Namespace) -> int:
         why = "all have x or z" if columns.early else "the clock never rises" if clock else "they do not change"
         raise Refused(f"{args.file}: it has no column of whole words: {why}")
     capture.write(sys.stdout.buffer, [lane.ended() for lane in written], [lane.count for lane in written])
-    for line in told_words(columns, source.scale):
-        print(line, file=sys.stderr)
+    if args.json:
+        step = columns.step * source.scale if columns.step and source.scale else None
+        numbers: dict[str, object] = {"columns": columns.count, "left_out": columns.early, "left_out_behind": columns.late, "seconds_a_column": step}
+        say_json(args.file, bool(columns.late), numbers)
+    else:
+        print("\n".join(told_words(columns, source.scale)), file=sys.stderr)
     return command.FAULTY if columns.late else command.DONE
+
+
+def say_json(path: str, faulty: bool, says: dict[str, object]) -> None:
+    """Says on standard error, for machines, what was found of a file."""
+    print(json.dumps({"file": path, "faulty": faulty} | says, indent=1), file=sys.stderr)
+
+
+def plain_of(lane: Lane, rate: float | None) -> dict[str, object]:
+    """What is said of a lane, for machines."""
+    found = lane.measure
+    root, peak = found.jitter
+    return {
+        "name": lane.name,
+        "bits": found.bits,
+        "bits_a_second": rate / found.period if rate and found.period else None,
+        "samples_a_bit": float(found.period),
+        "jitter_rms": float(root),
+        "jitter_peak": float(peak),
+        "low": float(found.levels.low),
+        "high": float(found.levels.high),
+        "opening": float(found.opening),
+        "shut": bool(found.is_shut),
+    }
 
 
 def apart(lanes: list[Lane]) -> float:
@@ -212,9 +241,15 @@ def work(argv: Sequence[str] | None) -> int:
         draw(args.eye, lanes)
     counts = [lane.written.count for lane in lanes]
     capture.write(sys.stdout.buffer, [lane.written.ended() for lane in lanes], counts)
+    part = apart(lanes)
+    if args.json:
+        faulty = part > MOST_APART or any(lane.measure.is_shut for lane in lanes)
+        said = {"lanes": [plain_of(lane, args.rate or wave.rate) for lane in lanes], "rates_apart": part}
+        say_json(args.file, faulty, said)
+        return command.FAULTY if faulty else command.DONE
     for lane in lanes:
         print(told(lane, args.rate or wave.rate), file=sys.stderr)
-    if (part := apart(lanes)) > MOST_APART:
+    if part > MOST_APART:
         text = "bits are wrong, or a channel is no data lane (the clock's?)"
         print(f"slice: the bit rates of the lanes differ by {100 * part:.3g} percent: {text}", file=sys.stderr)
     elif not any(lane.measure.is_shut for lane in lanes):

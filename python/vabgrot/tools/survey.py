@@ -2,17 +2,18 @@
 
 import csv
 import io
+import json
 import os
 import queue
 import subprocess
 import sys
 import time
 from collections import Counter
-from collections.abc import Iterable, Iterator, Sequence
+from collections.abc import Callable, Iterable, Iterator, Sequence
 from concurrent.futures import ThreadPoolExecutor, as_completed
 from html import escape
 from pathlib import Path
-from typing import Any
+from typing import IO, Any, NamedTuple
 
 from tqdm import tqdm
 
@@ -37,10 +38,19 @@ tools/survey captures -o survey.csv"""
 THINGS = ("columns", "lines", "pixels", "islands", "packets", "cut")
 FAULTS = (*(kind for kind in faults.LINK if kind not in ("guard", "slip")), "guard")  # in the order of docs/FORMATS.md
 CONTENTS = tuple(faults.CONTENT)  # faults that `recover content` alone writes
-HEAD = ("path", "bytes", "modified", "verdict", "note", *THINGS, "faults", *FAULTS, "contents", *CONTENTS, "seconds")
+HEAD = ("path", "bytes", "modified", "verdict", "note", *THINGS, "faults", *FAULTS, "contents", *CONTENTS)
+HEAD += ("slips", "format", "timing", "seconds")
 VERDICTS = {0: "clean", 1: "faulty", 3: "refused", 7: "unaligned"}
 KEPT = {*VERDICTS.values(), "contents"}
 Row = dict[str, str | int]  # of the table, by its columns
+
+
+class Asked(NamedTuple):
+    """What is asked of each capture beside its faults: whether it is one of DVI, the slips of its lanes, its video timing."""
+
+    is_dvi: bool = False
+    slips: bool = False
+    timing: bool = False
 
 
 def counted(source: Iterable[bytes]) -> Counter[str]:
@@ -77,6 +87,27 @@ def contents_counted(source: Iterable[bytes]) -> Counter[str]:
     return counts
 
 
+def slips_counted(source: Iterable[bytes]) -> Counter[str]:
+    """How many slips the lines of `recover track` tell."""
+    return Counter({"slips": sum(line.startswith(b"! slip ") for line in source)})
+
+
+def timing_of(path: str, words: list[str]) -> Row:
+    """The video format of a capture in words, and how many notes on its timing are faults; nothing where numpy or the package is
+    missing, as on a worker that does not have it."""
+    try:
+        from vabgrot.tools import timing
+        from vabgrot.video.matching import Rate, timings
+    except ImportError:
+        return {}
+    try:
+        found = timings(timing.metered(words, Path(path))[0], Rate())
+    except Refused:
+        return {}
+    notes = [note for one in found for note in (one.head, *one.notes) if note.is_fault]
+    return {"format": found[0].head.text if found else "no rows", "timing": len(notes)}
+
+
 def verdict_of(check: "subprocess.CompletedProcess[bytes]", statuses: dict[str, int], contents: int) -> Row:
     """The verdict and the note, of the run of `check`, the statuses of the two `recover`, and how many faults contents have."""
     status, note = check.returncode, check.stderr.decode("ascii", "replace").strip()
@@ -88,28 +119,48 @@ def verdict_of(check: "subprocess.CompletedProcess[bytes]", statuses: dict[str, 
     return {"verdict": "contents" if contents and not status else VERDICTS[status], "note": note}
 
 
-def judged(path: str, program: str, on: Sequence[str] = ()) -> Row:
+def run_over(words: Sequence[str], capture: IO[bytes], count: Callable[[Iterable[bytes]], Counter[str]]) -> tuple[int, Counter[str]]:
+    """The status of a command over a capture, and what is counted of its output."""
+    capture.seek(0)
+    with subprocess.Popen(words, stdin=capture, stdout=subprocess.PIPE, stderr=subprocess.DEVNULL) as run:
+        assert run.stdout
+        counts = count(run.stdout)
+    return run.returncode, counts
+
+
+def judged_dvi(path: str, program: str, on: Sequence[str]) -> Row:
+    """The verdict over a capture of DVI, by `recover dvi` alone."""
+    with open(path, "rb") as capture:
+        status, counts = run_over([*on, program, "recover", "dvi"], capture, counted)
+    counts["columns"] -= 2 * counts["lines"]  # it has no guard bands
+    verdict = VERDICTS.get(status, "failed")
+    return counts | {"verdict": verdict, "note": "" if status in (0, 1) else f"recover dvi ended with {status}"}
+
+
+def judged(path: str, program: str, on: Sequence[str] = (), asked: Asked = Asked()) -> Row:
     """The verdict over one capture, what speaks against it, and the counts of its listings. `on` are the words that start the
     program on one processor, if any."""
     began = time.monotonic()
-    row: Row = {"path": path}
+    row: Row = {"path": path, "format": ""}
     statuses: dict[str, int] = {}
     contents = 0
     try:
         with open(path, "rb") as capture:
             found = os.fstat(capture.fileno())
             row |= {"bytes": found.st_size, "modified": found.st_mtime_ns}
-            check = subprocess.run([*on, program, "check"], stdin=capture, stdout=subprocess.DEVNULL, stderr=subprocess.PIPE)
-            for kind, count in (("link", counted), ("content", contents_counted)):
-                capture.seek(0)
-                words = [*on, program, "recover", kind]
-                with subprocess.Popen(words, stdin=capture, stdout=subprocess.PIPE, stderr=subprocess.DEVNULL) as run:
-                    assert run.stdout
-                    counts = count(run.stdout)
-                row |= counts
-                contents = counts["contents"]
-                statuses[kind] = run.returncode
-        row |= verdict_of(check, statuses, contents)
+            if asked.is_dvi:
+                row |= judged_dvi(path, program, on)
+            else:
+                check = subprocess.run([*on, program, "check"], stdin=capture, stdout=subprocess.DEVNULL, stderr=subprocess.PIPE)
+                for kind, count in (("link", counted), ("content", contents_counted)):
+                    statuses[kind], counts = run_over([*on, program, "recover", kind], capture, count)
+                    row |= counts
+                    contents = counts["contents"]
+                row |= verdict_of(check, statuses, contents)
+            if asked.slips:
+                row |= run_over([*on, program, "recover", "track"], capture, slips_counted)[1]
+        if asked.timing and row["verdict"] not in ("refused", "unaligned", "failed"):
+            row |= timing_of(path, ["recover", "dvi" if asked.is_dvi else "link"])
     except OSError as why:
         row |= {"verdict": "failed", "note": f"{why.filename or path}: {why.strerror}"}
     return row | {"seconds": f"{time.monotonic() - began:.2f}"}
@@ -189,7 +240,7 @@ class Table:
         return rows
 
 
-def here(paths: list[str], program: str) -> Iterator[Row]:
+def here(paths: list[str], program: str, asked: Asked) -> Iterator[Row]:
     """The rows of captures that are judged on this machine, as they come: one at a time on each processor."""
     free: queue.SimpleQueue[tuple[str, ...]] = queue.SimpleQueue()
     for on in processors():
@@ -198,7 +249,7 @@ def here(paths: list[str], program: str) -> Iterator[Row]:
     def judged_on_one(path: str) -> Row:
         on = free.get()
         try:
-            return judged(path, program, on)
+            return judged(path, program, on, asked)
         finally:
             free.put(on)
 
@@ -212,7 +263,7 @@ def here(paths: list[str], program: str) -> Iterator[Row]:
             raise
 
 
-def elsewhere(paths: list[str], program: str, scheduler: str) -> Iterator[Row]:
+def elsewhere(paths: list[str], program: str, scheduler: str, asked: Asked) -> Iterator[Row]:
     """The rows of captures that the workers of a scheduler judge. Dask gives what a lost worker had to another one."""
     try:
         import cloudpickle
@@ -225,7 +276,7 @@ def elsewhere(paths: list[str], program: str, scheduler: str) -> Iterator[Row]:
         raise Refused(f"{scheduler}: no scheduler answers ({str(why).splitlines()[0]})") from None
     cloudpickle.register_pickle_by_value(sys.modules[__name__])  # the workers need not have this package
     with client:
-        waits = {client.submit(judged, path, program, pure=False, retries=2): path for path in paths}
+        waits = {client.submit(judged, path, program, (), asked, pure=False, retries=2): path for path in paths}
         for wait in distributed.as_completed(waits):  # type: ignore[no-untyped-call]
             fault = wait.exception()
             if fault is None:
@@ -256,6 +307,12 @@ def page(rows: list[Row]) -> str:
     )
 
 
+def plain_of(row: Row) -> dict[str, str | int | float]:
+    """A row for machines: its counts are numbers."""
+    texts = ("path", "verdict", "note", "format")
+    return {name: value if name in texts else float(value) if name == "seconds" else int(value) for name, value in row.items()}
+
+
 def work(argv: Sequence[str] | None) -> int:
     parser = command.parser("survey", TEXT, FAULTY, EXAMPLES)
     text = "a capture, or a folder, of which all files *.tmc are taken, those of its folders too"
@@ -267,6 +324,10 @@ def work(argv: Sequence[str] | None) -> int:
     parser.add_argument("--scheduler", metavar="HOST:PORT", help=text)
     text = "the program; if left out that of VABGROT_PROGRAM, the one beside the tools, or that of the PATH"
     parser.add_argument("--program", default=os.environ.get("VABGROT_PROGRAM"), metavar="FILE", help=text)
+    parser.add_argument("--dvi", action="store_true", help="the captures are of DVI: judge them by `recover dvi`, without contents")
+    parser.add_argument("--slips", action="store_true", help="count the slips of lanes too, by `recover track`")
+    parser.add_argument("--timing", action="store_true", help="say the video format of each too, and the faults of its timing")
+    parser.add_argument("--json", action="store_true", help="write the rows of the captures as JSON too, to standard output")
     parser.add_argument("--anew", action="store_true", help="judge all captures again, and write over the table")
     args = parser.parse_args(argv)
     if args.table.suffix != ".csv":
@@ -276,14 +337,16 @@ def work(argv: Sequence[str] | None) -> int:
     paths = captures_of(args.places)
     if not paths:
         raise Refused(f"{args.places[0]}: it has no files *.tmc")
-    table = Table(args.table, args.anew)
+    asked, table = Asked(args.dvi, args.slips, args.timing), Table(args.table, args.anew)
     wanted = [path for path in paths if not table.has(path)]
-    found = elsewhere(wanted, program, args.scheduler) if args.scheduler else here(wanted, program)
+    found = elsewhere(wanted, program, args.scheduler, asked) if args.scheduler else here(wanted, program, asked)
     for row in tqdm(found, total=len(paths), initial=len(paths) - len(wanted), unit="capture", disable=None):
         table.add(row)
     rows = table.ended(paths)
     with replacing(args.table.with_suffix(".html"), "w", encoding="utf-8", errors="surrogateescape") as file:
         file.write(page(rows))
+    if args.json:
+        print(json.dumps({"captures": [plain_of(row) for row in rows]}, indent=1))
     totals = Counter(row["verdict"] for row in rows)
     told = ", ".join(f"{count} {verdict}" for verdict, count in sorted(totals.items()))
     print(f"{len(rows)} captures, {len(wanted)} judged now: {told}", file=sys.stderr)
