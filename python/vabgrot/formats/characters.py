@@ -4,6 +4,7 @@ Sources: DVI 1.0, section 3.2 (control characters), and HDMI 1.4, section 5 (the
 
 TEN = 10  # bits of a character
 ALL = (1 << TEN) - 1
+LANES = ("lane 0 (blue)", "lane 1 (green)", "lane 2 (red)")
 HSYNC, VSYNC = 1, 2  # bits of a control column's value, and of a packet column's sync value
 
 # The control characters of the values 0 to 3 (DVI 1.0, section 3.2.3; HDMI 1.4, section 5.4.2).

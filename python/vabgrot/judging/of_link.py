@@ -6,13 +6,12 @@ from collections.abc import Iterator
 
 import numpy as np
 
-from vabgrot.formats.characters import LEAST_CONTROL
+from vabgrot.formats.characters import LANES, LEAST_CONTROL
 from vabgrot.judging.verdicts import Case, Verdict, counted, every_two, failed, is_near, is_seen, passed, unjudged
 
 LEAST_EXTENDED = 32  # characters (HDMI 1.4, section 5.2.1.2)
 MOST_APART = 0.05  # seconds
 LEAST_CLOCK = 25e6  # Hz (HDMI 1.4, section 6.1)
-LANES = ("lane 0 (blue)", "lane 1 (green)", "lane 2 (red)")
 OF_FAULTS = (  # a rule, the kinds of fault lines that break it, and what there must be so that it can be judged
     ("control characters", ("word",), "control columns"),
     ("control period", ("short",), "openings"),

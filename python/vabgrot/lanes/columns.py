@@ -8,6 +8,7 @@ import numpy as np
 import numpy.typing as npt
 
 from vabgrot import capture
+from vabgrot.errors import Refused
 from vabgrot.formats.characters import LEAST_CONTROL, TEN
 from vabgrot.lanes.looking import IS_CONTROL, characters_of, lock_of
 from vabgrot.lanes.openings import beginnings, first_alignment
@@ -80,3 +81,11 @@ class Columns:
     def place(self, lane: int, column: int) -> int:
         """The place of the lane's bits at which a column begins."""
         return self.starts[lane] + TEN * column
+
+
+def columns_of(path: Path) -> Columns:
+    """The columns of a capture; refused where nothing aligns too."""
+    try:
+        return Columns(path)
+    except ValueError as why:
+        raise Refused(f"{path}: {why}") from None

@@ -8,10 +8,11 @@ from collections.abc import Sequence
 from pathlib import Path
 
 from vabgrot import command
+from vabgrot.formats.characters import LANES
 from vabgrot.judging.diagnosis import causes_of
 from vabgrot.judging.naming import Column, Namer
 from vabgrot.judging.spans import spans_of
-from vabgrot.tools.errors import LANES, columns_of
+from vabgrot.lanes.columns import columns_of
 
 TEXT = """Shows columns of a capture as they are counted by `recover link`, `check`, `tools/conform` and the page of `tools/report`: of each
 lane the ten bits, in hexadecimal digits and as q[9] to q[0], the name that the standard has for them where they stand, and what
@@ -19,8 +20,7 @@ was wanted there. Without --at the first fault is shown. Behind the columns stan
 lanes that are exchanged, a coder that does not start at disparity 0, a missing guard band, a parity in reverse."""
 FAULTY = "done, and the capture has a fault"
 EXAMPLES = """./vabgrot make content < examples/bars.content > bars.tmc
-./vabgrot damage 2:5035:0ab < bars.tmc > hurt.tmc
-tools/characters hurt.tmc --at 500 --count 8"""
+tools/characters bars.tmc --at 500 --count 8"""
 BEFORE = 2  # columns that are shown before the first fault, where no column is given
 MOST = 100_000
 

@@ -14,11 +14,11 @@ from typing import Any
 
 from vabgrot import command
 from vabgrot.errors import Refused
-from vabgrot.formats.characters import TEN
+from vabgrot.formats.characters import LANES, TEN
 from vabgrot.judging.damage import KINDS, Hit, compared, exposed, hits_of, offset_of, unread
 from vabgrot.judging.spans import Spans, spans_of
 from vabgrot.judging.statistics import Limits, clusters_of, limits_of
-from vabgrot.lanes.columns import Columns
+from vabgrot.lanes.columns import columns_of
 
 TEXT = """Counts the damaged characters and bits of a capture, a lane at a time: by what is known of control periods, guards, packets and
 the video coding, or against a capture of the same that is right (--reference). It writes the rate of wrong bits with its limits of
@@ -28,8 +28,7 @@ fewest bits that explain it are counted."""
 FAULTY = "done, and a character is damaged, or with --at-most the rate is not shown to be as low"
 EXAMPLES = """./vabgrot make content < examples/bars.content > bars.tmc
 ./vabgrot damage 2:5035:0ab 0:28450:3a5 < bars.tmc > hurt.tmc
-tools/errors hurt.tmc --reference bars.tmc"""
-LANES = ("lane 0 (blue)", "lane 1 (green)", "lane 2 (red)")
+tools/errors hurt.tmc --reference bars.tmc --at-most 1e-3"""
 SHOWN = 8  # damaged characters that are named
 
 
@@ -74,14 +73,6 @@ class Counted:
             for lane in range(3)
             for kind in KINDS
         ]
-
-
-def columns_of(path: Path) -> Columns:
-    """The columns of a capture, which aligns."""
-    try:
-        return Columns(path)
-    except ValueError as why:
-        raise Refused(f"{path}: {why}") from None
 
 
 def counted_of(path: Path, reference: Path | None, is_dvi: bool) -> Counted:
