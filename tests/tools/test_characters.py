@@ -129,3 +129,19 @@ def test_refusals(tool, program, tmp_path):
     tool("characters", path, "--at", 100_000, status=2)
     path.write_bytes(b"TMC1")
     tool("characters", path, status=3)
+
+
+@pytest.mark.parametrize("make", ([], ["--offset", 4321, "--skew", "0,35,70"], ["--offset", 77, "--skew", "70,0,3", "--version", 2]))
+def test_columns_are_those_of_the_listing(tool, program, tmp_path, make):
+    """Wherever the lanes begin, a column that a fault names has the character that was put there. The lane that begins last is
+    the one whose damage is told by its place; blocks of 4,096 bytes are passed."""
+    source = text(Source(across=(256, 16, 96, 60), down=(60, 2, 2, 6), vic=0, fields=3, rate=48000).lines())
+    sent = program("make", "link", *make, source=source)
+    path = tmp_path / "a.tmc"
+    for place in (20_000, 100_000, 250_000):
+        path.write_bytes(program("damage", f"1:{place}:1f3", source=sent))
+        lines = program("recover", "link", source=path.read_bytes(), status=1).decode().splitlines()
+        columns = {int(line.split()[3 if line.split()[1] in ("word", "code") else 2]) for line in lines if line.startswith("! ")}
+        said = json.loads(tool("characters", path, "--at", min(columns) - 3, "--count", 40, "--json", status=1).stdout)
+        bits = "".join(one["lanes"][1]["bits"][::-1] for one in said["columns"])
+        assert f"{0x1F3:010b}"[::-1] in bits

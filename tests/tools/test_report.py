@@ -652,7 +652,8 @@ def test_rules(report, program, sent, tmp_path):
     capture = program("make", "content", source=sent)
     hurt = program("damage", f"1:{10 * (ACROSS * (FIRST_ROW + 3) + FIRST_PIXEL + 7)}:0ab", source=capture)
     page = report(hurt, 1)
-    count = "return [...document.querySelectorAll('#rule-table tbody tr')].filter((row) => !row.hidden).map((row) => row.cells[0].textContent)"
+    rows = "[...document.querySelectorAll('#rule-table tbody tr')].filter((row) => !row.hidden)"
+    count = f"return {rows}.map((row) => row.cells[0].textContent)"
     every = page.run(count)
     assert len(every) == len(RULES) and every == list(RULES)
     Select(page.driver.find_element(By.CSS_SELECTOR, "#rule-table select")).select_by_value("fail")

@@ -109,6 +109,12 @@ def reserved_of(packet: Packet) -> str:
     return "; ".join(found[:3])
 
 
+def reserved(case: Case) -> list[tuple[Heard, str]]:
+    """The packets with reserved bits that are not 0. Of samples, of which there are many, the header alone has such."""
+    wrong = [one for one in case.whole if one.packet.kind != SAMPLES or one.packet.header[1] & RESERVED[SAMPLES][0].mask]
+    return wrong_of(wrong, reserved_of)
+
+
 def control_of(packet: Packet) -> str:
     """What is wrong with a general control packet."""
     first = packet.bodies[0]
@@ -190,7 +196,7 @@ def judged(case: Case) -> Iterator[Verdict]:
     yield every_two(case, "AVI InfoFrame", "AVI InfoFrame", [one.at for one in frames if one.packet.kind == AVI])
     yield first_of("InfoFrame length", wrong_of(frames, length_of), len(frames), "InfoFrame")
     yield first_of("checksum", wrong_of(frames, checksum_of), len(frames), "InfoFrame")
-    yield first_of("reserved bits", wrong_of(case.whole, reserved_of), len(case.whole), "packet")
+    yield first_of("reserved bits", reserved(case), len(case.whole), "packet")
     control = case.of_kind(CONTROL)
     yield first_of("general control", wrong_of(control, control_of), len(control), "general control packet")
     yield mutes(case)

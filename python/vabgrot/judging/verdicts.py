@@ -59,13 +59,13 @@ class Span:
 class Case:
     """A capture that is judged: what was gathered of it, and what is given or found of its rate."""
 
-    def __init__(self, record: Record, rate: Rate = Rate()) -> None:
-        self.record, self.rate = record, rate
+    def __init__(self, record: Record, rate: Rate = Rate(), measured: list[Timing] | None = None) -> None:
+        self.record, self.rate, self.measured = record, rate, measured
 
     @cached_property
     def timings(self) -> list[Timing]:
         """What is said of each raster."""
-        return timings(self.record.meter, self.rate)
+        return timings(self.record.meter, self.rate) if self.measured is None else self.measured
 
     @cached_property
     def clock(self) -> float | None:

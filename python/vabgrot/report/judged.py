@@ -15,7 +15,7 @@ from vabgrot.judging.spans import Spans
 from vabgrot.judging.verdicts import Verdict
 from vabgrot.lanes.columns import Columns
 from vabgrot.report.findings import PERIODS, Findings
-from vabgrot.video.matching import Rate
+from vabgrot.video.matching import Rate, Timing
 
 MOST = 1000  # faults of which the characters are shown
 OF_LANE = frozenset(("word", "code"))
@@ -42,9 +42,9 @@ def record_of(found: Findings[Any]) -> Record:
     return Record(found.meter, spans, [Heard(told.at, told.packet, told.content is not None) for told in found.packets])
 
 
-def rules_of(record: Record, clock: float | None) -> list[Verdict]:
-    """The verdict on each rule."""
-    return verdicts(record, Rate(clock))
+def rules_of(record: Record, clock: float | None, measured: list[Timing]) -> list[Verdict]:
+    """The verdict on each rule; `measured` is what is said of the timing."""
+    return verdicts(record, Rate(clock), measured)
 
 
 class Characters:

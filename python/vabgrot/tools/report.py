@@ -458,7 +458,7 @@ def page_of(path: Path, words: list[str], found: Found, album: Album, run: progr
     slips, measured = slips_of(found, bits), timings(found.meter, Rate(clock))
     record = judged.record_of(found)
     characters = judged.Characters(path, found, record)
-    rules = judged.rules_of(record, clock) if words[1] != "dvi" and found.columns else []
+    rules = judged.rules_of(record, clock, measured) if words[1] != "dvi" and found.columns else []
     advice = (*advice_of(path, words, found, run), *characters.causes())
     return template.render(
         name=path.name,
@@ -483,9 +483,9 @@ def page_of(path: Path, words: list[str], found: Found, album: Album, run: progr
 
 def plain_of(path: Path, words: list[str], found: Found, run: program.Run, bits: list[int], clock: int | None) -> dict[str, Any]:
     """What the page says, for machines: no pictures, no sound and no listing."""
-    slips, record = slips_of(found, bits), judged.record_of(found)
+    slips, record, measured = slips_of(found, bits), judged.record_of(found), timings(found.meter, Rate(clock))
     verdict = verdict_of(found, run, slips)
-    rules = judged.rules_of(record, clock) if words[1] != "dvi" and found.columns else []
+    rules = judged.rules_of(record, clock, measured) if words[1] != "dvi" and found.columns else []
     characters = judged.Characters(path, found, record)
     faults, says = found.faults, characters.at_faults()
     return {
@@ -499,7 +499,7 @@ def plain_of(path: Path, words: list[str], found: Found, run: program.Run, bits:
         "bits": bits,
         "slips": str(slips) if slips else None,
         "advice": [place.named(line) for line in (*advice_of(path, words, found, run), *characters.causes())],
-        "timing": [one.plain() for one in timings(found.meter, Rate(clock))[:SIZES]],
+        "timing": [one.plain() for one in measured[:SIZES]],
         "rules": [one.plain() for one in rules],
         "frames": [
             {"width": it["width"], "height": it["height"], "whole": it["whole"], "faults": it["faults"], "says": it["says"]}

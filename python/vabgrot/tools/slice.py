@@ -149,8 +149,8 @@ def take_words(args: Namespace) -> int:
     capture.write(sys.stdout.buffer, [lane.ended() for lane in written], [lane.count for lane in written])
     if args.json:
         step = columns.step * source.scale if columns.step and source.scale else None
-        numbers: dict[str, object] = {"columns": columns.count, "left_out": columns.early, "left_out_behind": columns.late, "seconds_a_column": step}
-        say_json(args.file, bool(columns.late), numbers)
+        left: dict[str, object] = {"left_out": columns.early, "left_out_behind": columns.late}
+        say_json(args.file, bool(columns.late), {"columns": columns.count, "seconds_a_column": step} | left)
     else:
         print("\n".join(told_words(columns, source.scale)), file=sys.stderr)
     return command.FAULTY if columns.late else command.DONE
