@@ -139,9 +139,9 @@ def test_columns_are_those_of_the_listing(tool, program, tmp_path, make):
     sent = program("make", "link", *make, source=source)
     path = tmp_path / "a.tmc"
     for place in (20_000, 100_000, 250_000):
-        path.write_bytes(program("damage", f"1:{place}:1f3", source=sent))
+        path.write_bytes(program("damage", f"1:{place}:155", source=sent))
         lines = program("recover", "link", source=path.read_bytes(), status=1).decode().splitlines()
         columns = {int(line.split()[3 if line.split()[1] in ("word", "code") else 2]) for line in lines if line.startswith("! ")}
         said = json.loads(tool("characters", path, "--at", min(columns) - 3, "--count", 40, "--json", status=1).stdout)
         bits = "".join(one["lanes"][1]["bits"][::-1] for one in said["columns"])
-        assert f"{0x1F3:010b}"[::-1] in bits
+        assert f"{0x155:010b}"[::-1] in bits
