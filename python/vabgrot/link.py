@@ -150,9 +150,11 @@ class Columns:
 @dataclass
 class Frame:
     """The lines between two changes of VSYNC: their pixels, the columns of their first pixels, and the faults among
-    them. `ended` says what ended it: a change of VSYNC, a slip, or the end of the listing."""
+    them. `ended` says what ended it: a change of VSYNC, a slip, or the end of the listing. `change` is the column of its
+    epoch at which VSYNC changed before it, None where that is not certain."""
 
     is_whole: bool
+    change: int | None = None
     at: int = 0  # the first of its rows' columns
     rows: list = field(default_factory=list)
     firsts: list = field(default_factory=list)  # None where it is not certain
@@ -208,10 +210,11 @@ class Frames:
         if self.streak < 3 or level == self.heard:
             return None
         is_first, self.heard = self.heard is None, level
-        return None if is_first else self.change()
+        return None if is_first else self.change(thing)
 
-    def change(self):
-        frame, self.frame = self.frame, Frame(True)
+    def change(self, thing):
+        column = thing.column + thing.columns - self.streak if thing.is_exact else None
+        frame, self.frame = self.frame, Frame(True, column)
         frame.ended = "vsync"
         return frame if frame.rows else None
 
