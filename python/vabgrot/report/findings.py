@@ -8,6 +8,8 @@ from vabgrot import link, packets
 from vabgrot.formats.audio import BLOCK
 from vabgrot.formats.characters import TEN
 from vabgrot.formats.faults import LANED, OF_PACKET, UNCOUNTED
+from vabgrot.video import images
+from vabgrot.video.signals import Signals
 from vabgrot.video.timings import Meter
 
 PERIODS = ("control", "video", "packet", "open", "close", "unknown", "unaligned")
@@ -124,7 +126,7 @@ class Findings:
 
     def __init__(self, show, is_dvi=None):
         self.show, self.frames_of, self.text, self.sound = show, link.Frames(is_dvi), Text(), Sound()
-        self.meter = Meter()
+        self.meter, self.signals, self.colour_notes = Meter(), Signals(), {}
         self.periods = {"kind": [], "at": [], "columns": [], "line": [], "value": []}
         self.faults = {
             "kind": [],
@@ -208,6 +210,7 @@ class Findings:
             if told.packet.kind == 2:
                 self.sound.lose()
             return
+        self.signals.take_packet(told.packet)
         self.content_counts.update(fault.split()[0] for fault in content.faults)
         if told.packet.kind == 1 and not content.faults and not self.sound.clock:
             self.sound.clock = packets.clock_numbers(told.packet)
@@ -264,14 +267,33 @@ class Findings:
 
     def end_frame(self, frame, at):
         """Shows a frame that ended, and gives the faults that came among its rows to it."""
-        number = len(self.frames)
+        number, signal = len(self.frames), self.signal(frame)
         for fault in self.pending:
             self.faults["frame"][fault] = number
+            self.convert(fault, frame, signal)
         self.pending = []
         ragged = sum(len(row) != len(frame.rows[0]) for row in frame.rows)
         other = frame.is_whole and packets.is_other_size(self.vic, frame.width, len(frame.rows))
         self.content_counts.update({"ragged": ragged * frame.is_whole, "vic": int(other)})
-        self.frames.append(self.show(frame, at, ragged, self.vic if other else None))
+        self.frames.append(self.show(frame, at, ragged, self.vic if other else None, signal))
+
+    def signal(self, frame):
+        """How the pixels of a frame are sent; what is assumed of whole ones is noted."""
+        self.signals.has_packets = not self.frames_of.columns.is_dvi
+        reading = self.signals.reading(frame.width)
+        if frame.is_whole:
+            self.colour_notes.update(dict.fromkeys(reading.notes))
+        return reading.signal
+
+    def convert(self, fault, frame, signal):
+        """Has a fault of a frame name the pixel and the colour that its column is shown as."""
+        x, y = self.faults["x"][fault], self.faults["y"][fault]
+        if signal.is_plain or x < 0:
+            return
+        pixel, colours = signal.pixel(x), images.shallow(images.colours_of([frame.rows[y]], len(frame.rows[y]) // 3, signal))
+        known = pixel < colours.shape[1]
+        self.faults["x"][fault] = pixel if known else -1
+        self.faults["rgb"][fault] = colours[0, pixel].tobytes().hex() if known else ""
 
     def finish(self, is_whole, bits):
         """No more lines come; a whole listing has its line `end`. `bits` are those of the longest lane."""

@@ -73,11 +73,11 @@ class Show:
     def __init__(self, columns):
         self.album, self.columns, self.frames, self.whole = Album(), columns, 0, 0
 
-    def __call__(self, frame, at, ragged, vic):
+    def __call__(self, frame, at, ragged, vic, signal):
         self.frames += 1
         self.whole += frame.is_whole
         left = max(0, round((self.columns - at) * self.frames / max(at, 1)))
-        picture, _ = self.album.add(frame, left)
+        picture, _ = self.album.add(frame, left, signal)
         says = ENDS[frame.ended] if frame.is_whole or frame.ended != "vsync" else "begun before the capture"
         if ragged:
             says += f", {ragged} rows of another width"
@@ -86,7 +86,7 @@ class Show:
         faults = {kind: times for kind, times in sorted(frame.faults.items())}
         return {
             "picture": picture,
-            "width": frame.width,
+            "width": signal.pixels(frame.width),
             "height": len(frame.rows),
             "whole": frame.is_whole,
             "number": self.whole - 1,
@@ -358,15 +358,7 @@ def notes_of(found, words, album):
         notes.append(
             "So that the page stays small some pictures are not exact; where they are enlarged, damaged pixels are."
         )
-    colours = {
-        dict(told.content.rows)["format"]
-        for told in found.packets
-        if told.packet.name == "AVI InfoFrame" and told.content and told.content.rows
-    }
-    if colours - {"RGB"}:
-        notes.append(
-            f"The AVI InfoFrame says {' and '.join(sorted(colours))}; pictures show the bytes of the lanes as red, green and blue."
-        )
+    notes.extend(f"Of the pictures: {note}." for note in found.colour_notes)
     return notes
 
 

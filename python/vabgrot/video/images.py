@@ -52,6 +52,11 @@ def colours_of(rows: Sequence[bytes], width: int, signal: Signal) -> Colours:
     return found
 
 
+def shallow(colours: Colours) -> Bytes:
+    """The colours in bytes, those of sixteen bits as the nearest."""
+    return colours if colours.dtype == np.uint8 else ((colours.astype(np.uint32) + 128) // 257).astype(np.uint8)
+
+
 def woven(upper: Picture, lower: Picture) -> Picture:
     """The frame of two fields: rows 0, 2, 4 .. are those of the upper one."""
     uppers, lowers = upper.colours, lower.colours
