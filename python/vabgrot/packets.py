@@ -1,6 +1,7 @@
 """Packets of data islands in words: what HDMI 1.4, CTA-861 and IEC 60958-3 call their fields."""
 
-from collections.abc import Sequence
+import builtins
+from collections.abc import Callable, Sequence
 from dataclasses import dataclass, field
 from typing import NamedTuple
 
@@ -40,8 +41,8 @@ __all__ = ["Content", "Packet", "Row", "Sample", "channel_status", "clock_number
 class Packet(NamedTuple):
     """A packet as a `p` line has it."""
 
-    header: bytes
-    bodies: list[bytes]
+    header: builtins.bytes
+    bodies: list[builtins.bytes]
 
     @property
     def kind(self) -> int:
@@ -56,7 +57,7 @@ class Packet(NamedTuple):
         return f"InfoFrame {self.kind:02x}" if self.kind >= 0x80 else f"Packet {self.kind:02x}"
 
     @property
-    def bytes(self) -> bytes:
+    def bytes(self) -> builtins.bytes:
         """PB0 and those after it."""
         return b"".join(self.bodies)
 
@@ -105,9 +106,7 @@ def content_of(packet: Packet) -> Content:
     """What a packet without a lost block carries."""
     if packet.kind >= 0x80:
         return infoframe(packet)
-    readers = {0: lambda _: Content("nothing"), 1: clock, 2: samples, 3: control, 4: described, 5: described, 6: described}
-    readers |= {7: one_bit, 8: other_audio, 9: other_audio, 10: described}
-    reader = readers.get(packet.kind)
+    reader = READERS.get(packet.kind)
     return reader(packet) if reader else Content(f"{packet.header.hex()} {' '.join(body.hex() for body in packet.bodies)}")
 
 
@@ -214,6 +213,12 @@ def rows_of(kind: int, version: int, length: int, data: bytes) -> list[Row]:
         return infoframes.avi(version, data)
     readers = {0x83: infoframes.product, 0x84: infoframes.audio, 0x85: infoframes.mpeg, 0x87: infoframes.mastering}
     return readers[kind](data)
+
+
+READERS: dict[int, Callable[[Packet], Content]] = {
+    **{0: lambda _: Content("nothing"), 1: clock, 2: samples, 3: control, 7: one_bit, 8: other_audio, 9: other_audio},
+    **dict.fromkeys((4, 5, 6, 10), described),
+}
 
 
 def channel_status(bits: Sequence[int]) -> list[tuple[str, str]]:

@@ -57,7 +57,7 @@ def pixel_places(path: Path) -> Places:
         for thing in Columns().things(listing.lines(source, listing.LINK)):
             if thing.kind == "video":
                 first = thing.first_pixel
-            elif thing.fields[:1] == ("code",) and first is not None:
+            elif thing.fault == "code" and first is not None:
                 places[thing.column] = thing.column - first
     return places
 
@@ -96,25 +96,25 @@ class Listed:
                     yield thing.line, "down", [str(down)]
                 yield thing.line, "frame", [str(ended.width), str(len(ended.rows))]
             elif thing.kind == "video" and frames.frame.is_whole:
-                yield thing.line, "row", list(thing.fields)
+                yield thing.line, "row", [thing.digits]
                 if frames.frame.is_ragged:
                     yield thing.line, "!", ["ragged", str(len(frames.frame.rows) - 1)]
             elif thing.kind == "slip":
                 self.places.clear()
             if thing.kind in ("fault", "slip"):
-                if thing.fields[0] == "code" and frames.frame.marks:
+                if thing.fault == "code" and frames.frame.marks:
                     self.places[thing.column] = frames.frame.marks[-1].pixel
                 yield thing.line, "!", list(map(str, thing.fields))
 
     def packets(self, thing: Thing) -> Iterator[Line]:
         """The packet before, once no fault line of it can follow; one with a lost block is left out."""
-        if thing.kind == "fault" and thing.fields[0] in OF_PACKET:
-            if thing.fields[0] == "lost":
+        if thing.fault in OF_PACKET:
+            if thing.fault == "lost":
                 self.packet = None
             return
         if self.packet:
             yield self.packet
-        self.packet = (thing.line, "p", list(thing.fields)) if thing.kind == "packet" else None
+        self.packet = (thing.line, "p", list(thing.texts)) if thing.kind == "packet" else None
 
 
 class Pictures:

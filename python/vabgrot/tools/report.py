@@ -277,7 +277,7 @@ def sound_of(found, clock):
             "times": times,
             "rows": [(name, one, other) for (name, one), (_, other) in zip(*map(packets.channel_status, both))],
         }
-        for both, times in sound.blocks.told.most_common(4)
+        for both, times in sound.blocks.found.most_common(4)
     ]
     return {
         "says": says,
