@@ -20,7 +20,11 @@ from vabgrot.video.colours import DEPTHS
 
 STATUS_BYTES = BLOCK // 8
 SIDE = 3  # bytes of a sample of one channel
-NAMED = {7: "One Bit Audio", 8: "DST audio", 9: "high bit rate audio (IEC 61937)"}  # packets of sound that is no PCM, by their type
+NAMED = {
+    7: "One Bit Audio",
+    8: "DST audio",
+    9: "high bit rate audio (IEC 61937)",
+}  # packets of sound that is no PCM, by their type
 Line = tuple[int, str, list[str]]
 
 

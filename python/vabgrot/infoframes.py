@@ -19,16 +19,44 @@ RANGES = ("default range", "limited range", "full range", "reserved range")
 YCC_RANGES = ("limited range", "full range", "reserved range", "reserved range")
 SCALINGS = ("none told", "scaled across", "scaled down", "scaled both ways")
 CONTENTS = ("graphics", "photo", "cinema", "game")
-ACTIVE = {2: "box 16:9, at the top", 3: "box 14:9, at the top", 4: "box over 16:9", 8: "as the picture", 9: "4:3", 10: "16:9", 11: "14:9"}
+ACTIVE = {
+    2: "box 16:9, at the top",
+    3: "box 14:9, at the top",
+    4: "box over 16:9",
+    8: "as the picture",
+    9: "4:3",
+    10: "16:9",
+    11: "14:9",
+}
 ACTIVE |= {13: "4:3, made for 14:9", 14: "16:9, made for 14:9", 15: "16:9, made for 4:3"}
-CODINGS: tuple[str, ...] = ("by the stream", "PCM", "AC-3", "MPEG-1", "MP3", "MPEG-2", "AAC", "DTS", "ATRAC", "One Bit Audio", "E-AC-3")
+CODINGS: tuple[str, ...] = (
+    "by the stream",
+    "PCM",
+    "AC-3",
+    "MPEG-1",
+    "MP3",
+    "MPEG-2",
+    "AAC",
+    "DTS",
+    "ATRAC",
+    "One Bit Audio",
+    "E-AC-3",
+)
 CODINGS += ("DTS-HD", "MAT", "DST", "WMA Pro", "extended")
 FURTHER = {4: "HE AAC", 5: "HE AAC v2", 6: "AAC LC", 7: "DRA", 8: "HE AAC with MPEG Surround", 10: "AAC LC with MPEG Surround"}
 FURTHER |= {11: "MPEG-H 3D Audio", 12: "AC-4", 13: "3D Audio of PCM"}
 FREQUENCIES = (0, 32_000, 44_100, 48_000, 88_200, 96_000, 176_400, 192_000)  # SF of an audio InfoFrame, in Hz; 0 by the stream
 SIZES = ("by the stream", "16 bits", "20 bits", "24 bits")
 LFE_LEVELS = ("none told", "0 dB", "10 dB", "reserved")
-SOURCES: tuple[str, ...] = ("unknown", "digital set-top box", "DVD player", "D-VHS", "hard disk recorder", "DVC", "digital still camera")
+SOURCES: tuple[str, ...] = (
+    "unknown",
+    "digital set-top box",
+    "DVD player",
+    "D-VHS",
+    "hard disk recorder",
+    "DVC",
+    "digital still camera",
+)
 SOURCES += ("Video CD", "game console", "PC", "Blu-ray player", "Super Audio CD", "HD DVD", "PMP")
 HDMI, FORUM = 0x000C03, 0xC45DD8  # the identifiers of vendor InfoFrames
 FOUR_K = {1: "3840 × 2160 at 30 Hz", 2: "3840 × 2160 at 25 Hz", 3: "3840 × 2160 at 24 Hz", 4: "4096 × 2160 at 24 Hz"}
@@ -131,7 +159,9 @@ def avi_of(version: int, data: bytes) -> Avi:
     y, vic = (one >> 5 & 3, four & 127) if version < 3 else (one >> 5, four)
     ace = data[14] >> 4 if version > 3 else 0
     first = (y, one >> 4 & 1, one >> 2 & 3, one & 3, two >> 6, two >> 4 & 3, two & 15)
-    return Avi(*first, three >> 7, three >> 4 & 7, three >> 2 & 3, three & 3, vic, five >> 6, five >> 4 & 3, five & 15, bars, ace)
+    return Avi(
+        *first, three >> 7, three >> 4 & 7, three >> 2 & 3, three & 3, vic, five >> 6, five >> 4 & 3, five & 15, bars, ace
+    )
 
 
 def avi(version: int, data: bytes) -> list[Row]:
@@ -224,7 +254,9 @@ def vendor(payload: bytes) -> list[Row]:
 def _licensing(left: bytes) -> list[Row]:
     """PB4 and what follows."""
     form = left[0] >> 5
-    says = {0: "none beside the AVI InfoFrame's", 1: "extended resolution", 2: "3D"}.get(form, f"format {form}, which is reserved")
+    says = {0: "none beside the AVI InfoFrame's", 1: "extended resolution", 2: "3D"}.get(
+        form, f"format {form}, which is reserved"
+    )
     rows = [Row("video format", says, f"HDMI_Video_Format {form}")]
     if form == 1 and len(left) > 1:
         rows.append(Row("picture", word(FOUR_K, left[1]), f"HDMI_VIC {left[1]}"))
@@ -260,7 +292,10 @@ def _forum(left: bytes) -> list[Row]:
 def mastering(data: bytes) -> list[Row]:
     """The rows of a dynamic range and mastering InfoFrame (CTA-861, section 6.9)."""
     curve, kind = data[1] & 7, data[2] & 7
-    rows = [Row("curve", word(CURVES, curve), f"EOTF {curve}"), Row("metadata", f"type {kind + 1}", f"Static_Metadata_Descriptor_ID {kind}")]
+    rows = [
+        Row("curve", word(CURVES, curve), f"EOTF {curve}"),
+        Row("metadata", f"type {kind + 1}", f"Static_Metadata_Descriptor_ID {kind}"),
+    ]
     if kind:
         return [*rows, Row("payload", data[3:27].hex())]
     numbers = [data[at] | data[at + 1] << 8 for at in range(3, 27, 2)]
@@ -282,7 +317,9 @@ def protection(header: bytes, data: bytes) -> list[Row]:
     if kind == 2:
         permission, count, quality, transaction = data[1] >> 6, data[1] >> 3 & 7, data[1] >> 1 & 3, data[1] & 1
         rows.append(Row("generation", f"{data[0]}", f"DVD-Audio_Type_Dependent_Generation {data[0]}"))
-        rows.append(Row("copying", f"permission {permission}, number {count}", f"Copy_Permission {permission}, Copy_Number {count}"))
+        rows.append(
+            Row("copying", f"permission {permission}, number {count}", f"Copy_Permission {permission}, Copy_Number {count}")
+        )
         rows.append(Row("quality", f"{quality}", f"Quality {quality}, Transaction {transaction}"))
     elif kind == 3:
         rows.append(Row("copy control", data[:16].hex(), "CCI_1"))
@@ -309,8 +346,16 @@ def gamut(header: bytes, data: bytes) -> list[Row]:
     rows = [
         Row("profile", f"P{profile}", f"GBD_profile {profile}"),
         Row("packet", SEQUENCES[sequence], f"Packet_Seq {sequence}"),
-        Row("begins", f"with gamut {affected}, at the next field" if header[1] >> 7 else f"with gamut {affected}", f"Next_Field {header[1] >> 7}, Affected_Gamut_Seq_Num {affected}"),
-        Row("now", "no gamut" if header[2] >> 7 else f"gamut {current}", f"No_Crnt_GBD {header[2] >> 7}, Current_Gamut_Seq_Num {current}"),
+        Row(
+            "begins",
+            f"with gamut {affected}, at the next field" if header[1] >> 7 else f"with gamut {affected}",
+            f"Next_Field {header[1] >> 7}, Affected_Gamut_Seq_Num {affected}",
+        ),
+        Row(
+            "now",
+            "no gamut" if header[2] >> 7 else f"gamut {current}",
+            f"No_Crnt_GBD {header[2] >> 7}, Current_Gamut_Seq_Num {current}",
+        ),
     ]
     if profile == 0 and sequence & 1:
         form, precision, space = data[0] >> 7, data[0] >> 3 & 3, data[0] & 7

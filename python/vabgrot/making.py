@@ -56,7 +56,9 @@ LAYOUTS = {
         {"HDMI_Video_Format": (4, 5, 3), "3D_Structure": (5, 4, 4), "3D_Ext_Data": (6, 4, 4)},
         preset=bytes(1) + HDMI.to_bytes(3, "little") + bytes([2 << 5]),
     ),
-    "forum": Layout((0x81, 1, 7), {"3D_Valid": (5, 0, 1), "ALLM_Mode": (5, 1, 1)}, preset=bytes(1) + FORUM.to_bytes(3, "little") + b"\1"),
+    "forum": Layout(
+        (0x81, 1, 7), {"3D_Valid": (5, 0, 1), "ALLM_Mode": (5, 1, 1)}, preset=bytes(1) + FORUM.to_bytes(3, "little") + b"\1"
+    ),
     "mpeg": Layout((0x85, 1, 10), {"MB": (1, 0, 32), "MF": (5, 0, 2), "FR": (5, 4, 1)}),
     "dynamic": Layout(
         (0x87, 1, 26),

@@ -8,7 +8,7 @@ from typing import NamedTuple
 from vabgrot import infoframes, listing
 from vabgrot.formats.audio import ACCURACY, CODED, WORDS
 from vabgrot.formats.modes import VICS
-from vabgrot.infoframes import Row, mode_name
+from vabgrot.infoframes import Row
 
 NAMES = {
     0x00: "Null",
@@ -34,8 +34,9 @@ LENGTHS = {(0x82, 2): 13, (0x84, 1): 10, (0x83, 1): 25}
 READ_TOO = {(0x82, 3): 13, (0x82, 4): 14, (0x85, 1): 10, (0x87, 1): 26}  # those of a wrong length are shown as bytes
 DEPTHS = {0: "no depth told", 4: "24 bits", 5: "30 bits", 6: "36 bits", 7: "48 bits"}
 PAIRS = 4  # of channels, which the four bodies of a packet of samples in layout 1 are of
-SHORT = frozenset("format,picture,aspect,range,channels,coding,vendor,product,kind of source,registered to,structure,curve".split(","))
-__all__ = ["Content", "Packet", "Row", "Sample", "channel_status", "clock_numbers", "content_of", "is_other_size", "mode_name", "packet_of"]
+SHORT = frozenset(
+    "format,picture,aspect,range,channels,coding,vendor,product,kind of source,registered to,structure,curve".split(",")
+)
 
 
 class Packet(NamedTuple):
@@ -76,11 +77,7 @@ class Sample(NamedTuple):
     def uneven(self) -> list[str]:
         """The sides, l and r, whose parity is odd."""
         sides = (("l", self.left, self.left_flags), ("r", self.right, self.right_flags))
-        return [
-            name
-            for name, value, flags in sides
-            if (int.from_bytes(value, "little").bit_count() + flags.bit_count()) % 2
-        ]
+        return [name for name, value, flags in sides if (int.from_bytes(value, "little").bit_count() + flags.bit_count()) % 2]
 
 
 @dataclass
@@ -176,7 +173,10 @@ def control(packet: Packet) -> Content:
     depth, phase = second & 15, second >> 4
     words = DEPTHS.get(depth, f"depth {depth}, which is reserved")
     faults = [] if depth in (0, 4) else [f"depth {depth}"]
-    rows = [Row("mute", mute or "as it is", f"Set_AVMUTE {first & 1}, Clear_AVMUTE {first >> 4 & 1}"), Row("depth of colour", words, f"CD {depth}")]
+    rows = [
+        Row("mute", mute or "as it is", f"Set_AVMUTE {first & 1}, Clear_AVMUTE {first >> 4 & 1}"),
+        Row("depth of colour", words, f"CD {depth}"),
+    ]
     if depth in (5, 6, 7):
         rows.append(Row("packing phase", f"of the last column of pixels {phase or 4 * (depth == 5)}", f"PP {phase}"))
         rows.append(Row("rows begin", "at phase 0" if third & 1 else "at any phase", f"Default_Phase {third & 1}"))

@@ -123,7 +123,9 @@ def test_by_pairs(tool, program, image, tmp_path):
     listing = tool("content", image, "--mode", MODE, *CLOCK, "--sound", tmp_path / "a.wav").stdout
     capture = program("make", "content", source=listing)
     for pair in range(3):
-        (tmp_path / f"{pair}").write_bytes(program("read", "biphase", source=program("recover", "biphase", pair, source=capture)))
+        (tmp_path / f"{pair}").write_bytes(
+            program("read", "biphase", source=program("recover", "biphase", pair, source=capture))
+        )
     came = tool("sound", tmp_path / "b.wav", "--pairs", *(tmp_path / f"{pair}" for pair in range(3)))
     assert read_wav(tmp_path / "b.wav") == (48000, 24, 0x3F, frames)
     assert b"no audio InfoFrame tells the speakers: allocation 11 is taken" in came.stderr
@@ -225,7 +227,9 @@ def test_files_without_speakers(tool, image, tmp_path):
     frames = noise(6, 3, 16)
     (tmp_path / "a.wav").write_bytes(wav(frames, 16, 0))
     (tmp_path / "b.wav").write_bytes(wav(frames, 16, 0x3F))
-    one, other = (tool("content", image, "--mode", MODE, *CLOCK, "--sound", tmp_path / name).stdout for name in ("a.wav", "b.wav"))
+    one, other = (
+        tool("content", image, "--mode", MODE, *CLOCK, "--sound", tmp_path / name).stdout for name in ("a.wav", "b.wav")
+    )
     assert one == other and b"audio 5 0 0 0 11 0 0\n" in one
     (tmp_path / "c.wav").write_bytes(wav(frames, 16, 0x5033))
     assert b"audio 5 0 0 0 36 0 0\n" in tool("content", image, "--mode", MODE, *CLOCK, "--sound", tmp_path / "c.wav").stdout
@@ -249,7 +253,9 @@ def test_reserved_allocations(tool, tmp_path):
 def test_packets_have_room(tool, image, tmp_path):
     """Of layout 1 each sample is a packet: 480 a frame, and an InfoFrame for the picture, one for the sound and the clock."""
     (tmp_path / "a.wav").write_bytes(wav(noise(6, 500, 16), 16, 0x3F))
-    said = tool("content", image, "--mode", "2,4,16,320,1,1,20,1,1", "--clock", 786600, "--sound", tmp_path / "a.wav", status=3).stderr
+    said = tool(
+        "content", image, "--mode", "2,4,16,320,1,1,20,1,1", "--clock", 786600, "--sound", tmp_path / "a.wav", status=3
+    ).stderr
     assert b", and 483 are wanted" in said
 
 

@@ -8,6 +8,8 @@ import png
 import pytest
 from PIL import Image
 
+from tests.tools.columns import place_of
+
 MODE = "8,4,16,64,4,1,2,1,1"
 HEAD = "avi 2 0 1 {y} 8 0 {c} 0 {q} {ec} 0 {vic} {pr} 0 0 0 0\n"
 KR_KB = {"601": ("0.299", "0.114"), "709": ("0.2126", "0.0722"), "2020": ("0.2627", "0.0593")}
@@ -16,6 +18,7 @@ PIXELS = [
     *[(65535, 0, 65535), (32896, 32896, 32896), (1, 2, 3), (4000, 40000, 60000), (12345, 23456, 34567), (60000, 1000, 30000)],
     *[(257, 514, 771), (50000, 50001, 50002), (65534, 32767, 1)],
 ]
+BYTES = b"the bytes of the lanes are shown as red, green and blue"
 PICTURE = PIXELS + PIXELS[::-1]  # 8 by 4
 
 
@@ -191,7 +194,10 @@ def test_repeated_pixels_are_taken_out(tool, program, tmp_path):
     assert b"avi 2 0 1 0 8 0 0 0 2 0 0 0 1 " in listing and rows_in(listing)[0][:12] == "000000000000"
     tool("pictures", tmp_path / "out", source=listing)
     assert read_png(tmp_path / "out" / "frame0000.png")[1:] == ((4, 4), list(image.getdata()))
-    assert b"8 pixels of a row are no whole number" in tool("content", tmp_path / "a.png", "--mode", MODE, "--repeat", 3, status=3).stderr
+    assert (
+        b"8 pixels of a row are no whole number"
+        in tool("content", tmp_path / "a.png", "--mode", MODE, "--repeat", 3, status=3).stderr
+    )
 
 
 @pytest.mark.parametrize(
@@ -199,14 +205,35 @@ def test_repeated_pixels_are_taken_out(tool, program, tmp_path):
     [
         ("", [b"frame 0: no AVI InfoFrame came: the pixels are taken for RGB of full range"]),
         (HEAD.format(y=2, c=1, q=1, ec=0, vic=0, pr=0), []),
-        (HEAD.format(y=2, c=0, q=1, ec=0, vic=0, pr=0), [b"frame 0: no colorimetry is told: BT.601 is taken, as CTA-861 has it for 4 pixels a row"]),
-        (HEAD.format(y=2, c=0, q=1, ec=0, vic=16, pr=0), [b"frame 0: no colorimetry is told: BT.709 is taken, as CTA-861 has it for 1920 pixels a row"]),
-        (HEAD.format(y=2, c=1, q=0, ec=0, vic=0, pr=0), [b"frame 0: the range of YCbCr is not told by a content listing: the limited one is taken"]),
-        (HEAD.format(y=2, c=3, q=1, ec=5, vic=0, pr=0), [b"frame 0: the colorimetry BT.2020 of constant luminance is not converted: the bytes of the lanes are shown as red, green and blue"]),
-        (HEAD.format(y=0, c=0, q=0, ec=0, vic=16, pr=0), [b"frame 0: RGB of the default range, which CTA-861 makes the limited one here, is shown as it was sent"]),
+        (
+            HEAD.format(y=2, c=0, q=1, ec=0, vic=0, pr=0),
+            [b"frame 0: no colorimetry is told: BT.601 is taken, as CTA-861 has it for 4 pixels a row"],
+        ),
+        (
+            HEAD.format(y=2, c=0, q=1, ec=0, vic=16, pr=0),
+            [b"frame 0: no colorimetry is told: BT.709 is taken, as CTA-861 has it for 1920 pixels a row"],
+        ),
+        (
+            HEAD.format(y=2, c=1, q=0, ec=0, vic=0, pr=0),
+            [b"frame 0: the range of YCbCr is not told by a content listing: the limited one is taken"],
+        ),
+        (
+            HEAD.format(y=2, c=3, q=1, ec=5, vic=0, pr=0),
+            [b"frame 0: the colorimetry BT.2020 of constant luminance is not converted: " + BYTES],
+        ),
+        (
+            HEAD.format(y=0, c=0, q=0, ec=0, vic=16, pr=0),
+            [b"frame 0: RGB of the default range, which CTA-861 makes the limited one here, is shown as it was sent"],
+        ),
         (HEAD.format(y=0, c=0, q=0, ec=0, vic=1, pr=0), []),
-        (HEAD.format(y=3, c=0, q=0, ec=0, vic=0, pr=0), [b"frame 0: YCbCr 4:2:0 are not converted: the bytes of the lanes are shown as red, green and blue"]),
-        (HEAD.format(y=0, c=0, q=2, ec=0, vic=0, pr=0) + "gcp 0 0 9\n", [b"frame 0: the depth 9 of a general control packet is reserved: 24 bits are taken"]),
+        (
+            HEAD.format(y=3, c=0, q=0, ec=0, vic=0, pr=0),
+            [b"frame 0: YCbCr 4:2:0 are not converted: " + BYTES],
+        ),
+        (
+            HEAD.format(y=0, c=0, q=2, ec=0, vic=0, pr=0) + "gcp 0 0 9\n",
+            [b"frame 0: the depth 9 of a general control packet is reserved: 24 bits are taken"],
+        ),
     ],
 )
 def test_what_is_assumed_is_said(tool, tmp_path, head, notes):
@@ -221,48 +248,31 @@ def test_a_depth_of_0_leaves_the_last_one(tool, tmp_path):
     assert read_png(tmp_path / "frame0000.png") == (16, (1, 1), [(1, 2, 3)])
 
 
-def places_of(listing):
-    """The columns of the first pixels of the rows of a link listing."""
-    at, found = 0, []
-    for line in listing.decode().splitlines():
-        name, *fields = line.split(" ")
-        if name == "v":
-            found.append(at + 2)
-            at += 2 + len(fields[0]) // 6
-        else:
-            at += {"c": lambda: int(fields[1]), "p": lambda: 32, "i": lambda: 2, "e": lambda: 2}.get(name, lambda: 0)()
-    return found
-
-
-@pytest.mark.parametrize("words", [["--encoding", "ycbcr444"], ["--encoding", "ycbcr422"], ["--depth", 36], ["--encoding", "ycbcr444", "--depth", 30]])
+@pytest.mark.parametrize(
+    "words",
+    [["--encoding", "ycbcr444"], ["--encoding", "ycbcr422"], ["--depth", 36], ["--encoding", "ycbcr444", "--depth", 30]],
+)
 def test_damaged_pixels_are_marked(tool, program, deep, tmp_path, words):
-    """One character of green, or of Y, becomes a control character, which codes no byte: no pixel but those that have bits of it is another, and the mark is round the first."""
+    """One character of green, or of Y, becomes a control character, which codes no byte: no pixel but those that have bits of it is
+    another, and the mark is round the first."""
     bits = words[-1] if words[-2] == "--depth" else 24
     listing = tool("content", deep, deep, "--mode", MODE, *words).stdout
     capture = program("make", "content", source=listing)
     clean = program("recover", "link", source=capture)
     column, row = 3, 3
-    first = places_of(clean)[4 + row]  # of the second frame
-    before = (len(capture) - 8) * 8 // 30 - columns_in(clean)  # columns before the first aligned one
-    damaged = program("damage", f"1:{10 * (first + column + before)}:354", source=capture)
+    place = place_of(capture, clean, 4 + row, column)  # of the second frame
+    damaged = program("damage", f"1:{place}:354", source=capture)
     link = program("recover", "link", source=damaged, status=1)
     tool("pictures", tmp_path / "clean", source=clean)
     assert b"frame 1: 1 code\n" in tool("pictures", tmp_path / "hurt", "--mark", source=link, status=1).stderr
     (_, size, one), (_, _, other) = (read_png(tmp_path / name / "frame0001.png") for name in ("clean", "hurt"))
     touched = {(x, row) for x in range(8 * column // (bits // 3), (8 * column + 7) // (bits // 3) + 1)}
     pixel = min(x for x, _ in touched)
-    box = {(x, y) for x in range(pixel - 2, pixel + 3) for y in range(row - 2, row + 3) if abs(x - pixel) == 2 or abs(y - row) == 2}
+    box = {
+        (x, y) for x in range(pixel - 2, pixel + 3) for y in range(row - 2, row + 3) if abs(x - pixel) == 2 or abs(y - row) == 2
+    }
     changed = {(place % size[0], place // size[0]) for place in range(len(one)) if one[place] != other[place]}
     assert changed & touched and changed <= box | touched
-
-
-def columns_in(listing):
-    """How many columns a link listing has."""
-    at = 0
-    for line in listing.decode().splitlines():
-        name, *fields = line.split(" ")
-        at += {"c": lambda: int(fields[1]), "v": lambda: 2 + len(fields[0]) // 6, "p": lambda: 32}.get(name, lambda: 2 * (name in ("i", "e")))()
-    return at
 
 
 UPPER, LOWER = ["101112", "202122", "303132"], ["909192", "a0a1a2", "b0b1b2"]
@@ -343,7 +353,14 @@ def test_fields_of_a_content_listing_are_not_woven(tool, tmp_path):
 
 
 def test_bad_words(tool, deep):
-    for words in (["--depth", 27], ["--encoding", "rgb565"], ["--repeat", 11], ["--range", "wide"], ["--allocation", 3], ["--matrix", "1"]):
+    for words in (
+        ["--depth", 27],
+        ["--encoding", "rgb565"],
+        ["--repeat", 11],
+        ["--range", "wide"],
+        ["--allocation", 3],
+        ["--matrix", "1"],
+    ):
         tool("content", deep, "--mode", MODE, *words, status=2)
     said = tool("content", deep, "--mode", MODE, "--encoding", "ycbcr422", "--depth", 48, status=3).stderr
     assert b"YCbCr 4:2:2 has 24, 30 or 36 bits" in said

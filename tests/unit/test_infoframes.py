@@ -61,10 +61,16 @@ def test_avi_of_version_3():
     }
     assert told(infoframe(0x82, 2, AVI.replace(" ", "")))["picture"][1] == "VIC 65"  # seven bits of VIC in version 2
     assert told(infoframe(0x82, 3, "60" + "00" * 12))["format"] == ("YCbCr 4:2:0", "Y 3")
-    assert told(infoframe(0x82, 4, "00c070" + "00" * 10 + "10"))["colour"] == ("extended: DCI-P3 of a theatre", "C 3, EC 7, ACE 1")
+    assert told(infoframe(0x82, 4, "00c070" + "00" * 10 + "10"))["colour"] == (
+        "extended: DCI-P3 of a theatre",
+        "C 3, EC 7, ACE 1",
+    )
 
 
-@pytest.mark.parametrize("form, picture", enumerate(["3840 × 2160 at 30 Hz", "3840 × 2160 at 25 Hz", "3840 × 2160 at 24 Hz", "4096 × 2160 at 24 Hz"], 1))
+@pytest.mark.parametrize(
+    "form, picture",
+    enumerate(["3840 × 2160 at 30 Hz", "3840 × 2160 at 25 Hz", "3840 × 2160 at 24 Hz", "4096 × 2160 at 24 Hz"], 1),
+)
 def test_4k_formats_of_hdmi_1_4(form, picture):
     """PB4: the format 001 in bits 5 to 7; PB5: HDMI_VIC."""
     rows = told(infoframe(0x81, 1, f"030c0020{form:02x}"))
@@ -89,7 +95,10 @@ def test_4k_formats_of_hdmi_1_4(form, picture):
         ),
         (
             "030c004008080102030405060708",
-            {"structure": ("frame packing", "3D_Structure 0"), "metadata": ("parallax: 0102030405060708", "3D_Metadata_type 0")},
+            {
+                "structure": ("frame packing", "3D_Structure 0"),
+                "metadata": ("parallax: 0102030405060708", "3D_Metadata_type 0"),
+            },
         ),
     ],
 )
@@ -107,11 +116,17 @@ def test_dynamic_range():
     """CTA-861: primaries in 0.00002, low byte first; D65 is 15635, 16450. 1,000 cd/m² at most, 0.005 at least."""
     payload = "0200 3075 604d d08b ac0d 4c1d 983a 133d 4240 e803 3200 e803 9001".replace(" ", "")
     rows = told(infoframe(0x87, 1, payload))
-    assert rows["curve"] == ("SMPTE ST 2084 (PQ)", "EOTF 2") and rows["metadata"] == ("type 1", "Static_Metadata_Descriptor_ID 0")
+    assert rows["curve"] == ("SMPTE ST 2084 (PQ)", "EOTF 2") and rows["metadata"] == (
+        "type 1",
+        "Static_Metadata_Descriptor_ID 0",
+    )
     assert rows["primary 0"] == ("x 0.60000, y 0.39616", "30000, 19808")
     assert rows["white point"] == ("x 0.31270, y 0.32900", "15635, 16450")
     assert rows["greatest luminance"] == ("1000 cd/m²", "1000") and rows["least luminance"] == ("0.0050 cd/m²", "50")
-    assert rows["content light level"] == ("at most 1000 cd/m²", "MaxCLL 1000") and rows["frame's average"] == ("at most 400 cd/m²", "MaxFALL 400")
+    assert rows["content light level"] == ("at most 1000 cd/m²", "MaxCLL 1000") and rows["frame's average"] == (
+        "at most 400 cd/m²",
+        "MaxFALL 400",
+    )
 
 
 def test_isrc_acp_and_gamut():
@@ -123,9 +138,15 @@ def test_isrc_acp_and_gamut():
     assert told(packet("060000", text))["second half"][0] == "USRC17607839"
     rows = told(packet("040200", "01 9b"))
     assert rows["kind"] == ("DVD-Audio", "ACP_Type 2")
-    assert rows["copying"] == ("permission 2, number 3", "Copy_Permission 2, Copy_Number 3") and rows["quality"] == ("1", "Quality 1, Transaction 1")
+    assert rows["copying"] == ("permission 2, number 3", "Copy_Permission 2, Copy_Number 3") and rows["quality"] == (
+        "1",
+        "Quality 1, Transaction 1",
+    )
     rows = told(packet("0a8533", "8a"))
-    assert rows["profile"] == ("P0", "GBD_profile 0") and rows["begins"] == ("with gamut 5, at the next field", "Next_Field 1, Affected_Gamut_Seq_Num 5")
+    assert rows["profile"] == ("P0", "GBD_profile 0") and rows["begins"] == (
+        "with gamut 5, at the next field",
+        "Next_Field 1, Affected_Gamut_Seq_Num 5",
+    )
     assert rows["described by"] == ("a range", "Format_Flag 1") and rows["numbers"] == ("10 bits", "GBD_Color_Precision 1")
     assert rows["space"] == ("xvYCC709", "GBD_Color_Space 2") and rows["packet"] == ("the only one", "Packet_Seq 3")
 
@@ -156,7 +177,11 @@ def test_samples_of_layout_1():
     """Bodies 0, 1 and 3: channels 1 and 2, 3 and 4, 7 and 8."""
     content = packets.content_of(packet("021b90", "010000 020000 88 030000 040000 88" + "00" * 7 + "050000 060000 00"))
     assert content.words == "1 sample of more than two channels: 1, 2 and 3, 4 and 7, 8, a block starts"
-    assert [(it.pair, it.left[0], it.right[0], it.start) for it in content.pairs] == [(0, 1, 2, True), (1, 3, 4, False), (3, 5, 6, True)]
+    assert [(it.pair, it.left[0], it.right[0], it.start) for it in content.pairs] == [
+        (0, 1, 2, True),
+        (1, 3, 4, False),
+        (3, 5, 6, True),
+    ]
 
 
 def test_wrong_infoframes():
@@ -167,7 +192,9 @@ def test_wrong_infoframes():
 
 def numbers(kind, source):
     layout = making.LAYOUTS[kind]
-    return {name: source.randrange(1 << bits) for name, (_, _, bits) in (*layout.fields.items(), *(layout.in_header or {}).items())}
+    return {
+        name: source.randrange(1 << bits) for name, (_, _, bits) in (*layout.fields.items(), *(layout.in_header or {}).items())
+    }
 
 
 @pytest.mark.parametrize("kind", making.LAYOUTS)
@@ -275,16 +302,32 @@ def test_formats_of_edid_decode():
     found = re.findall(r"^VIC +(\d+): +(\d+)x(\d+) +([\d.]+) Hz", text, re.M)
     wanted = {int(code): f"{across} × {down} at {float(rate):g} Hz" for code, across, down, rate in found if int(code) > 107}
     assert LATER_NAMES == wanted
-    assert mode_name(118) == "3840 × 2160 at 120 Hz (code 118)" and mode_name(6) == "720 × 480 at 59.94 fields a second, interlaced (code 6)"
+    assert (
+        mode_name(118) == "3840 × 2160 at 120 Hz (code 118)"
+        and mode_name(6) == "720 × 480 at 59.94 fields a second, interlaced (code 6)"
+    )
     assert mode_name(150) == "video identification code 150"
 
 
 def test_allocations():
     """CTA-861: of 7.1 the rear centres are channels 7 and 8; the order of a WAV file is that of its mask."""
     assert len(speakers.ALLOCATIONS) == 0x32 and all(len(row) == 8 for row in speakers.ALLOCATIONS)
-    assert speakers.words(0x0B) == "FL FR LFE FC RL RR" and speakers.places(speakers.speakers(0x0B)[:6]) == ([0, 1, 3, 2, 4, 5], 0x3F)
+    assert speakers.words(0x0B) == "FL FR LFE FC RL RR" and speakers.places(speakers.speakers(0x0B)[:6]) == (
+        [0, 1, 3, 2, 4, 5],
+        0x3F,
+    )
     assert speakers.places(speakers.speakers(0x13)) == ([0, 1, 3, 2, 6, 7, 4, 5], 0x63F)
-    assert [speakers.of_mask(mask) for mask in (0x4, 0x3, 0x7, 0x33, 0x3F, 0x60F, 0x63F, 0xFF, 0x5003)] == [0, 0, 2, 8, 11, 11, 19, 31, None]
+    assert [speakers.of_mask(mask) for mask in (0x4, 0x3, 0x7, 0x33, 0x3F, 0x60F, 0x63F, 0xFF, 0x5003)] == [
+        0,
+        0,
+        2,
+        8,
+        11,
+        11,
+        19,
+        31,
+        None,
+    ]
     assert speakers.words(0x32) == "an allocation that is reserved"
 
 

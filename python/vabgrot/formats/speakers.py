@@ -81,9 +81,32 @@ WORDS = {
     "FRW": "front right wide",
 }
 # The bits of a WAV file's channel mask, in the order in which its channels stand. FLW and FRW have none there.
-MASK = {"FL": 0, "FR": 1, "FC": 2, "LFE": 3, "RL": 4, "RR": 5, "FLC": 6, "FRC": 7, "RC": 8, "TC": 11, "FLH": 12, "FCH": 13, "FRH": 14}
+MASK = {
+    "FL": 0,
+    "FR": 1,
+    "FC": 2,
+    "LFE": 3,
+    "RL": 4,
+    "RR": 5,
+    "FLC": 6,
+    "FRC": 7,
+    "RC": 8,
+    "TC": 11,
+    "FLH": 12,
+    "FCH": 13,
+    "FRH": 14,
+}
 BESIDE = {"RL": 9, "RR": 10, "RLC": 4, "RRC": 5}  # where four are in the rear: the outer ones are the sides of a WAV file
-USUAL = {1: 0x00, 2: 0x00, 3: 0x01, 4: 0x08, 5: 0x0A, 6: 0x0B, 7: 0x0F, 8: 0x13}  # the allocation of a sound of so many channels
+USUAL = {
+    1: 0x00,
+    2: 0x00,
+    3: 0x01,
+    4: 0x08,
+    5: 0x0A,
+    6: 0x0B,
+    7: 0x0F,
+    8: 0x13,
+}  # the allocation of a sound of so many channels
 
 
 def speakers(allocation: int) -> tuple[str, ...]:

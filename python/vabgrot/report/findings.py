@@ -79,6 +79,7 @@ class Sound:
         self.clock: tuple[int, int] | None = None  # N and CTS
         self.vic = 0  # of the first AVI InfoFrame that names one
         self.blocks = Blocks()
+        self.is_wide = False  # of more than two channels, of which the first two are kept
 
     @property
     def samples(self) -> int:
@@ -87,7 +88,8 @@ class Sound:
 
     def take(self, content: packets.Content) -> None:
         """The samples of the next packet, if it has some."""
-        for sample in content.samples:
+        self.is_wide |= bool(content.pairs)
+        for sample in content.samples or content.pairs[:1]:
             self.left += sample.left[::-1]
             self.right += sample.right[::-1]
             self.blocks.take(sample)

@@ -190,7 +190,9 @@ def signal_words(parser: ArgumentParser) -> None:
     parser.add_argument("--matrix", choices=list(MATRICES), help=text)
     text = "the range of pixels: %(choices)s; if left out, full of RGB and limited of YCbCr"
     parser.add_argument("--range", choices=RANGES, help=text)
-    text = "the bits of a pixel: %(choices)s; if left out, 24. A component has a third of them; a PNG file of 16 bits keeps them"
+    text = (
+        "the bits of a pixel: %(choices)s; if left out, 24. A component has a third of them; a PNG file of 16 bits keeps them"
+    )
     parser.add_argument("--depth", type=int, choices=sorted(CODES), default=24, help=text)
     text = "send each pixel N times, 1 to 10: the images have so many fewer pixels a row than the mode"
     parser.add_argument("--repeat", type=int, choices=range(1, 11), default=1, metavar="N", help=text)
@@ -207,9 +209,7 @@ def work(argv: list[str] | None) -> int:
     mode.add_argument("--vic", type=int, choices=sorted(VICS), metavar="V", help=text)
     text = "a mode of your own: active, front, sync and back, across and down, and 1 for positive sync pulses"
     mode.add_argument("--mode", type=mode_of, metavar="HA,HF,HS,HB,VA,VF,VS,VB,P", help=text)
-    text = (
-        f"the pixel clock; if left out, the code's at 60 or 50 frames a second, and {CUSTOM_CLOCK} with --mode"
-    )
+    text = f"the pixel clock; if left out, the code's at 60 or 50 frames a second, and {CUSTOM_CLOCK} with --mode"
     parser.add_argument("--clock", type=int, metavar="HZ", help=text)
     text = "what is done with an image of another size than the mode's; if left out, it is refused"
     parser.add_argument("--fit", choices=["refuse", "scale"], default="refuse", help=text)
@@ -246,7 +246,9 @@ def work(argv: list[str] | None) -> int:
 def refuse_long(args: Namespace, sender: Sender) -> None:
     """Refuses images that do not fit the mode, and more columns than a row or a listing has."""
     if sender.mode.active_across % args.repeat:
-        raise Refused(f"the {sender.mode.active_across} pixels of a row are no whole number of pixels that are sent {args.repeat} times")
+        raise Refused(
+            f"the {sender.mode.active_across} pixels of a row are no whole number of pixels that are sent {args.repeat} times"
+        )
     if args.fit == "refuse":
         refuse_unfit(args.images, sender.picture)
     if sender.columns.active_across > MOST_LENGTH:

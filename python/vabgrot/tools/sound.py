@@ -63,7 +63,10 @@ def heard_of(args: argparse.Namespace) -> Heard:
             raise Refused(f"{path}: the listing has no samples")
     short = min(heard.samples for heard in found)
     if any(heard.samples != short for heard in found):
-        print(f"sound: the pairs have {', '.join(str(heard.samples) for heard in found)} samples: {short} of each are taken", file=sys.stderr)
+        print(
+            f"sound: the pairs have {', '.join(str(heard.samples) for heard in found)} samples: {short} of each are taken",
+            file=sys.stderr,
+        )
     return joined(found)
 
 

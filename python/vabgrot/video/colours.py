@@ -203,7 +203,9 @@ def coloured(columns: Bytes, signal: Signal) -> Bytes | Samples:
     if signal.encoding == Encoding.YCC422:
         found, signal = _source(found, signal)
     is_deep = signal.component > BYTE
-    colours: Bytes | Samples = np.floor(parts(found, signal) * (65_535 if is_deep else 255) + HALF).astype(np.uint16 if is_deep else np.uint8)
+    colours: Bytes | Samples = np.floor(parts(found, signal) * (65_535 if is_deep else 255) + HALF).astype(
+        np.uint16 if is_deep else np.uint8
+    )
     return colours
 
 

@@ -54,7 +54,9 @@ def colours_of(rows: Sequence[bytes], width: int, signal: Signal) -> Colours:
 
 def shallow(colours: Colours) -> Bytes:
     """The colours in bytes, those of sixteen bits as the nearest."""
-    found: Bytes = (colours if colours.dtype == np.uint8 else (colours.astype(np.uint32) + 128) // 257).astype(np.uint8, copy=False)
+    found: Bytes = (colours if colours.dtype == np.uint8 else (colours.astype(np.uint32) + 128) // 257).astype(
+        np.uint8, copy=False
+    )
     return found
 
 

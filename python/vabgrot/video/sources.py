@@ -53,7 +53,11 @@ class Sender:
 
     def clock(self, pixels: int) -> int:
         """The rate of columns by that of pixels, in Hz."""
-        return round(Fraction(pixels * self.columns.columns, self.mode.columns)) if self.is_exact else pixels * self.signal.packed // 8
+        return (
+            round(Fraction(pixels * self.columns.columns, self.mode.columns))
+            if self.is_exact
+            else pixels * self.signal.packed // 8
+        )
 
     @property
     def picture(self) -> tuple[int, int]:
