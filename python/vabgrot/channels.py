@@ -14,12 +14,12 @@ from vabgrot import pcm
 from vabgrot.errors import Refused
 from vabgrot.formats import speakers
 from vabgrot.formats.audio import BLOCK, RATES
+from vabgrot.pcm import USED_BITS, WAVES
 
 MOST = 8  # channels
 BYTE = 8
 VALUE, SIDE = 24, 3  # bits and bytes of a sample of one channel
 WHOLE = 32 - VALUE  # the bits below those of a sample in a number of soundfile
-SUBTYPES = {"PCM_U8": 16, "PCM_16": 16, "PCM_24": VALUE, "PCM_32": VALUE}  # the bits of samples that a link has of them
 MASK_AT = 20  # of the data of a WAV file's chunk `fmt `
 USUAL_MASKS = {1: 0x4, 2: 0x3, 3: 0x7, 4: 0x33, 5: 0x37, 6: 0x3F, 7: 0x70F, 8: 0x63F}  # where a file names no speakers
 Values = NDArray[np.int32]  # of 24 bits with a sign; of the shape samples, channels
@@ -77,12 +77,12 @@ def read(path: str | os.PathLike[str], allocation: int | None = None) -> Wide:
         data = file.read()
     try:
         with soundfile.SoundFile(io.BytesIO(data)) as sound:
-            rate, subtype, count = sound.samplerate, sound.subtype, sound.channels
+            rate, kind, subtype, count = sound.samplerate, sound.format, sound.subtype, sound.channels
             values = sound.read(dtype="int32", always_2d=True) >> WHOLE
     except (soundfile.SoundFileError, RuntimeError) as why:
         raise Refused(f"{path}: no WAV file of linear PCM ({why})") from None
-    if subtype not in SUBTYPES:
-        raise Refused(f"{path}: no WAV file of linear PCM (its samples are {subtype})")
+    if kind not in WAVES or subtype not in USED_BITS:
+        raise Refused(f"{path}: no WAV file of linear PCM (it is {kind}, {subtype})")
     if count > MOST:
         raise Refused(f"{path}: it has {count} channels, and one to eight are wanted")
     if rate not in RATES:
@@ -92,7 +92,7 @@ def read(path: str | os.PathLike[str], allocation: int | None = None) -> Wide:
     wide = np.zeros((len(values), len(names)), np.int32)
     used = [at for at, name in enumerate(names) if name != speakers.NONE]
     wide[:, [used[at] for at in order]] = values
-    return Wide(rate, SUBTYPES[subtype], wide, names)
+    return Wide(rate, USED_BITS[subtype], wide, names)
 
 
 def _names(path: str, count: int, mask: int, allocation: int | None) -> tuple[str, ...]:

@@ -8,6 +8,7 @@ import subprocess
 import tomllib
 
 import pytest
+
 from tests.support import TOP
 
 PROGRAM = '#!/bin/sh\necho "$@"\nexit 2\n'
@@ -177,8 +178,8 @@ def test_package(front, tmp_path):
         for top in (tmp_path / "root" / "usr", tmp_path / "prefix")
     ]
     assert names[0] == names[1]
-    assert all(line.startswith(("drwxr-xr-x root/root", "-rwxr-xr-x root/root", "-rw-r--r-- root/root", "lrwxrwxrwx root/root"))
-        for line in ran(["dpkg-deb", "--contents", package]).splitlines())
+    rights = tuple(f"{it} root/root" for it in ("drwxr-xr-x", "-rwxr-xr-x", "-rw-r--r--", "lrwxrwxrwx"))
+    assert all(line.startswith(rights) for line in ran(["dpkg-deb", "--contents", package]).splitlines())
     assert front("--version", script=tmp_path / "root/usr/bin/vabgrot-lanes")[1] == front("--version")[1]
 
 

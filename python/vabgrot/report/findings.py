@@ -187,9 +187,8 @@ class Findings(Generic[Shown]):
         self.show, self.frames_of, self.text, self.sound = show, Frames(is_dvi), Text(), Sound()
         self.meter, self.signals = Meter(), Signals()
         self.colour_notes: dict[str, None] = {}  # what is assumed of whole frames, once each
-        self.periods: Periods = {"kind": [], "at": [], "columns": [], "line": [], "value": []}
-        places: Faults = {"kind": [], "lane": [], "at": [], "epoch": [], "column": [], "line": [], "more": [], "frame": [], "x": [], "y": [], "rgb": []}
-        self.faults = places
+        self.periods = Periods(kind=[], at=[], columns=[], line=[], value=[])
+        self.faults = Faults(kind=[], lane=[], at=[], epoch=[], column=[], line=[], more=[], frame=[], x=[], y=[], rgb=[])
         self.counts: Counter[tuple[str, int | None]] = Counter()  # of a link's faults, by kind and lane
         self.content_counts: Counter[str] = Counter()
         self.packets: list[Received] = []

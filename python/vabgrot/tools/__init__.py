@@ -5,7 +5,8 @@ import sys
 from collections.abc import Sequence
 
 NAMES = ("content", "lanes", "pictures", "report", "slice", "sound", "survey", "timing")
-PACKAGES = {  # of Debian
+# Debian's packages, by their modules.
+PACKAGES = {
     "PIL": "python3-pil",
     "jinja2": "python3-jinja2",
     "numpy": "python3-numpy",
