@@ -192,9 +192,11 @@ class Columns:
 @dataclass
 class Frame:
     """The lines between two changes of VSYNC: their pixels, the columns of their first pixels, and the faults among
-    them. `ended` says what ended it: a change of VSYNC, a slip, or the end of the listing."""
+    them. `ended` says what ended it: a change of VSYNC, a slip, or the end of the listing. `change` is the column of its
+    epoch at which VSYNC changed before it, None where that is not certain."""
 
     is_whole: bool
+    change: int | None = None
     at: int = 0  # the first of its rows' columns
     rows: list[bytes] = field(default_factory=list)  # red, green and blue of each pixel
     firsts: list[int | None] = field(default_factory=list)  # None where it is not certain
@@ -255,11 +257,12 @@ class Frames:
         if self.streak < 3 or level == self.heard:
             return None
         is_first, self.heard = self.heard is None, level
-        return None if is_first else self.change()
+        return None if is_first else self.change(thing)
 
-    def change(self) -> Frame | None:
-        """VSYNC changed: the frame before it, None where it has no rows."""
-        frame, self.frame = self.frame, Frame(True)
+    def change(self, thing: Thing) -> Frame | None:
+        """VSYNC changed among the columns of a thing: the frame before it, None where it has no rows."""
+        column = thing.column + thing.columns - self.streak if thing.is_exact else None
+        frame, self.frame = self.frame, Frame(True, column)
         frame.ended = "vsync"
         return frame if frame.rows else None
 

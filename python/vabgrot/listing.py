@@ -11,7 +11,8 @@ CONTENT = frozenset("vic mode row frame avi audio spd info acr gcp s packet ! cu
 SOUND = CONTENT | {"block"}
 LINK = frozenset("c v i p e ! cut".split())
 EITHER = CONTENT | LINK
-KINDS = {CONTENT: "content listing", SOUND: "content listing", LINK: "link listing", EITHER: "listing"}
+ANY = SOUND | LINK
+KINDS = {CONTENT: "content listing", SOUND: "content listing", LINK: "link listing", EITHER: "listing", ANY: "listing"}
 
 
 def lines(source: IO[bytes], names: frozenset[str] = CONTENT, is_whole: bool = True, raw_rows: bool = False) -> Iterator[Line]:

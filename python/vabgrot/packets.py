@@ -5,38 +5,38 @@ from collections.abc import Callable, Sequence
 from dataclasses import dataclass, field
 from typing import NamedTuple
 
-from vabgrot import listing
+from vabgrot import infoframes, listing
 from vabgrot.formats.audio import ACCURACY, CODED, WORDS
 from vabgrot.formats.modes import VICS
+from vabgrot.infoframes import Row
 
 NAMES = {
     0x00: "Null",
     0x01: "Audio clock",
     0x02: "Audio samples",
     0x03: "General control",
+    0x04: "Audio content protection",
+    0x05: "ISRC, first half",
+    0x06: "ISRC, second half",
+    0x07: "One Bit Audio samples",
+    0x08: "DST audio",
+    0x09: "High bit rate audio",
+    0x0A: "Gamut metadata",
     0x81: "Vendor InfoFrame",
     0x82: "AVI InfoFrame",
     0x83: "Source product InfoFrame",
     0x84: "Audio InfoFrame",
     0x85: "MPEG source InfoFrame",
+    0x86: "NTSC VBI InfoFrame",
+    0x87: "Dynamic range InfoFrame",
 }
 LENGTHS = {(0x82, 2): 13, (0x84, 1): 10, (0x83, 1): 25}
-FORMATS = ("RGB", "YCbCr 4:2:2", "YCbCr 4:4:4", "reserved")
-COLORIMETRY = ("no colorimetry told", "SMPTE 170M (BT.601)", "BT.709", "extended colorimetry")
-EXTENDED = ("xvYCC601", "xvYCC709", "sYCC601", "AdobeYCC601", "AdobeRGB", "5", "6", "7")
-ASPECTS = ("no aspect told", "4:3", "16:9", "reserved aspect")
-SCANS = ("no scan told", "overscanned", "underscanned", "reserved scan")
-RANGES = ("default range", "limited range", "full range", "reserved range")
-SCALINGS = ("", "scaled across", "scaled down", "scaled both ways")
-CODINGS = ("by the stream", "PCM", "AC-3", "MPEG-1", "MP3", "MPEG-2", "AAC", "DTS", "ATRAC", "One Bit Audio", "E-AC-3",
-           "DTS-HD", "MAT", "DST", "WMA Pro", "extended")  # fmt: skip
-FREQUENCIES = ("by the stream", "32 kHz", "44.1 kHz", "48 kHz", "88.2 kHz", "96 kHz", "176.4 kHz", "192 kHz")
-SIZES = ("by the stream", "16 bits", "20 bits", "24 bits")
-SOURCES = ("unknown", "digital set-top box", "DVD player", "D-VHS", "hard disk recorder", "DVC", "digital still camera",
-           "Video CD", "game console", "PC", "Blu-ray player", "Super Audio CD", "HD DVD", "PMP")  # fmt: skip
+READ_TOO = {(0x82, 3): 13, (0x82, 4): 14, (0x85, 1): 10, (0x87, 1): 26}  # those of a wrong length are shown as bytes
 DEPTHS = {0: "no depth told", 4: "24 bits", 5: "30 bits", 6: "36 bits", 7: "48 bits"}
-
-Row = tuple[str, str | int]  # a field by its name, and what it says
+PAIRS = 4  # of channels, which the four bodies of a packet of samples in layout 1 are of
+SHORT = frozenset(
+    "format,picture,aspect,range,channels,coding,vendor,product,kind of source,registered to,structure,curve".split(",")
+)
 
 
 class Packet(NamedTuple):
@@ -47,10 +47,12 @@ class Packet(NamedTuple):
 
     @property
     def kind(self) -> int:
+        """The type."""
         return self.header[0]
 
     @property
     def name(self) -> str:
+        """What the type is called."""
         if self.kind in NAMES:
             return NAMES[self.kind]
         return f"InfoFrame {self.kind:02x}" if self.kind >= 0x80 else f"Packet {self.kind:02x}"
@@ -62,37 +64,36 @@ class Packet(NamedTuple):
 
 
 class Sample(NamedTuple):
-    """A sample of two channels: three bytes a side, low byte first; V, U, C and P of each; whether a block starts."""
+    """A sample of two channels: three bytes a side, low byte first; V, U, C and P of each; whether a block starts; which
+    pair of channels it is of, 0 for channels 1 and 2."""
 
     left: bytes
     right: bytes
     left_flags: int
     right_flags: int
     start: bool
+    pair: int = 0
 
     def uneven(self) -> list[str]:
         """The sides, l and r, whose parity is odd."""
         sides = (("l", self.left, self.left_flags), ("r", self.right, self.right_flags))
-        return [
-            name
-            for name, value, flags in sides
-            if (int.from_bytes(value, "little").bit_count() + flags.bit_count()) % 2
-        ]
+        return [name for name, value, flags in sides if (int.from_bytes(value, "little").bit_count() + flags.bit_count()) % 2]
 
 
 @dataclass
 class Content:
     """What a packet carries: in words, as the fields of its InfoFrame, as samples; and the fault lines of its
-    content."""
+    content. `pairs` are the samples of layout 1, one of each pair of channels that is present."""
 
     words: str
     rows: list[Row] = field(default_factory=list)
     samples: list[Sample] = field(default_factory=list)
     faults: list[str] = field(default_factory=list)
+    pairs: list[Sample] = field(default_factory=list)
 
 
 def packet_of(fields: Sequence[str], line: int) -> Packet:
-    """The packet of a `p` line's six fields; raises Refused where one has not as many digits as it must."""
+    """The packet of a `p` line's fields; with an empty last one, of a `packet` line's."""
     header, *bodies, _ = fields
     parts = [listing.digits(part, size, line) for part, size in zip((header, *bodies), (3, 7, 7, 7, 7))]
     return Packet(parts[0], parts[1:])
@@ -107,11 +108,11 @@ def content_of(packet: Packet) -> Content:
 
 
 def clock(packet: Packet) -> Content:
-    """An audio clock regeneration packet (HDMI 1.4, section 5.3.3)."""
+    """A clock regeneration packet."""
     if any(body != packet.bodies[0] for body in packet.bodies):
         return Content("its four copies are not alike", faults=["uneven"])
     n, cycles = clock_numbers(packet)
-    return Content(f"N {n}, CTS {cycles}", [("N", n), ("CTS", cycles)])
+    return Content(f"N {n}, CTS {cycles}", [Row("N", str(n)), Row("CTS", str(cycles))])
 
 
 def clock_numbers(packet: Packet) -> tuple[int, int]:
@@ -122,37 +123,68 @@ def clock_numbers(packet: Packet) -> tuple[int, int]:
 
 
 def samples(packet: Packet) -> Content:
-    """An audio sample packet of two channels (HDMI 1.4, section 5.3.4)."""
+    """A packet of samples: in layout 0 up to four of two channels, in layout 1 one of up to eight (HDMI 1.4, section 5.3.4)."""
     present, starts = packet.header[1], packet.header[2]
-    if present & 16:
-        return Content("more than two channels, which are not read", faults=["layout"])
+    is_wide = present >> 4 & 1
     found, faults = [], []
     for number, body in enumerate(packet.bodies):
         if present >> number & 1:
             start = bool(starts >> number + 4 & 1)
-            sample = Sample(body[0:3], body[3:6], body[6] & 15, body[6] >> 4, start)
+            sample = Sample(body[0:3], body[3:6], body[6] & 15, body[6] >> 4, start, number if is_wide else 0)
             found.append(sample)
             faults += [f"parity {number} {side}" for side in sample.uneven()]
-    flat = sum(present >> number & starts >> number & 1 for number in range(4))
+    flat = sum(present >> number & starts >> number & 1 for number in range(PAIRS))
+    behind = ", a block starts" * any(sample.start for sample in found) + f", {flat} flat" * bool(flat)
+    if is_wide:
+        channels = " and ".join(f"{2 * sample.pair + 1}, {2 * sample.pair + 2}" for sample in found)
+        words = f"1 sample of more than two channels: {channels or 'none'}"
+        return Content(words + behind, faults=["layout"], pairs=found)
     words = f"{len(found)} sample{'s' * (len(found) != 1)} of two channels"
-    words += ", a block starts" * any(sample.start for sample in found) + f", {flat} flat" * bool(flat)
-    return Content(words, samples=found, faults=faults)
+    return Content(words + behind, samples=found, faults=faults)
+
+
+def one_bit(packet: Packet) -> Content:
+    """A packet of One Bit Audio samples (HDMI 1.4, section 5.3.9)."""
+    present, invalid = packet.header[1] & 15, packet.header[2] & 15
+    layout = packet.header[1] >> 4 & 1
+    words = f"One Bit Audio: {present.bit_count()} of four bodies, layout {layout}, {(present & invalid).bit_count()} not valid"
+    return Content(words)
+
+
+def other_audio(packet: Packet) -> Content:
+    """A packet of DST or of high bit rate audio (HDMI 1.4, sections 5.3.10 and 5.3.11)."""
+    one, two = packet.header[1:]
+    if packet.kind == 8:
+        return Content(f"DST audio{', a frame starts' * (one >> 7)}{', not valid' * (one >> 6 & 1)}")
+    return Content(f"high bit rate audio (IEC 61937), four frames{', a block starts' * bool(two >> 4)}")
+
+
+def described(packet: Packet) -> Content:
+    """A packet of types 4 to 6 or 10, whose fields are rows."""
+    readers = {4: infoframes.protection, 5: infoframes.recording, 6: infoframes.recording, 10: infoframes.gamut}
+    rows = readers[packet.kind](packet.header, packet.bytes)
+    return Content(", ".join(f"{row.name} {row.value}" for row in rows[:3]), rows)
 
 
 def control(packet: Packet) -> Content:
-    """A general control packet (HDMI 1.4, section 5.3.6)."""
-    first, second = packet.bodies[0][:2]
+    """A general control packet."""
+    first, second, third = packet.bodies[0][:3]
     mute = " and ".join(name for bit, name in ((0, "sets mute"), (4, "clears mute")) if first >> bit & 1)
-    depth = second & 15
+    depth, phase = second & 15, second >> 4
     words = DEPTHS.get(depth, f"depth {depth}, which is reserved")
     faults = [] if depth in (0, 4) else [f"depth {depth}"]
-    return Content(
-        f"{mute or 'leaves mute'}, {words}", [("mute", mute or "as it is"), ("depth of colour", words)], faults=faults
-    )
+    rows = [
+        Row("mute", mute or "as it is", f"Set_AVMUTE {first & 1}, Clear_AVMUTE {first >> 4 & 1}"),
+        Row("depth of colour", words, f"CD {depth}"),
+    ]
+    if depth in (5, 6, 7):
+        rows.append(Row("packing phase", f"of the last column of pixels {phase or 4 * (depth == 5)}", f"PP {phase}"))
+        rows.append(Row("rows begin", "at phase 0" if third & 1 else "at any phase", f"Default_Phase {third & 1}"))
+    return Content(f"{mute or 'leaves mute'}, {words}", rows, faults=faults)
 
 
 def infoframe(packet: Packet) -> Content:
-    """An InfoFrame of any kind (HDMI 1.4, section 8.2): by its fields where they are known."""
+    """An InfoFrame."""
     kind, version, length = packet.header[0], packet.header[1], packet.header[2] & 31
     data = packet.bytes
     known = LENGTHS.get((kind, version))
@@ -161,94 +193,36 @@ def infoframe(packet: Packet) -> Content:
     total = sum(packet.header) + sum(data[: length + 1]) & 255
     if total:
         return Content(f"a checksum that leaves {total:02x}", faults=[f"checksum {total:02x}"])
-    if known:
-        rows = {0x82: avi, 0x83: product, 0x84: audio}[kind](data)
-        return Content(", ".join(str(value) for name, value in rows if name in SHORT), rows)
+    rows = rows_of(kind, version, length, data)
+    if not rows:
+        payload = data[1 : length + 1].hex()
+        rows = [Row("version", str(version)), Row("payload", payload)]
+        return Content(f"version {version}: {payload or 'no payload'}", rows)
+    if kind == 0x81:
+        return Content(f"{rows[0].value}: {', '.join(row.value for row in rows[1:])}", rows)
+    return Content(", ".join(row.value for row in rows if row.name in SHORT) or rows[0].value, rows)
+
+
+def rows_of(kind: int, version: int, length: int, data: bytes) -> list[Row]:
+    """The rows of an InfoFrame whose length and sum are right; none where its fields are not known."""
     if kind == 0x81 and length >= 3:
-        return vendor(data[1 : length + 1])
-    payload = data[1 : length + 1].hex()
-    return Content(f"version {version}: {payload or 'no payload'}", [("version", version), ("payload", payload)])
+        return infoframes.vendor(data[1 : length + 1])
+    if length != (LENGTHS | READ_TOO).get((kind, version)):
+        return []
+    if kind == 0x82:
+        return infoframes.avi(version, data)
+    readers = {0x83: infoframes.product, 0x84: infoframes.audio, 0x85: infoframes.mpeg, 0x87: infoframes.mastering}
+    return readers[kind](data)
 
 
-READERS: dict[int, Callable[[Packet], Content]] = {0: lambda _: Content("nothing"), 1: clock, 2: samples, 3: control}
-SHORT = frozenset("format,picture,aspect,range,channels,coding,vendor,product,kind of source".split(","))
+READERS: dict[int, Callable[[Packet], Content]] = {
+    **{0: lambda _: Content("nothing"), 1: clock, 2: samples, 3: control, 7: one_bit, 8: other_audio, 9: other_audio},
+    **dict.fromkeys((4, 5, 6, 10), described),
+}
 
 
-def mode_name(vic: int) -> str:
-    """A video identification code in words."""
-    if vic == 0:
-        return "no video identification code"
-    if vic not in VICS:
-        return f"video identification code {vic}"
-    mode, rate, _ = VICS[vic]
-    return f"{mode.size[0]} × {mode.size[1]} at {rate} Hz (code {vic})"
-
-
-def avi(data: bytes) -> list[Row]:
-    """The fields of an AVI InfoFrame of version 2 (CTA-861, section 6.4), PB0 and those after it."""
-    one, two, three, vic, repeat = data[1], data[2], data[3], data[4] & 127, data[5] & 15
-    extended = EXTENDED[three >> 4 & 7]
-    colour = f"extended: {extended}" if two >> 6 == 3 else COLORIMETRY[two >> 6]
-    aspect = two & 15
-    bars = [data[at] | data[at + 1] << 8 for at in range(6, 14, 2)]
-    told = "none told" if not one >> 2 & 3 else "top {}, bottom {}, left {}, right {}".format(*bars)
-    return [
-        ("format", FORMATS[one >> 5 & 3]),
-        ("picture", mode_name(vic)),
-        ("aspect", ASPECTS[two >> 4 & 3]),
-        ("colour", colour),
-        ("range", RANGES[three >> 2 & 3]),
-        ("scan", SCANS[one & 3]),
-        (
-            "active aspect",
-            {8: "as the picture", 9: "4:3", 10: "16:9", 11: "14:9"}.get(aspect, f"code {aspect}")
-            if one & 16
-            else "none told",
-        ),
-        ("bars", told),
-        ("content", "IT content" if three >> 7 else "not told as IT content"),
-        ("scaling", SCALINGS[three & 3] or "none told"),
-        ("pixels sent", f"{repeat + 1} times each" if repeat else "once each"),
-    ]
-
-
-def audio(data: bytes) -> list[Row]:
-    """The fields of an audio InfoFrame (CTA-861, section 6.6), PB0 and those after it."""
-    channels = data[1] & 7
-    coding = data[1] >> 4
-    return [
-        ("channels", f"{channels + 1} channels" if channels else "channels by the stream"),
-        ("coding", f"coding {CODINGS[coding]}"),
-        ("rate", FREQUENCIES[data[2] >> 2 & 7]),
-        ("sample", SIZES[data[2] & 3]),
-        ("speakers", f"allocation {data[4]}"),
-        ("level shift", f"{data[5] >> 3 & 15} dB"),
-        ("down-mix", "not allowed" if data[5] >> 7 else "allowed"),
-    ]
-
-
-def text_of(data: bytes) -> str:
-    """Characters of seven bits, with spaces for those that cannot be shown."""
-    return "".join(chr(byte & 127) if 32 <= byte & 127 < 127 else " " for byte in data).strip() or "(blank)"
-
-
-def product(data: bytes) -> list[Row]:
-    """The fields of a source product InfoFrame (CTA-861, section 6.5), PB0 and those after it."""
-    kind = data[25]
-    name = SOURCES[kind] if kind < len(SOURCES) else f"kind {kind}"
-    return [("vendor", text_of(data[1:9])), ("product", text_of(data[9:25])), ("kind of source", name)]
-
-
-def vendor(data: bytes) -> Content:
-    """A vendor InfoFrame, of which `data` is what follows the checksum: three bytes at least."""
-    number = data[2] << 16 | data[1] << 8 | data[0]
-    who = "HDMI Licensing" if number == 0x000C03 else f"IEEE {number:06x}"
-    words = f"{who}: {data[3:].hex() or 'no payload'}"
-    return Content(words, [("registered to", who), ("payload", data[3:].hex())])
-
-
-def channel_status(bits: Sequence[int]) -> list[Row]:
-    """The fields of the 192 bits of a channel's status (IEC 60958-3), in words."""
+def channel_status(bits: Sequence[int]) -> list[tuple[str, str]]:
+    """The 192 bits of a channel's status (IEC 60958-3), in words."""
 
     def number(first: int, count: int) -> int:
         return sum(bits[first + place] << place for place in range(count))

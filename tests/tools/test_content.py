@@ -110,7 +110,7 @@ def test_bad_files(tool, image, sound, tmp_path):
     assert b"no video identification code has 2 x 1 pixels" in tool("content", path, status=3).stderr
     assert b"no WAV file" in tool("content", *words, "--sound", tmp_path / "no", status=3).stderr
     assert b"its rate is 8000 Hz" in tool("content", *words, "--sound", sound(bytes(4), rate=8000), status=3).stderr
-    assert b"it has 3 channels" in tool("content", *words, "--sound", sound(bytes(6), channels=3), status=3).stderr
+    assert b"it has 9 channels" in tool("content", *words, "--sound", sound(bytes(18), channels=9), status=3).stderr
     whole = image(size=(640, 480), name="whole.png").read_bytes()
     (tmp_path / "cut.png").write_bytes(whole[: len(whole) // 2])
     assert b"cut.png: image file is truncated" in tool("content", tmp_path / "cut.png", status=3).stderr

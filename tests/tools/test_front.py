@@ -166,7 +166,7 @@ def test_package(front, tmp_path):
     assert said.endswith(f"vabgrot: made {package}\n") and [*package.parent.iterdir()] == [package]
     fields = dict(line.split(": ", 1) for line in ran(["dpkg-deb", "--field", package]).splitlines() if line[0] != " ")
     assert (fields["Package"], fields["Version"]) == ("vabgrot", "1.0.0")
-    needed = {"python3", "python3-jinja2", "python3-numpy", "python3-pil", "python3-soundfile", "python3-tqdm", "libc6"}
+    needed = {"python3", "python3-jinja2", "python3-numpy", "python3-pil", "python3-png", "python3-soundfile", "python3-tqdm", "libc6"}
     assert {part.split()[0] for part in fields["Depends"].split(", ")} == needed
     assert {"python3-matplotlib", "python3-numba"} == set(fields["Recommends"].split(", "))
     asked = re.search(r"(?m)^apt-get install (.*)$", (TOP / "README.md").read_text())[1].split()

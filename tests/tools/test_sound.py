@@ -66,8 +66,11 @@ def test_biphase_streams(tool, path):
     assert heard(path) == (48000, 2, DATA)
     tool("sound", path, "--rate", 32000, source=SAMPLES + told + b"end\n")
     assert heard(path) == (32000, 2, DATA)
-    tool("sound", path, source=AVI + b"acr 6272 28000\n" + SAMPLES + told + b"end\n")
-    assert heard(path) == (44100, 2, DATA)
+    came = tool("sound", path, source=AVI + b"acr 6272 28000\n" + SAMPLES + told + b"end\n", status=1)
+    assert heard(path) == (44100, 2, DATA) and came.stderr.splitlines() == [
+        b"sound: the clock packets say 44100 Hz, the channel status says 48000 Hz",
+        b"2 samples of 16 bits at 44100 Hz, 1 rate",
+    ]
     tool("sound", path, source=SAMPLES + told.replace(b"1002", b"1001") + told + b"end\n")  # code 1 names no rate
     assert heard(path) == (48000, 2, DATA)
 
@@ -93,7 +96,9 @@ def test_faults_are_counted(tool, path):
         (SAMPLES + b"end\n", b"no clock packet"),
         (SAMPLES + b"block 00 00\nend\n", b"line 3"),
         (SAMPLES + b"block " + b"0" * 48 + b"\nend\n", b"line 3: it has 1 fields, and 2 are wanted"),
-        (b"c 00 12\nend\n", b"line 1"),
+        (b"c 00 12\nend\n", b"the listing has no samples"),
+        (b"x 00 12\nend\n", b"line 1"),
+        (b"c 00 12\ns 123400 000000 0 0 1 0\nend\n", b"line 2"),
     ],
 )
 def test_bad_listings(tool, path, text, says):

@@ -14,7 +14,7 @@ def found():
     """Reads a listing, and keeps of each frame its size, its first column and its end."""
 
     def read(text, is_whole=True, bits=100_000):
-        def show(frame, at, ragged, vic):
+        def show(frame, at, ragged, vic, signal):
             return frame.width, len(frame.rows), frame.is_whole, ragged, vic
 
         findings = Findings(show)

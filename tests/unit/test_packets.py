@@ -38,7 +38,7 @@ def test_a_clock_packet():
     """CTS 27,000 is 006978h and N 6,144 is 001800h (HDMI 1.4, table 5-11); the upper four bits of both are reserved."""
     found = packet("010000", *["00f06978f01800"] * 4)
     assert clock_numbers(found) == (6144, 27000)
-    assert content_of(found).faults == [] and ("N", 6144) in content_of(found).rows
+    assert content_of(found).faults == [] and ("N", "6144", "") in content_of(found).rows
     assert content_of(packet("010000", *["00006978001800"] * 3, "00006979001800")).faults == ["uneven"]
 
 

@@ -9,6 +9,8 @@ from dataclasses import dataclass
 from PIL import Image
 
 from vabgrot.link import Frame
+from vabgrot.video.colours import Signal
+from vabgrot.video.images import colours_of, shallow
 
 SMALL = (192, 144)
 ROOM = 24_000_000  # bytes for all pictures, of which base64 makes a third more
@@ -54,12 +56,16 @@ class Album:
         self.numbers: dict[bytes, tuple[int, str]] = {}  # by what the frame is
         self.exact = 0  # the size of the last frame's exact file
 
-    def add(self, frame: Frame, left: int) -> tuple[int, str]:
-        """The number of a frame's picture, and its small one; `left` frames are still to come, as far as is known."""
+    def add(self, frame: Frame, left: int, signal: Signal = Signal()) -> tuple[int, str]:
+        """The number of a frame's picture in the colours of a signal, and its small one; `left` frames are still to come, as far as
+        is known."""
         data = b"".join(row[: 3 * frame.width].ljust(3 * frame.width, b"\0") for row in frame.rows)
-        image = Image.frombytes("RGB", (frame.width, len(frame.rows)), data)
-        key = hashlib.sha256(b"%d " % frame.width + data).digest()
+        key = hashlib.sha256(f"{frame.width} {signal} ".encode() + data).digest()
         if key not in self.numbers:
+            if signal.is_plain:
+                image = Image.frombytes("RGB", (frame.width, len(frame.rows)), data)
+            else:
+                image = Image.fromarray(shallow(colours_of(frame.rows, frame.width, signal)), "RGB")
             self.numbers[key] = len(self.pictures), url(image)
             self.pictures.append(self.picture(image, max(self.room, 0) // (left + 1)))
             self.room -= len(self.pictures[-1].data)

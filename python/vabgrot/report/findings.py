@@ -10,6 +10,9 @@ from vabgrot.formats.audio import BLOCK
 from vabgrot.formats.characters import TEN
 from vabgrot.formats.faults import LANED, OF_PACKET, UNCOUNTED
 from vabgrot.link import Frame, Frames, Thing
+from vabgrot.video import images
+from vabgrot.video.colours import Signal
+from vabgrot.video.signals import Signals
 from vabgrot.video.timings import Meter
 
 PERIODS = ("control", "video", "packet", "open", "close", "unknown", "unaligned")
@@ -76,6 +79,7 @@ class Sound:
         self.clock: tuple[int, int] | None = None  # N and CTS
         self.vic = 0  # of the first AVI InfoFrame that names one
         self.blocks = Blocks()
+        self.is_wide = False  # of more than two channels, of which the first two are kept
 
     @property
     def samples(self) -> int:
@@ -84,7 +88,8 @@ class Sound:
 
     def take(self, content: packets.Content) -> None:
         """The samples of the next packet, if it has some."""
-        for sample in content.samples:
+        self.is_wide |= bool(content.pairs)
+        for sample in content.samples or content.pairs[:1]:
             self.left += sample.left[::-1]
             self.right += sample.right[::-1]
             self.blocks.take(sample)
@@ -170,9 +175,9 @@ Shows = TypeVar("Shows", covariant=True)
 
 class Show(Protocol[Shows]):
     """Turns a frame that ended at a column into what is kept of it: `ragged` rows have another width, and `vic` is the code of its
-    InfoFrame where that says another size."""
+    InfoFrame where that says another size; `signal` is how its pixels are sent."""
 
-    def __call__(self, frame: Frame, at: int, ragged: int, vic: int | None) -> Shows: ...
+    def __call__(self, frame: Frame, at: int, ragged: int, vic: int | None, signal: Signal) -> Shows: ...
 
 
 class Findings(Generic[Shown]):
@@ -180,7 +185,8 @@ class Findings(Generic[Shown]):
 
     def __init__(self, show: Show[Shown], is_dvi: bool | None = None) -> None:
         self.show, self.frames_of, self.text, self.sound = show, Frames(is_dvi), Text(), Sound()
-        self.meter = Meter()
+        self.meter, self.signals = Meter(), Signals()
+        self.colour_notes: dict[str, None] = {}  # what is assumed of whole frames, once each
         self.periods = Periods(kind=[], at=[], columns=[], line=[], value=[])
         self.faults = Faults(kind=[], lane=[], at=[], epoch=[], column=[], line=[], more=[], frame=[], x=[], y=[], rgb=[])
         self.counts: Counter[tuple[str, int | None]] = Counter()  # of a link's faults, by kind and lane
@@ -277,6 +283,7 @@ class Findings(Generic[Shown]):
             if packet.kind == 2:
                 self.sound.lose()
             return
+        self.signals.take_packet(packet)
         self.content_counts.update(fault.split()[0] for fault in content.faults)
         if packet.kind == 1 and not content.faults and not self.sound.clock:
             self.sound.clock = packets.clock_numbers(packet)
@@ -334,14 +341,33 @@ class Findings(Generic[Shown]):
 
     def end_frame(self, frame: Frame, at: int) -> None:
         """Shows a frame that ended, and gives the faults that came among its rows to it."""
-        number = len(self.frames)
+        number, signal = len(self.frames), self.signal(frame)
         for fault in self.pending:
             self.faults["frame"][fault] = number
+            self.convert(fault, frame, signal)
         self.pending = []
         ragged = sum(len(row) != len(frame.rows[0]) for row in frame.rows)
         other = frame.is_whole and packets.is_other_size(self.vic, frame.width, len(frame.rows))
         self.content_counts.update({"ragged": ragged * frame.is_whole, "vic": int(other)})
-        self.frames.append(self.show(frame, at, ragged, self.vic if other else None))
+        self.frames.append(self.show(frame, at, ragged, self.vic if other else None, signal))
+
+    def signal(self, frame: Frame) -> Signal:
+        """How the pixels of a frame are sent; what is assumed of whole ones is noted."""
+        self.signals.has_packets = not self.frames_of.columns.is_dvi
+        reading = self.signals.reading(frame.width)
+        if frame.is_whole:
+            self.colour_notes.update(dict.fromkeys(reading.notes))
+        return reading.signal
+
+    def convert(self, fault: int, frame: Frame, signal: Signal) -> None:
+        """Has a fault of a frame name the pixel and the colour that its column is shown as."""
+        x, y = self.faults["x"][fault], self.faults["y"][fault]
+        if signal.is_plain or x < 0:
+            return
+        pixel, colours = signal.pixel(x), images.shallow(images.colours_of([frame.rows[y]], len(frame.rows[y]) // 3, signal))
+        known = pixel < colours.shape[1]
+        self.faults["x"][fault] = pixel if known else -1
+        self.faults["rgb"][fault] = colours[0, pixel].tobytes().hex() if known else ""
 
     def finish(self, is_whole: bool, bits: int) -> None:
         """No more lines come; a whole listing has its line `end`. `bits` are those of the longest lane."""

@@ -10,6 +10,7 @@ PACKAGES = {
     "PIL": "python3-pil",
     "jinja2": "python3-jinja2",
     "numpy": "python3-numpy",
+    "png": "python3-png",
     "scipy": "python3-scipy",
     "skimage": "python3-skimage",
     "soundfile": "python3-soundfile",

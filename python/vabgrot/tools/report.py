@@ -20,6 +20,7 @@ from vabgrot import command, listing, packets, pcm, place, program
 from vabgrot.errors import Refused
 from vabgrot.formats.faults import BY_ROW, CONTENT, OF_SKEW
 from vabgrot.formats.modes import VICS
+from vabgrot.infoframes import Row, mode_name
 from vabgrot.lanes import openings
 from vabgrot.judging.verdicts import total_of
 from vabgrot.link import Frame
@@ -27,6 +28,7 @@ from vabgrot.replacing import replacing
 from vabgrot.report import bursts, judged
 from vabgrot.report.album import Album
 from vabgrot.report.findings import Findings, Sound
+from vabgrot.video.colours import DEPTHS, Signal
 from vabgrot.video.matching import SIZES, Rate, change_note, timings
 from vabgrot.video.timings import PARTS
 
@@ -96,7 +98,7 @@ class Info(TypedDict):
     """What the page has of an InfoFrame, a clock or a general control packet that came so many times."""
 
     name: str
-    rows: tuple[packets.Row, ...]
+    rows: tuple[Row, ...]
     line: int
     times: int
 
@@ -107,20 +109,20 @@ class Show:
     def __init__(self, columns: int) -> None:
         self.album, self.columns, self.frames, self.whole = Album(), columns, 0, 0
 
-    def __call__(self, frame: Frame, at: int, ragged: int, vic: int | None) -> Shown:
+    def __call__(self, frame: Frame, at: int, ragged: int, vic: int | None, signal: Signal) -> Shown:
         self.frames += 1
         self.whole += frame.is_whole
         left = max(0, round((self.columns - at) * self.frames / max(at, 1)))
-        picture, _ = self.album.add(frame, left)
+        picture, _ = self.album.add(frame, left, signal)
         says = ENDS[frame.ended] if frame.is_whole or frame.ended != "vsync" else "begun before the capture"
         if ragged:
             says += f", {ragged} rows of another width"
         if vic:
-            says += f", though its AVI InfoFrame says {packets.mode_name(vic)}"
+            says += f", though its AVI InfoFrame says {mode_name(vic)}"
         faults = {kind: times for kind, times in sorted(frame.faults.items())}
         return {
             "picture": picture,
-            "width": frame.width,
+            "width": signal.pixels(frame.width),
             "height": len(frame.rows),
             "whole": frame.is_whole,
             "number": self.whole - 1,
@@ -260,7 +262,7 @@ def matrix_of(found: Found) -> list[dict[str, object]]:
 
 def infos_of(found: Found) -> list[Info]:
     """Each unlike InfoFrame, clock and general control packet, how often it came, and where first."""
-    infos: dict[tuple[str, tuple[packets.Row, ...]], Info] = {}
+    infos: dict[tuple[str, tuple[Row, ...]], Info] = {}
     for one in found.packets:
         if one.content and one.content.rows:
             key = one.packet.name, tuple(one.content.rows)
@@ -272,9 +274,10 @@ def infos_of(found: Found) -> list[Info]:
     return sorted(infos.values(), key=order)[:24]
 
 
-def rate_of(sound: Sound, clock: int | None) -> tuple[int, bool]:
-    """The sampling rate by the clock packet, and whether it is only supposed."""
-    clock = clock or (VICS[sound.vic].clock if sound.vic in VICS else None)
+def rate_of(sound: Sound, clock: int | None, depth: int) -> tuple[int, bool]:
+    """The sampling rate by the clock packet, and whether it is not only supposed. The clock is that of columns, which come the more
+    often the more bits a pixel has."""
+    clock = clock or (VICS[sound.vic].clock * depth // 24 if sound.vic in VICS else None)
     if not sound.clock or not all(sound.clock) or not clock:
         return 48000, False
     n, cycles = sound.clock
@@ -300,7 +303,7 @@ def sound_of(found: Found, clock: int | None) -> dict[str, object] | None:
     sound = found.sound
     if not sound.samples:
         return None
-    rate, is_told = rate_of(sound, clock)
+    rate, is_told = rate_of(sound, clock, DEPTHS.get(found.signals.depth or 4, 24))
     bits = 24 if any(sound.left[2::3]) or any(sound.right[2::3]) else 16
     data = pcm.wav(pcm.Sound(rate, bits, bytes(sound.left), bytes(sound.right)))
     seconds = sound.samples / rate
@@ -310,6 +313,8 @@ def sound_of(found: Found, clock: int | None) -> dict[str, object] | None:
         else "which is supposed, since no clock packet with a known pixel clock was received"
     )
     says = f"{sound.samples:,} samples of {bits} bits at {rate:,} Hz, {told}: {seconds:.3f} s."
+    if sound.is_wide:
+        says += " These are the first two of more channels; “tools/sound” writes all."
     if sound.gaps:
         says += f" {len(sound.gaps)} packets of samples were lost."
     status = [
@@ -403,15 +408,7 @@ def notes_of(found: Found, words: list[str], album: Album) -> list[str]:
         notes.append(
             "So that the page stays small some pictures are not exact; where they are enlarged, damaged pixels are."
         )
-    colours = {
-        str(dict(one.content.rows)["format"])
-        for one in found.packets
-        if one.packet.name == "AVI InfoFrame" and one.content and one.content.rows
-    }
-    if colours - {"RGB"}:
-        notes.append(
-            f"The AVI InfoFrame says {' and '.join(sorted(colours))}; pictures show the bytes of the lanes as red, green and blue."
-        )
+    notes.extend(f"Of the pictures: {note}." for note in found.colour_notes)
     return notes
 
 
