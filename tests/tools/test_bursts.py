@@ -1,4 +1,4 @@
-"""tools/bursts.py: which faults are one burst, and which stand for themselves."""
+"""vabgrot.report.bursts: which faults are one burst, and which stand for themselves."""
 
 import pytest
 

@@ -1,4 +1,4 @@
-"""tools/formats.py: its numbers are those that edid-decode has, which others keep, and some of the standards themselves."""
+"""vabgrot.formats.modes: its numbers are those that edid-decode has, which others keep, and some of the standards themselves."""
 
 import re
 import shutil

@@ -1,4 +1,4 @@
-"""tools/openings.py and what tools/report advises by it, and what `recover track` sees of lanes that lose bits."""
+"""vabgrot.lanes.openings and what tools/report advises by it, and what `recover track` sees of lanes that lose bits."""
 
 import re
 import shlex
@@ -6,7 +6,6 @@ from html import unescape
 
 import pytest
 
-from tests.support import TOP
 
 ACROSS, LINES, FIRST, PIXELS = 80, 12, 48, 30  # columns of a line, lines, the column of the first guard, pixels of a row
 
@@ -107,10 +106,9 @@ def test_an_alignment_behind_what_is_looked_at(tool, sent, advice, tmp_path):
     assert verdict == "Faulty" and len(lines) > 4 and not any("--dvi" in line for line in lines)
 
 
-def test_what_openings_are(monkeypatch, sent, tmp_path):
+def test_what_openings_are(sent, tmp_path):
     pytest.importorskip("numpy", reason="Debian's package python3-numpy is missing")
-    monkeypatch.syspath_prepend(TOP / "tools")
-    import openings
+    from vabgrot.lanes import openings
 
     (tmp_path / "a.tmc").write_bytes(sent("--offset", 3, "--skew", "0,70,35"))
     fits = openings.fits(openings.beginnings(tmp_path / "a.tmc"))
