@@ -338,6 +338,16 @@ def test_fields_are_woven(tool, tmp_path):
     assert [pixels(tmp_path / "apart" / f"frame000{it}.png") for it in range(4)] == [UPPER, LOWER] * 2
 
 
+def test_marks_of_woven_fields(tool, tmp_path):
+    """Row 1 of the second field, on line 8 + 1 + 4 + 1 of 60 columns each, is row 3 of the frame; its pixel is column 40 of the line."""
+    text = fields_listing().decode()
+    at = text.index("v a0a1a2\n") + len("v a0a1a2\n")
+    hurt = (text[:at] + f"! code 1 {14 * LINE + 40}\n" + text[at:]).encode()
+    came = tool("pictures", tmp_path, "--mark", source=hurt, status=1)
+    assert came.stderr.startswith(b"frame 0: 1 code\n")
+    assert pixels(tmp_path / "frame0000.png") == ["101112", "ff8000", "202122", "a0a1a2", "303132", "ff8000"]
+
+
 def test_a_field_without_its_other_one(tool, tmp_path):
     came = tool("pictures", tmp_path, source=fields_listing(first_is_upper=False, count=4))
     assert b"frame 0: a field without its other one is a picture of its own\n" in came.stderr

@@ -347,7 +347,7 @@ class Findings(Generic[Shown]):
             self.convert(fault, frame, signal)
         self.pending = []
         ragged = sum(len(row) != len(frame.rows[0]) for row in frame.rows)
-        other = frame.is_whole and packets.is_other_size(self.vic, frame.width, len(frame.rows))
+        other = frame.is_whole and packets.is_other_size(self.vic, signal.sent(frame.width), len(frame.rows))
         self.content_counts.update({"ragged": ragged * frame.is_whole, "vic": int(other)})
         self.frames.append(self.show(frame, at, ragged, self.vic if other else None, signal))
 

@@ -202,8 +202,8 @@ def signal_words(parser: ArgumentParser) -> None:
     parser.add_argument("--packet", action="append", default=[], metavar="KIND:FIELD=N,..", help=text)
 
 
-def work(argv: list[str] | None) -> int:
-    """The tool's work: its status."""
+def words() -> ArgumentParser:
+    """The tool's words."""
     parser = command.parser("content", TEXT, examples=EXAMPLES)
     text = f"a picture file, one a frame; or pattern:NAME[*N], N frames of a test pattern: {', '.join(patterns.PATTERNS)}"
     parser.add_argument("images", nargs="+", metavar="IMAGE", help=text)
@@ -221,6 +221,12 @@ def work(argv: list[str] | None) -> int:
     text = "the channel allocation of the sound, a number of CTA-861; if left out, the one with the file's speakers"
     parser.add_argument("--allocation", type=int, choices=range(len(speakers.ALLOCATIONS)), metavar="CA", help=text)
     signal_words(parser)
+    return parser
+
+
+def work(argv: list[str] | None) -> int:
+    """The tool's work: its status."""
+    parser = words()
     args = parser.parse_args(argv)
     if args.clock is not None and args.clock < 1:
         parser.error("--clock is at least 1")

@@ -25,7 +25,8 @@ listing cannot tell 59.94 from 60 frames a second); that of a mode without a cod
 one that the channel status names, or the audio InfoFrame; where two of these disagree that is a fault. Faults that touch the sound are
 counted on standard error."""
 EXAMPLES = """tools/sound tone.wav < examples/bars.content
-./vabgrot recover link < eight.tmc | tools/sound eight.wav"""
+./vabgrot make content < examples/bars.content > bars.tmc
+./vabgrot recover link < bars.tmc | tools/sound same.wav"""
 
 
 def heard_in(source: BinaryIO) -> Heard:

@@ -129,9 +129,9 @@ class Signals:
         if self.phase is None or group == 1:
             return
         last = (columns - 1) % group
-        told = 4 if self.phase == 0 and group == 5 else self.phase
-        if told != last:
+        wanted = 0 if last == 4 else last
+        if self.phase != wanted:
             notes.append(
                 f"the packing phase {self.phase} of a general control packet is not that of a row's last column, "
-                f"which is {0 if last == 4 else last}: rows are read from phase 0 on"
+                f"which is {wanted}: rows are read from phase 0 on"
             )
