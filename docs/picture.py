@@ -1,6 +1,6 @@
 #!/usr/bin/python3
 """Makes the README's picture of a report anew: runs the commands of the README in a folder of their own, opens the page that
-they write in headless Chromium, and writes docs/report.png and docs/report.txt.
+they write in headless Chromium, and writes docs/guide/report.png and docs/guide/report.txt.
 
     docs/picture.py             writes the two files
     docs/picture.py --text      writes what the page says to standard output, and no file
@@ -29,7 +29,7 @@ from selenium.webdriver.support.ui import WebDriverWait
 
 TOP = Path(__file__).resolve().parents[1]
 BUILT = TOP / "crates" / "hdmi_cli" / "out" / "hdmi_cli"
-PICTURE, TEXT = TOP / "docs" / "report.png", TOP / "docs" / "report.txt"
+PICTURE, TEXT = TOP / "docs" / "guide" / "report.png", TOP / "docs" / "guide" / "report.txt"
 HEADING, PAGE = "## A picture there and back", "walk/damaged.html"
 WIDTH, HEIGHT = 1280, 2110
 WAITS = 300  # seconds for the page, also on a slow machine

@@ -1,6 +1,6 @@
 #!/usr/bin/env python3
-"""Compares the map of the proofs in docs/DEVELOPING.md with the first lines of the files below crates/*/proofs, and looks whether each lemma
-and function that docs/THEOREM.md names is there.
+"""Compares the map of the proofs in docs/dev/DEVELOPING.md with the first lines of the files below crates/*/proofs, and looks whether each lemma
+and function that docs/proof/THEOREM.md names is there.
 
     tests/map.py [--write]
 
@@ -11,8 +11,8 @@ import sys
 from pathlib import Path
 
 TOP = Path(__file__).resolve().parents[1]
-PAGE = TOP / "docs" / "DEVELOPING.md"
-WAY = TOP / "docs" / "THEOREM.md"
+PAGE = TOP / "docs" / "dev" / "DEVELOPING.md"
+WAY = TOP / "docs" / "proof" / "THEOREM.md"
 STEP = re.compile(r"(?<![\w/])(\w+)/([\w/]+)(\.rt)?:\s+(\w[\w-]*)")
 CRATE = re.compile(r"\*\*`(\w+)`\*\*\n\n((?:- .*\n)+)")
 
@@ -61,11 +61,11 @@ def main(words):
     said_of = dict(CRATE.findall(behind))
     unlike = sorted(crate for crate in wanted.keys() | said_of.keys() if wanted.get(crate) != said_of.get(crate))
     for crate in unlike:
-        print(f"docs/DEVELOPING.md: the map of {crate} is not that of its files; tests/map.py --write mends it")
+        print(f"docs/dev/DEVELOPING.md: the map of {crate} is not that of its files; tests/map.py --write mends it")
     steps = sorted(set(STEP.findall(WAY.read_text(encoding="utf-8"))) - {("crate", "File", "", "lemma"), ("crate", "file", ".rt", "name")})
     gone = [step for step in steps if not stands(*step)]
     for crate, file, ending, name in gone:
-        print(f"docs/THEOREM.md: {crate}/{file}{ending} has no {name}")
+        print(f"docs/proof/THEOREM.md: {crate}/{file}{ending} has no {name}")
     failed = len(unlike) + len(gone)
     print(f"{len(wanted.keys() | said_of.keys()) + len(steps) - failed} passed, {failed} failed")
     return 1 if failed else 0
