@@ -9,7 +9,7 @@ lanes replaced, lanes shifted, bits of a lane left out. It is run twice, once ov
 
 - a run that a signal ends, or that takes longer than the limit (twice in a row),
 - a status that the command has not over a whole input and a sound output,
-- on standard error anything but the one line of the status (docs/FORMATS.md, README.md), or anything on 0 and 1,
+- on standard error anything but the one line of the status (docs/guide/FORMATS.md, README.md), or anything on 0 and 1,
 - an output that its status does not allow (a listing without its last line, a capture that its header does not fit),
 - a second run that answers otherwise,
 - of a capture or a stream of at most 60,000 bytes, so of six blocks, or of a listing of as many columns, another status or output than

@@ -11,7 +11,7 @@ PROGRAM is crates/hdmi_cli/out/hdmi_cli by default, which `rt ci` and `./vabgrot
     packets     2,000 packets of which up to three characters of lane 0 and three of lanes 1 and 2 are other TERC4 characters
 
 Expected lines are those of the stream that was made, by the rule above; where a character of the period itself was damaged, what the models
-of docs/FORMATS.md say of it. The last line is 'N passed, M failed'; the status is 1 where a case failed."""
+of docs/guide/FORMATS.md say of it. The last line is 'N passed, M failed'; the status is 1 where a case failed."""
 import argparse
 import collections
 import itertools

@@ -1,4 +1,4 @@
-"""A small model of docs/FORMATS.md over whole lists of columns, for the tests of the built program: what aligned columns tell, and
+"""A small model of docs/guide/FORMATS.md over whole lists of columns, for the tests of the built program: what aligned columns tell, and
 the columns that a link listing sends. It searches from each place anew, and is no check of speed."""
 import functools
 import itertools

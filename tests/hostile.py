@@ -6,7 +6,7 @@ listings past each limit, closed and full devices, little memory, a reader that 
     tests/hostile.py [--program PROGRAM] [TABLE ..]
 
 PROGRAM is crates/hdmi_cli/out/hdmi_cli by default, which `rt ci` and `./vabgrot` build; the tables are those that --help
-lists, all but `long`, `most` and `texts` where none is named. Expected values are those of docs/FORMATS.md and of the small models of it in
+lists, all but `long`, `most` and `texts` where none is named. Expected values are those of docs/guide/FORMATS.md and of the small models of it in
 tests/model.py, tests/hearing.py and tests/rasters.py. The last line is 'N passed, M failed'; the status is 1 where a case failed."""
 import argparse
 import functools

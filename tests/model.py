@@ -1,4 +1,4 @@
-"""Small models of docs/FORMATS.md for the tests of the built program: bits of captures, slips and epochs, what DVI columns
+"""Small models of docs/guide/FORMATS.md for the tests of the built program: bits of captures, slips and epochs, what DVI columns
 tell, biphase streams, what a relay makes of a listing. They are for inputs of some thousand characters and are no check of speed."""
 import bisect
 import functools

@@ -1,6 +1,6 @@
 #!/usr/bin/env python3
 """Runs the built program as a user does, and looks at what no contract reaches: its exit status, standard output and the one
-line on standard error, with real files and devices. Expected values are those of docs/FORMATS.md.
+line on standard error, with real files and devices. Expected values are those of docs/guide/FORMATS.md.
 
     tests/program.py [PROGRAM]      PROGRAM is crates/hdmi_cli/out/hdmi_cli by default, which `rt ci` and `./vabgrot` build
 

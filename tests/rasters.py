@@ -1,4 +1,4 @@
-"""A small model of docs/FORMATS.md for the tests of the built program: the packets and the columns of a content listing that has no wrong
+"""A small model of docs/guide/FORMATS.md for the tests of the built program: the packets and the columns of a content listing that has no wrong
 line and whose packets have room."""
 from hearing import ACTIVE, ISLAND_GUARD, MOST_PACKETS, TERC4, VIDEO_GUARD, packet_columns, pixels_of
 from model import CONTROL

@@ -1,4 +1,4 @@
-"""Captures, as docs/FORMATS.md lays them out: the header, and three lanes in blocks of 4,096 bytes in turn."""
+"""Captures, as docs/guide/FORMATS.md lays them out: the header, and three lanes in blocks of 4,096 bytes in turn."""
 
 from listing import Refused
 

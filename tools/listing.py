@@ -54,7 +54,7 @@ class Mode(NamedTuple):
 
     @property
     def room(self):
-        """The packets that a frame has room for: each line some whole packets, and 18 at most (docs/FORMATS.md)."""
+        """The packets that a frame has room for: each line some whole packets, and 18 at most (docs/guide/FORMATS.md)."""
         beside, alone = self.sync_across + self.back_across - 30, self.across - 16
         blank = sum(self[5:8])
         return self.active_down * max(0, min(18, beside // 32)) + blank * max(0, min(18, alone // 32))

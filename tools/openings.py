@@ -72,7 +72,7 @@ def beginnings(path, most=MOST_BITS):
 
 
 def first_alignment(places):
-    """The edges of the three lanes that are the first full alignment (docs/FORMATS.md), or None."""
+    """The edges of the three lanes that are the first full alignment (docs/guide/FORMATS.md), or None."""
     for last in np.unique(np.concatenate(places)):
         near = [lane[np.searchsorted(lane, last - SKEW) : np.searchsorted(lane, last, "right")] for lane in places]
         if all(len(lane) for lane in near):

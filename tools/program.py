@@ -49,7 +49,7 @@ def has(*words):
 @functools.cache
 def processors():
     """For each processor that may be used, the words that start a program on it alone, which is quicker than on all
-    (docs/BENCH.md); no words where there is one processor, or no `taskset` that may do so."""
+    (docs/measured/BENCH.md); no words where there is one processor, or no `taskset` that may do so."""
     if not hasattr(os, "sched_getaffinity"):
         return [()] * os.cpu_count()
     places = sorted(os.sched_getaffinity(0))

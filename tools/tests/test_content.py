@@ -125,7 +125,7 @@ def test_bad_words(tool, image):
 
 @pytest.mark.parametrize("numbers", ["0,4,16,64,1,1,2,1,1", "2,4,16,13,1,1,2,1,1", "2,4097,16,64,1,1,2,1,1"])
 def test_a_mode_is_judged_before_it_is_written(tool, image, program, numbers):
-    """docs/FORMATS.md: 1 to 4,096, the back porch across at least 14; the program refuses what the tool refuses."""
+    """docs/guide/FORMATS.md: 1 to 4,096, the back porch across at least 14; the program refuses what the tool refuses."""
     tool("content", image(), "--mode", numbers, status=2)
     listing = f"mode {numbers.replace(',', ' ')}\nrow 000000000000\nframe 2 1\nend\n".encode()
     program("make", "content", source=listing, status=3)

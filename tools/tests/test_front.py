@@ -96,7 +96,7 @@ def test_installed(front, tmp_path):
         came = subprocess.run([local / "bin" / f"vabgrot-{name}", "--help"], capture_output=True, text=True)
         assert came.returncode == 0 and came.stdout.startswith(f"usage: vabgrot-{name}"), came.stderr
         assert not re.search(r"tools/|\./vabgrot|\b(docs|examples)/(?!\w)", came.stdout)
-    for name in ("man/man1/vabgrot.1", "doc/vabgrot/README.md", "doc/vabgrot/docs/FORMATS.md", "doc/vabgrot/examples/red.vcd"):
+    for name in ("man/man1/vabgrot.1", "doc/vabgrot/README.md", "doc/vabgrot/docs/guide/FORMATS.md", "doc/vabgrot/examples/red.vcd"):
         assert (local / "share" / name).is_file()
 
 
@@ -142,7 +142,7 @@ def test_version(front, tmp_path):
     for name in ("vabgrot", *(f"vabgrot-{name}" for name in tools())):
         assert front("--version", script=tmp_path / "prefix/bin" / name, has_kit=False) == (0, line, "")
     assert re.search(r"(?m)^## (\S+)$", (TOP / "CHANGELOG.md").read_text())[1] == "1.0.0"
-    assert '.TH VABGROT 1 "" "Vabgrot 1.0.0"' in (TOP / "docs/vabgrot.1").read_text()
+    assert '.TH VABGROT 1 "" "Vabgrot 1.0.0"' in (TOP / "docs/guide/vabgrot.1").read_text()
 
 
 def test_the_kit_of_another_build(front, tmp_path):

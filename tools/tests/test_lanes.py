@@ -1,4 +1,4 @@
-"""tools/lanes: the layout is that of docs/FORMATS.md."""
+"""tools/lanes: the layout is that of docs/guide/FORMATS.md."""
 
 import random
 import re
@@ -9,7 +9,7 @@ import pytest
 
 TOP = Path(__file__).resolve().parents[2]
 EXAMPLES = TOP / "examples"
-# The worked example of docs/FORMATS.md: 270 bits a lane.
+# The worked example of docs/guide/FORMATS.md: 270 bits a lane.
 CONTROL = "54534d35d5"
 RED = [
     bytes.fromhex(CONTROL * 3 + "cc320b10d5" + CONTROL * 2 + "54534d35"),

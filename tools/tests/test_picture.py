@@ -8,7 +8,7 @@ import pytest
 from conftest import HANGS, TOP, built
 from PIL import Image
 
-TEXT = (TOP / "docs" / "report.txt").read_text("utf-8")
+TEXT = (TOP / "docs" / "guide" / "report.txt").read_text("utf-8")
 
 
 def test_the_picture_is_of_this_page(program):
@@ -24,7 +24,7 @@ def test_the_picture_is_of_this_page(program):
 
 
 def test_the_picture_is_of_this_text():
-    with Image.open(TOP / "docs" / "report.png") as image:
+    with Image.open(TOP / "docs" / "guide" / "report.png") as image:
         assert image.info["Description"] == TEXT
 
 

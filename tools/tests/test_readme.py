@@ -4,7 +4,7 @@ from pathlib import Path
 
 from PIL import Image
 
-SENT = Path(__file__).resolve().parents[2] / "docs" / "sent.png"
+SENT = Path(__file__).resolve().parents[2] / "examples" / "sent.png"
 # Video format 1: lines of 800 columns, the first row is line 35 of 525 and its first pixel column 144.
 OFFSET, SKEW_OF_RED = 123457, 35
 

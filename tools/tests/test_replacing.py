@@ -103,7 +103,7 @@ def test_devices(tool, program, tmp_path):
 
 
 def test_standard_output():
-    lanes = [TOP / "docs" / name for name in ("sent.png", "report.png", "FORMATS.md")]
+    lanes = [TOP / name for name in ("examples/sent.png", "docs/guide/report.png", "docs/guide/FORMATS.md")]
     for words in (["content", lanes[0]], ["lanes", "pack", *lanes]):
         with open("/dev/full", "wb") as full:
             came = subprocess.run([TOP / "tools" / words[0], *words[1:]], stdout=full, stderr=subprocess.PIPE)

@@ -1,4 +1,4 @@
-"""The commands of docs/SIMULATION.md, in a clone of this checkout, as they are printed."""
+"""The commands of docs/guide/SIMULATION.md, in a clone of this checkout, as they are printed."""
 
 import os
 import re
@@ -9,7 +9,7 @@ import pytest
 from conftest import HANGS, TOP, built
 from test_installed import PARTS
 
-BLOCKS = re.findall(r"(?ms)^```\n(.*?)^```$", (TOP / "docs" / "SIMULATION.md").read_text("utf-8"))
+BLOCKS = re.findall(r"(?ms)^```\n(.*?)^```$", (TOP / "docs" / "guide" / "SIMULATION.md").read_text("utf-8"))
 
 
 @pytest.fixture(scope="module")
@@ -62,7 +62,7 @@ def test_from_a_clone_to_a_report(shell):
 
 
 def test_each_bug_is_in_the_document():
-    text = (TOP / "docs" / "SIMULATION.md").read_text("utf-8")
+    text = (TOP / "docs" / "guide" / "SIMULATION.md").read_text("utf-8")
     planted = set()
     for path in (TOP / "examples" / "verilog").glob("*.v"):
         planted |= set(re.findall(r"BUG_(\w+)", path.read_text()))

@@ -23,7 +23,7 @@ VGA = partial(Sent, across=(640, 16, 96, 48), down=(480, 10, 2, 33), positive=(F
 HD = partial(Sent, across=(1280, 110, 40, 220), down=(720, 5, 5, 20))
 I1080 = partial(Sent, across=(1920, 88, 44, 148), down=(540, 2, 5, 15), halves=True)
 I480 = partial(Sent, across=(1440, 38, 124, 114), down=(240, 4, 3, 15), positive=(False, False), halves=True)
-MODES = (1, 2, 3, 4, 16, 17, 18, 19)  # of `make content` (docs/FORMATS.md)
+MODES = (1, 2, 3, 4, 16, 17, 18, 19)  # of `make content` (docs/guide/FORMATS.md)
 
 
 def measured(sent, fields=3, rate=Rate()):

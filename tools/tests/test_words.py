@@ -7,7 +7,7 @@ import pytest
 from conftest import TOP
 
 EXAMPLES = TOP / "examples"
-# The columns of examples/red.link (docs/FORMATS.md): control, guard and pixel characters of lanes 0, 1 and 2.
+# The columns of examples/red.link (docs/guide/FORMATS.md): control, guard and pixel characters of lanes 0, 1 and 2.
 CONTROL, ANNOUNCED, GUARD = (0x354, 0x354, 0x354), (0x354, 0x0AB, 0x354), (0x2CC, 0x133, 0x2CC)
 RED = [CONTROL] * 4 + [ANNOUNCED] * 8 + [GUARD] * 2 + [(0x100, 0x100, 0x200)] + [CONTROL] * 12
 TEXT = (EXAMPLES / "red.link").read_bytes()
