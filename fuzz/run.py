@@ -13,7 +13,7 @@ lanes replaced, lanes shifted, bits of a lane left out. It is run twice, once ov
 - an output that its status does not allow (a listing without its last line, a capture that its header does not fit),
 - a second run that answers otherwise,
 - of a capture or a stream of at most 60,000 bytes, so of six blocks, or of a listing of as many columns, another status or output than
-  that of the small models of the formats (tests/model.py, tests/hearing.py, tests/rasters.py).
+  that of the small models of the formats (tests/models).
 
 Case K of seed N depends on N, on K and on what the program makes of the examples, so `--seed N --first K --cases 1` runs it
 again. The last line counts executions and findings; the status is 1 where there was a finding. It is not part of the gate."""
@@ -27,18 +27,17 @@ import sys
 import tempfile
 import threading
 import time
+from pathlib import Path
 
-TOP = os.path.dirname(os.path.dirname(os.path.abspath(__file__)))
-sys.path.insert(0, os.path.join(TOP, "tests"))
-import feeding  # noqa: E402
-import hearing  # noqa: E402
-import model  # noqa: E402
-import rasters  # noqa: E402
+TOP = Path(__file__).resolve().parents[1]
+sys.path[:0] = [str(TOP / "python"), str(TOP)]
+from tests.models import feeding, hearing, model, rasters  # noqa: E402
+from tests.support import USAGE  # noqa: E402
+from vabgrot.capture import BLOCK  # noqa: E402
+from vabgrot.formats.characters import CONTROL, ISLAND_GUARD, ISLAND_PREAMBLE, TERC4, VIDEO_GUARD, VIDEO_PREAMBLE  # noqa: E402
+from vabgrot.place import PROGRAM  # noqa: E402
 
 SMALL = 60_000
-PROGRAM = os.path.join(TOP, "crates", "hdmi_cli", "out", "hdmi_cli")
-BLOCK = 4096
-USAGE = rb"usage: make, recover, check, damage or sample\n"
 LINE = rb"line [1-9]\d* (?:fault|form|range|order|control|preamble|size|long|unended|after)"
 CAPTURE = rb"(?:magic|version|short|padding|trailing) \d+"
 REFUSED = {
@@ -57,9 +56,10 @@ REFUSED = {
     "read biphase": rb"subframe \d+|short [1-9]\d*",
 }
 STATUSES = {name: (0, 3) if name.startswith(("make", "damage", "slip", "read")) else (0, 1, 3, 7) for name in REFUSED}
-CONTROL = [0x354, 0x0AB, 0x154, 0x2AB]
-TERC4 = [0x29C, 0x263, 0x2E4, 0x2E2, 0x171, 0x11E, 0x18E, 0x13C, 0x2CC, 0x139, 0x19C, 0x2C6, 0x28E, 0x271, 0x163, 0x2C3]
-MARKED = [*CONTROL, *TERC4, 0x133, 0x100, 0x3FF, 0x200]
+MARKED = [*CONTROL, *TERC4, ISLAND_GUARD, 0x100, 0x3FF, 0x200]
+# What three lanes carry before and in an opening, and in a control period.
+OPENINGS = (VIDEO_GUARD, (TERC4[12], ISLAND_GUARD, ISLAND_GUARD), CONTROL[:1] * 3)
+OPENINGS += ((CONTROL[0], *VIDEO_PREAMBLE), (CONTROL[0], *ISLAND_PREAMBLE))
 NUMBERS = [0, 1, 2, 3, 7, 8, 9, 11, 12, 13, 18, 19, 63, 64, 255, 256, 1023, 1024, 4095, 4096, 4097, 32767, 32768, 65535, 65536,
            2**31 - 1, 2**31, 2**32 - 11, 2**32 - 1, 2**32, 9999999999]
 CONTENT = b"""mode 4 4 200 64 2 1 1 1 0
@@ -258,7 +258,7 @@ def change_lanes(rng, rows, other):
         for row, more in zip(rows, other):
             row[at:at] = more[cut : cut + much]
     elif kind == 5:
-        guards = rng.choice(([0x2CC, 0x133, 0x2CC], [0x28E, 0x133, 0x133], [0x354, 0x354, 0x354], [0x354, 0x0AB, 0x354], [0x354, 0x0AB, 0x0AB]))
+        guards = rng.choice(OPENINGS)
         much = rng.choice((1, 2, 8, 12))
         for row, word in zip(rows, guards):
             row[at:at] = [word] * much
