@@ -30,7 +30,8 @@ PUBLIC = {
 }
 DECLARED = {
     ".rt": re.compile(
-        r"(?m)\b(?:fn|struct|enum|trait|type|const|static|mod|let|ghost) (\w+)|(?:ensures|requires) (\w+) \{|^\s+(?:pub(?:\(crate\))? )?(\w+)(?:: |[,({])"
+        r"(?m)\b(?:fn|struct|enum|trait|type|const|static|mod|let|ghost) (\w+)|(?:ensures|requires) (\w+) \{"
+        r"|^\s+(?:pub(?:\(crate\))? )?(\w+)(?:: |[,({])"
     ),
     ".antt": re.compile(r"(?m)^\s*(?:(?:abbrev|unfoldable) )?(?:pub )?(?:(?:record|data) )?([\w-]+)(?= :| \w* ?:|$| [({])"),
 }
@@ -88,7 +89,7 @@ def print_laws(names: list[str]) -> None:
         print(f"{path}: {law}")
 
 
-def stands(crate: str, file: str, is_code: bool, name: str) -> bool:
+def stands(crate: str, file: str, is_code: str, name: str) -> bool:
     """Whether the crate's file has a function, or a lemma, of that name."""
     path = TOP / "crates" / crate / (f"src/{file}.rt" if is_code else f"proofs/{file}.antt")
     head = rf"(?m)^\s*(pub(\(crate\))? )?fn {name}\b" if is_code else rf"(?m)^pub {name} :"
@@ -111,8 +112,10 @@ def elsewhere() -> frozenset[str]:
     folders = (TOP / name for name in ("tools", "python", "tests", "fuzz", "bench", "docs", ".ci"))
     files = [path for folder in folders for path in folder.rglob("*") if path.suffix in ("", ".py", ".c") and path.is_file()]
     here = Path(__file__).resolve()
-    words = {word for path in files if path != here for word in re.findall(r"\w*_\w+|[A-Z]\w+", path.read_text("utf-8", "ignore"))}
-    return frozenset(words | {path.stem for path in files} | set(re.findall(r"\w*_\w+", text_of(TOP / "vabgrot") + text_of(TOP / "crates.txt"))))
+    texts = (path.read_text("utf-8", "ignore") for path in files if path != here)
+    words = {word for text in texts for word in re.findall(r"\w*_\w+|[A-Z]\w+", text)}
+    lists = text_of(TOP / "vabgrot") + text_of(TOP / "crates.txt")
+    return frozenset(words | {path.stem for path in files} | set(re.findall(r"\w*_\w+", lists)))
 
 
 def cited(page: Path) -> Iterator[str]:
@@ -134,7 +137,8 @@ def check() -> int:
     paths = [path for crate in crates() for path in files(crate)]
     faults = [f"{path.relative_to(TOP)}: no first line says what it holds" for path in paths if not said(path)]
     steps = sorted(set(STEP.findall(text_of(WAY))) - SHAPES)
-    faults += [f"{WAY.relative_to(TOP)}: {crate}/{file}{end} has no {name}" for crate, file, end, name in steps if not stands(crate, file, end, name)]
+    gone = (step for step in steps if not stands(*step))
+    faults += [f"{WAY.relative_to(TOP)}: {crate}/{file}{end} has no {name}" for crate, file, end, name in gone]
     names, others = sorted({(page, name) for page in PAGES for name in cited(page)}), elsewhere()
     faults += [f"{page.relative_to(TOP)}: there is no `{name}`" for page, name in names if not is_there(name, others)]
     print("".join(f"{fault}\n" for fault in faults) + f"{len(paths) + len(steps) + len(names) - len(faults)} passed, {len(faults)} failed")
