@@ -1,14 +1,17 @@
 """Captures, as docs/guide/FORMATS.md lays them out: the header, and three lanes in blocks of 4,096 bytes in turn."""
 
+from collections.abc import Sequence
+from typing import IO
+
 from vabgrot.errors import Refused
 
 BLOCK = 4096
 MOST_BITS = (1 << 32) - 1
 
 
-def write(out, lanes, counts):
-    """Writes a capture of three lanes that are open files of bits from their beginning on; one of version 1 where
-    `counts` is one number for all lanes."""
+def write(out: IO[bytes], lanes: Sequence[IO[bytes]], counts: Sequence[int]) -> None:
+    """Writes a capture of three lanes, open files of bits from their beginning on, the first bit lowest. `counts` are the bits of
+    each lane; of version 1 it is one number for all. Raises OSError."""
     out.write(b"TMC2" if len(counts) > 1 else b"TMC1")
     out.write(b"".join(count.to_bytes(4, "big") for count in counts))
     for _ in range(0, (max(counts) + 7) // 8, BLOCK):
@@ -16,8 +19,9 @@ def write(out, lanes, counts):
     out.flush()
 
 
-def header_of(data):
-    """The bits of each lane, and where the lanes begin."""
+def header_of(data: bytes) -> tuple[list[int], int]:
+    """How many bits each of the three lanes has, and the byte at which the lanes begin, by the first 16 bytes of a capture. Raises
+    Refused where they are no header."""
     if data[:3] != b"TMC"[: len(data)]:
         raise Refused("the input is no capture: it does not begin with TMC")
     if data[3:4] not in (b"", b"1", b"2"):
@@ -30,8 +34,9 @@ def header_of(data):
     return counts * (3 // numbers), start
 
 
-def lanes_of(data):
-    """The lanes of a capture, and the bits of each."""
+def lanes_of(data: bytes) -> tuple[list[bytearray], list[int]]:
+    """The three lanes of a whole capture, eight bits a byte with the first bit lowest, and how many bits each has. Raises Refused
+    where the bytes are no capture."""
     counts, at = header_of(data)
     lengths = [(count + 7) // 8 for count in counts]
     if len(data) != at + sum(lengths):

@@ -1,5 +1,7 @@
 """Packets of data islands in words: what HDMI 1.4, CTA-861 and IEC 60958-3 call their fields."""
 
+import builtins
+from collections.abc import Callable, Sequence
 from dataclasses import dataclass, field
 from typing import NamedTuple
 
@@ -26,33 +28,35 @@ ASPECTS = ("no aspect told", "4:3", "16:9", "reserved aspect")
 SCANS = ("no scan told", "overscanned", "underscanned", "reserved scan")
 RANGES = ("default range", "limited range", "full range", "reserved range")
 SCALINGS = ("", "scaled across", "scaled down", "scaled both ways")
-CODINGS = ("by the stream", "PCM", "AC-3", "MPEG-1", "MP3", "MPEG-2", "AAC", "DTS", "ATRAC", "One Bit Audio", "E-AC-3")
-CODINGS += ("DTS-HD", "MAT", "DST", "WMA Pro", "extended")
+CODINGS = ("by the stream", "PCM", "AC-3", "MPEG-1", "MP3", "MPEG-2", "AAC", "DTS", "ATRAC", "One Bit Audio", "E-AC-3",
+           "DTS-HD", "MAT", "DST", "WMA Pro", "extended")  # fmt: skip
 FREQUENCIES = ("by the stream", "32 kHz", "44.1 kHz", "48 kHz", "88.2 kHz", "96 kHz", "176.4 kHz", "192 kHz")
 SIZES = ("by the stream", "16 bits", "20 bits", "24 bits")
-SOURCES = ("unknown", "digital set-top box", "DVD player", "D-VHS", "hard disk recorder", "DVC", "digital still camera")
-SOURCES += ("Video CD", "game console", "PC", "Blu-ray player", "Super Audio CD", "HD DVD", "PMP")
+SOURCES = ("unknown", "digital set-top box", "DVD player", "D-VHS", "hard disk recorder", "DVC", "digital still camera",
+           "Video CD", "game console", "PC", "Blu-ray player", "Super Audio CD", "HD DVD", "PMP")  # fmt: skip
 DEPTHS = {0: "no depth told", 4: "24 bits", 5: "30 bits", 6: "36 bits", 7: "48 bits"}
+
+Row = tuple[str, str | int]  # a field by its name, and what it says
 
 
 class Packet(NamedTuple):
     """A packet as a `p` line has it."""
 
-    header: bytes
-    bodies: list
+    header: builtins.bytes
+    bodies: list[builtins.bytes]
 
     @property
-    def kind(self):
+    def kind(self) -> int:
         return self.header[0]
 
     @property
-    def name(self):
+    def name(self) -> str:
         if self.kind in NAMES:
             return NAMES[self.kind]
         return f"InfoFrame {self.kind:02x}" if self.kind >= 0x80 else f"Packet {self.kind:02x}"
 
     @property
-    def bytes(self):
+    def bytes(self) -> builtins.bytes:
         """PB0 and those after it."""
         return b"".join(self.bodies)
 
@@ -66,7 +70,7 @@ class Sample(NamedTuple):
     right_flags: int
     start: bool
 
-    def uneven(self):
+    def uneven(self) -> list[str]:
         """The sides, l and r, whose parity is odd."""
         sides = (("l", self.left, self.left_flags), ("r", self.right, self.right_flags))
         return [
@@ -82,42 +86,43 @@ class Content:
     content."""
 
     words: str
-    rows: list = field(default_factory=list)
-    samples: list = field(default_factory=list)
-    faults: list = field(default_factory=list)
+    rows: list[Row] = field(default_factory=list)
+    samples: list[Sample] = field(default_factory=list)
+    faults: list[str] = field(default_factory=list)
 
 
-def packet_of(fields, line):
-    """The packet of a `p` line's fields."""
+def packet_of(fields: Sequence[str], line: int) -> Packet:
+    """The packet of a `p` line's six fields; raises Refused where one has not as many digits as it must."""
     header, *bodies, _ = fields
     parts = [listing.digits(part, size, line) for part, size in zip((header, *bodies), (3, 7, 7, 7, 7))]
     return Packet(parts[0], parts[1:])
 
 
-def content_of(packet):
+def content_of(packet: Packet) -> Content:
     """What a packet without a lost block carries."""
     if packet.kind >= 0x80:
         return infoframe(packet)
-    reader = {0: lambda _: Content("nothing"), 1: clock, 2: samples, 3: control}.get(packet.kind)
-    return (
-        reader(packet) if reader else Content(f"{packet.header.hex()} {' '.join(body.hex() for body in packet.bodies)}")
-    )
+    reader = READERS.get(packet.kind)
+    return reader(packet) if reader else Content(f"{packet.header.hex()} {' '.join(body.hex() for body in packet.bodies)}")
 
 
-def clock(packet):
+def clock(packet: Packet) -> Content:
+    """An audio clock regeneration packet (HDMI 1.4, section 5.3.3)."""
     if any(body != packet.bodies[0] for body in packet.bodies):
         return Content("its four copies are not alike", faults=["uneven"])
     n, cycles = clock_numbers(packet)
     return Content(f"N {n}, CTS {cycles}", [("N", n), ("CTS", cycles)])
 
 
-def clock_numbers(packet):
+def clock_numbers(packet: Packet) -> tuple[int, int]:
     """N and CTS."""
     body = packet.bodies[0]
-    return tuple(int.from_bytes(bytes([part[0] & 15]) + part[1:], "big") for part in (body[4:7], body[1:4]))
+    n, cycles = (int.from_bytes(bytes([part[0] & 15]) + part[1:], "big") for part in (body[4:7], body[1:4]))
+    return n, cycles
 
 
-def samples(packet):
+def samples(packet: Packet) -> Content:
+    """An audio sample packet of two channels (HDMI 1.4, section 5.3.4)."""
     present, starts = packet.header[1], packet.header[2]
     if present & 16:
         return Content("more than two channels, which are not read", faults=["layout"])
@@ -134,7 +139,8 @@ def samples(packet):
     return Content(words, samples=found, faults=faults)
 
 
-def control(packet):
+def control(packet: Packet) -> Content:
+    """A general control packet (HDMI 1.4, section 5.3.6)."""
     first, second = packet.bodies[0][:2]
     mute = " and ".join(name for bit, name in ((0, "sets mute"), (4, "clears mute")) if first >> bit & 1)
     depth = second & 15
@@ -145,7 +151,8 @@ def control(packet):
     )
 
 
-def infoframe(packet):
+def infoframe(packet: Packet) -> Content:
+    """An InfoFrame of any kind (HDMI 1.4, section 8.2): by its fields where they are known."""
     kind, version, length = packet.header[0], packet.header[1], packet.header[2] & 31
     data = packet.bytes
     known = LENGTHS.get((kind, version))
@@ -163,10 +170,11 @@ def infoframe(packet):
     return Content(f"version {version}: {payload or 'no payload'}", [("version", version), ("payload", payload)])
 
 
+READERS: dict[int, Callable[[Packet], Content]] = {0: lambda _: Content("nothing"), 1: clock, 2: samples, 3: control}
 SHORT = frozenset("format,picture,aspect,range,channels,coding,vendor,product,kind of source".split(","))
 
 
-def mode_name(vic):
+def mode_name(vic: int) -> str:
     """A video identification code in words."""
     if vic == 0:
         return "no video identification code"
@@ -176,7 +184,8 @@ def mode_name(vic):
     return f"{mode.size[0]} × {mode.size[1]} at {rate} Hz (code {vic})"
 
 
-def avi(data):
+def avi(data: bytes) -> list[Row]:
+    """The fields of an AVI InfoFrame of version 2 (CTA-861, section 6.4), PB0 and those after it."""
     one, two, three, vic, repeat = data[1], data[2], data[3], data[4] & 127, data[5] & 15
     extended = EXTENDED[three >> 4 & 7]
     colour = f"extended: {extended}" if two >> 6 == 3 else COLORIMETRY[two >> 6]
@@ -203,7 +212,8 @@ def avi(data):
     ]
 
 
-def audio(data):
+def audio(data: bytes) -> list[Row]:
+    """The fields of an audio InfoFrame (CTA-861, section 6.6), PB0 and those after it."""
     channels = data[1] & 7
     coding = data[1] >> 4
     return [
@@ -217,27 +227,30 @@ def audio(data):
     ]
 
 
-def text_of(data):
+def text_of(data: bytes) -> str:
+    """Characters of seven bits, with spaces for those that cannot be shown."""
     return "".join(chr(byte & 127) if 32 <= byte & 127 < 127 else " " for byte in data).strip() or "(blank)"
 
 
-def product(data):
+def product(data: bytes) -> list[Row]:
+    """The fields of a source product InfoFrame (CTA-861, section 6.5), PB0 and those after it."""
     kind = data[25]
     name = SOURCES[kind] if kind < len(SOURCES) else f"kind {kind}"
     return [("vendor", text_of(data[1:9])), ("product", text_of(data[9:25])), ("kind of source", name)]
 
 
-def vendor(data):
+def vendor(data: bytes) -> Content:
+    """A vendor InfoFrame, of which `data` is what follows the checksum: three bytes at least."""
     number = data[2] << 16 | data[1] << 8 | data[0]
     who = "HDMI Licensing" if number == 0x000C03 else f"IEEE {number:06x}"
     words = f"{who}: {data[3:].hex() or 'no payload'}"
     return Content(words, [("registered to", who), ("payload", data[3:].hex())])
 
 
-def channel_status(bits):
-    """The 192 bits of a channel's status (IEC 60958-3), in words."""
+def channel_status(bits: Sequence[int]) -> list[Row]:
+    """The fields of the 192 bits of a channel's status (IEC 60958-3), in words."""
 
-    def number(first, count):
+    def number(first: int, count: int) -> int:
         return sum(bits[first + place] << place for place in range(count))
 
     if bits[0]:
@@ -258,6 +271,6 @@ def channel_status(bits):
     ]
 
 
-def is_other_size(vic, width, height):
+def is_other_size(vic: int, width: int, height: int) -> bool:
     """Whether a frame has another size than a known video identification code says."""
     return vic in VICS and VICS[vic].mode.size != (width, height)

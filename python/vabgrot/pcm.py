@@ -2,6 +2,7 @@
 
 import io
 import wave
+from pathlib import Path
 from typing import NamedTuple
 
 from vabgrot.errors import Refused
@@ -19,11 +20,11 @@ class Sound(NamedTuple):
     right: bytes
 
     @property
-    def samples(self):
+    def samples(self) -> int:
         return len(self.left) // 3
 
 
-def side(data, width, channels, channel):
+def side(data: bytes, width: int, channels: int, channel: int) -> bytes:
     """One channel of a WAV file's bytes, three bytes a sample, high byte first; short ones get zeros, long are cut."""
     taken = bytearray(3 * (len(data) // (width * channels)))
     for place in range(min(width, 3)):
@@ -33,7 +34,7 @@ def side(data, width, channels, channel):
     return bytes(taken)
 
 
-def plain(data):
+def plain(data: bytes) -> bytes:
     """A WAV file's bytes, those of the extensible format as the plain one, which `wave` reads: the first two bytes of
     the subformat take the place of the tag."""
     at = 12
@@ -45,7 +46,7 @@ def plain(data):
     return data
 
 
-def read(path):
+def read(path: str | Path) -> Sound:
     """The sound of a WAV file of one or two channels."""
     with open(path, "rb") as file:
         source = io.BytesIO(plain(file.read()))
@@ -64,7 +65,7 @@ def read(path):
     return Sound(rate, 16 if width <= 2 else 24, left, side(data, width, channels, 1) if channels == 2 else left)
 
 
-def wav(sound):
+def wav(sound: Sound) -> bytes:
     """The bytes of a WAV file of two channels, with the sound's bits a sample."""
     width = sound.bits // 8
     data = bytearray(2 * width * sound.samples)
@@ -80,19 +81,19 @@ def wav(sound):
     return out.getvalue()
 
 
-def rate_of(n, cycles, clock):
+def rate_of(n: int, cycles: int, clock: float) -> int:
     """The sampling rate by a clock packet and the pixel clock (HDMI 1.4, section 7.2); one within 0.2 percent of a
     usual rate is that rate."""
     rate = clock * n / (128 * cycles)
     return next((usual for usual in RATES if abs(rate - usual) <= usual / 500), round(rate))
 
 
-def rate_in(status):
+def rate_in(status: bytes) -> int | None:
     """The sampling rate that the 24 bytes of a channel's status name, None where they name no usual one."""
     return next((usual.hertz for usual in RATES.values() if usual.code == status[3] & 15), None)
 
 
-def channel_status(sound, channel):
+def channel_status(sound: Sound, channel: int) -> list[int]:
     """The 192 bits of a channel's status (IEC 60958-3): consumer use, linear PCM, no copyright, the channel's number,
     the rate, and the bits of a sample."""
     status = 1 << 2 | channel << 20 | RATES[sound.rate].code << 24 | WORD_LENGTHS[sound.bits] << 32

@@ -5,13 +5,15 @@ import errno
 import itertools
 import os
 import shutil
+from collections.abc import Iterator
 from pathlib import Path
+from typing import IO, Any
 
 NUMBERS = itertools.count()
 
 
 @contextlib.contextmanager
-def naming(path, *known):
+def naming(path: str | Path, *known: str | Path) -> Iterator[None]:
     """Has the system's errors that name no file, as that of a full disk, or one of these name `path`."""
     try:
         yield
@@ -22,7 +24,7 @@ def naming(path, *known):
 
 
 @contextlib.contextmanager
-def replacing(path, mode="wb", **words):
+def replacing(path: str | Path, mode: str = "wb", **words: Any) -> Iterator[IO[Any]]:
     """Opens a file that takes the place of `path` once all of it is written; `words` are those of `open`. Where it
     cannot be written `path` stays as it was, nothing is left beside it, and the error names `path`. A device or a pipe
     is written as it is."""

@@ -8,7 +8,7 @@ import wave
 from collections import Counter
 
 import pytest
-from tests.support import BUILT, HANGS, TOP, ran
+from tests.support import HANGS, TOP, built, ran
 from PIL import Image
 from tests.models.timed import Sent, text
 
@@ -136,7 +136,7 @@ def report(tool, program, driver, tmp_path):
 
 
 def has_track():
-    path = os.environ.get("VABGROT_PROGRAM", BUILT)
+    path = built()
     return ran([path, "recover", "track"], b"").returncode != 2
 
 

@@ -311,20 +311,22 @@ class Mode(NamedTuple):
     positive: int
 
     @property
-    def size(self):
+    def size(self) -> tuple[int, int]:
+        """Pixels across and down."""
         return self.active_across, self.active_down
 
     @property
-    def across(self):
+    def across(self) -> int:
+        """The columns of a line."""
         return sum(self[:4])
 
     @property
-    def columns(self):
+    def columns(self) -> int:
         """The columns of a frame."""
         return self.across * sum(self[4:8])
 
     @property
-    def room(self):
+    def room(self) -> int:
         """The packets that a frame has room for: each line some whole packets, and 18 at most (docs/guide/FORMATS.md)."""
         beside, alone = self.sync_across + self.back_across - 30, self.across - 16
         blank = sum(self[5:8])
@@ -339,7 +341,7 @@ class Timing(NamedTuple):
     aspect: str
 
     @property
-    def clock(self):
+    def clock(self) -> int:
         """The pixel clock in Hz."""
         return self.mode.columns * self.rate
 
@@ -352,9 +354,8 @@ def _timing(vic: int) -> Timing:
     """The mode of a format of CTA-861, at its whole number of frames a second."""
     found = of_vic(vic)
     assert found is not None
-    across, down = found.across, found.down
-    parts = (*(part for axis in (across, down) for part in (axis.active, axis.front, axis.sync, axis.back)),)
-    return Timing(Mode(*parts, int(across.positive)), round(found.rate), found.aspect)
+    across, down = ((axis.active, axis.front, axis.sync, axis.back) for axis in (found.across, found.down))
+    return Timing(Mode(*across, *down, int(found.across.positive)), round(found.rate), found.aspect)
 
 
 VICS = {vic: _timing(vic) for vic in MADE}

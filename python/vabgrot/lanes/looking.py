@@ -2,11 +2,13 @@
 polarity."""
 
 import shlex
+from collections.abc import Sequence
 from itertools import permutations, product
 from pathlib import Path
 from typing import NamedTuple
 
 import numpy as np
+import numpy.typing as npt
 from tqdm import tqdm
 
 from vabgrot.formats.characters import (
@@ -22,6 +24,10 @@ from vabgrot.formats.characters import (
     VIDEO_PREAMBLE,
 )
 
+Bits = npt.NDArray[np.uint8]  # of a lane, each 0 or 1
+Words = npt.NDArray[np.uint16]  # characters
+Mask = npt.NDArray[np.bool_]
+
 GUARD, OTHER, _ = VIDEO_GUARD  # the two guard characters; the second is that of an island on lanes 1 and 2, too
 PART = 1 << 22
 MOST_ENDS = 20_000
@@ -34,20 +40,20 @@ class Ends(NamedTuple):
     eight are not alike), and that of the guard (0 where its two are not alike)."""
 
     lock: int
-    places: np.ndarray
-    preambles: np.ndarray
-    guards: np.ndarray
+    places: npt.NDArray[np.int64]
+    preambles: Words
+    guards: Words
 
 
-def words_at_all(bits):
+def words_at_all(bits: Bits) -> Words:
     """The ten bits from each place on, first bit lowest."""
     words = np.zeros(max(len(bits) - TEN + 1, 0), np.uint16)
     for place in range(TEN):
-        words |= bits[place : place + len(words)].astype(np.uint16) << place
+        words |= bits[place : place + len(words)].astype(np.uint16) << np.uint16(place)
     return words
 
 
-def lock_of(bits, is_control=IS_CONTROL):
+def lock_of(bits: Bits, is_control: Mask = IS_CONTROL) -> int | None:
     """The least place at which twelve control characters stand in a row."""
     for first in range(0, len(bits), PART):
         control = is_control[words_at_all(bits[first : first + PART + TEN * LEAST_CONTROL])]
@@ -60,14 +66,14 @@ def lock_of(bits, is_control=IS_CONTROL):
     return None
 
 
-def characters_of(bits, start):
+def characters_of(bits: Bits, start: int) -> Words:
     """The characters from a place on."""
     count = (len(bits) - start) // TEN
     rows = bits[start : start + TEN * count].reshape(count, TEN)
     return rows.astype(np.uint16) @ (1 << np.arange(TEN)).astype(np.uint16)
 
 
-def ends_of(bits):
+def ends_of(bits: Bits) -> Ends | None:
     """The ends of the control periods of a lane, or nothing where it has none."""
     lock = lock_of(bits)
     if lock is None:
@@ -88,13 +94,13 @@ class Turn(NamedTuple):
     unit: int
     start: int
 
-    def of(self, bits):
+    def of(self, bits: Bits) -> Bits:
         """The bits with each whole unit turned round; what is left over at the end is dropped."""
         end = self.start + (len(bits) - self.start) // self.unit * self.unit
         turned = bits[self.start : end].reshape(-1, self.unit)[:, ::-1].reshape(-1)
         return np.concatenate([bits[: self.start], turned]) if self.start else turned
 
-    def __str__(self):
+    def __str__(self) -> str:
         if self == AS_IT_IS:
             return "as it is"
         unit = {BYTES.unit: "byte", TEN: "ten"}[self.unit]
@@ -104,27 +110,30 @@ class Turn(NamedTuple):
 AS_IT_IS, BYTES = Turn(1, 0), Turn(8, 0)
 
 
-def turns_of(bits):
+def turns_of(bits: Bits) -> list[Turn]:
     """The bit orders to be tried: of each ten those from bit 0 on, as words are dumped, and those that are characters
     where control characters stand turned round."""
     place = lock_of(bits, IS_TURNED_CONTROL)
-    return dict.fromkeys([AS_IT_IS, BYTES, Turn(TEN, 0), Turn(TEN, (place or 0) % TEN)])
+    return [*dict.fromkeys([AS_IT_IS, BYTES, Turn(TEN, 0), Turn(TEN, (place or 0) % TEN)])]
 
 
-def score(ends):
+def score(ends: Ends | None) -> int:
     """How many control periods end in a guard character."""
     return int(np.isin(ends.guards, (GUARD, OTHER, *ISLAND_GUARDS_0)).sum()) if ends else -1
 
 
-def looked(bits):
-    """The bit order of a lane with the most guards, the first of them where it is as good as others, and its ends."""
-    best = max(((turn, ends_of(turn.of(bits))) for turn in turns_of(bits)), key=lambda pair: score(pair[1]))
-    return best if best[1] else (None, None)
+def looked(bits: Bits) -> tuple[Turn, Ends] | None:
+    """The bit order of a lane with the most guards, the first of them where it is as good as others, and its ends; None where it
+    has no ends in any."""
+    turn, ends = max(((turn, ends_of(turn.of(bits))) for turn in turns_of(bits)), key=lambda pair: score(pair[1]))
+    return (turn, ends) if ends else None
 
 
-def told(number, count, turn, ends):
-    if not ends:
+def lane_line(number: int, count: int, found: tuple[Turn, Ends] | None) -> str:
+    """The line on a lane of so many bits."""
+    if not found:
         return f"lane {number}: {count} bits, no twelve control characters in a row in any bit order"
+    turn, ends = found
     kinds = {"2cc": GUARD, "133": OTHER}
     counts = ", ".join(f"{int((ends.guards == kind).sum())} in {text}" for text, kind in kinds.items())
     islands = int(np.isin(ends.guards, ISLAND_GUARDS_0).sum())
@@ -134,8 +143,8 @@ def told(number, count, turn, ends):
     )
 
 
-def openings(found):
-    """The preambles and guards of the three lanes, a row an end that all three have within 70 bits."""
+def openings(found: Sequence[Ends]) -> Words:
+    """The preambles and guards of the three lanes at each end that all three have within 70 bits: lanes by ends by the two."""
     first = found[0].places
     rows = [np.stack([found[0].preambles, found[0].guards], axis=1)]
     near = np.ones(len(first), bool)
@@ -148,15 +157,17 @@ def openings(found):
         at = np.where(np.abs(ends.places[before] - first) <= np.abs(ends.places[at] - first), before, at)
         near &= np.abs(ends.places[at] - first) <= MOST_SKEW
         rows.append(np.stack([ends.preambles[at], ends.guards[at]], axis=1))
-    return np.stack(rows)[:, near]
+    both: Words = np.stack(rows)[:, near]
+    return both
 
 
-def right_openings(rows):
+def right_openings(rows: Words) -> int:
     """How many rows of preambles and guards of lanes 0, 1 and 2 open a line or an island (HDMI 1.4, section 5.2.1.1)."""
     (_, guard_0), (preamble_1, guard_1), (preamble_2, guard_2) = (lane.T for lane in rows)
 
-    def are(preambles):
-        return (preamble_1 == preambles[0]) & (preamble_2 == preambles[1]) & (guard_1 == OTHER)
+    def are(preambles: tuple[int, int]) -> Mask:
+        announced: Mask = (preamble_1 == preambles[0]) & (preamble_2 == preambles[1]) & (guard_1 == OTHER)
+        return announced
 
     line = are(VIDEO_PREAMBLE) & (guard_2 == GUARD) & (guard_0 == GUARD)
     island = are(ISLAND_PREAMBLE) & (guard_2 == OTHER) & np.isin(guard_0, ISLAND_GUARDS_0)
@@ -167,14 +178,14 @@ class Fit(NamedTuple):
     """How many openings are right where lane `order[c]` is taken for lane c, those of `inverts` turned over first."""
 
     right: int
-    order: tuple
-    inverts: tuple
+    order: tuple[int, ...]
+    inverts: tuple[int, ...]
 
 
-def fit_of(rows):
+def fit_of(rows: Words) -> tuple[Fit, int]:
     """The order and polarity with the most right openings, of the best ones that with the least change; and how many
     others are as good."""
-    fits = []
+    fits: list[Fit] = []
     for order, signs in product(permutations(range(3)), product((0, 1), repeat=3)):
         turned = np.stack([np.where(rows[lane] > 0, rows[lane] ^ (ALL * sign), 0) for lane, sign in enumerate(signs)])
         inverts = tuple(lane for lane in range(3) if signs[lane])
@@ -183,7 +194,7 @@ def fit_of(rows):
     return best, sum(fit.right == best.right for fit in fits) - 1
 
 
-def changes(fit, turns):
+def changes(fit: Fit, turns: Sequence[Turn]) -> str:
     """The words that pack the lanes as they are wanted, each of which is of one bit order."""
     order = [fit.order.index(lane) for lane in range(3)]
     words = ["--order " + ",".join(map(str, order))] if order != [0, 1, 2] else []
@@ -197,7 +208,7 @@ def changes(fit, turns):
     return " ".join(words)
 
 
-def commands(tool, path, words, turns, counts):
+def commands(tool: str, path: str, words: str, turns: Sequence[Turn], counts: Sequence[int]) -> str:
     """The commands that pack a capture anew, to be pasted, by the tool as it was called."""
     tool = shlex.quote(tool)
     stem = Path(path).with_suffix("")
@@ -213,17 +224,18 @@ def commands(tool, path, words, turns, counts):
     return f"{unpack}{source} && {tool} pack {words} --bits {bits} {files} > {again}"
 
 
-def judged(tool, path, lanes, counts):
+def judged(tool: str, path: str, lanes: Sequence[bytes | bytearray], counts: Sequence[int]) -> tuple[list[str], bool]:
     """The lines that say what was found of the lanes of the capture in a file, and whether it is right as it is; `tool` is
     how `lanes` was called."""
-    found = []
+    each = []
     for lane, count in zip(tqdm(lanes, unit="lane", disable=None), counts):
-        found.append(looked(np.unpackbits(np.frombuffer(lane, np.uint8), bitorder="little")[:count]))
-    lines = [told(number, count, *pair) for number, (count, pair) in enumerate(zip(counts, found))]
-    turns, ends = zip(*found)
-    if None in turns:
+        each.append(looked(np.unpackbits(np.frombuffer(lane, np.uint8), bitorder="little")[:count]))
+    lines = [lane_line(number, *pair) for number, pair in enumerate(zip(counts, each))]
+    found = [it for it in each if it is not None]
+    if len(found) < len(each):
         return lines + ["no alignment: not all lanes lock"], False
-    rows = openings(ends)
+    turns = [turn for turn, _ in found]
+    rows = openings([ends for _, ends in found])
     if not rows.shape[1]:
         return lines + [f"no alignment: no control periods of the three lanes end within {MOST_SKEW} bits"], False
     fit, others = fit_of(rows)

@@ -1,13 +1,18 @@
 """At which skews the openings of a capture's lines and islands fit, and at which one its lanes were aligned first."""
 
+from collections.abc import Sequence
 from itertools import product
+from pathlib import Path
 from typing import NamedTuple
 
 import numpy as np
+import numpy.typing as npt
 
 from vabgrot import capture
 from vabgrot.formats.characters import ISLAND_GUARDS_0, ISLAND_PREAMBLE, LEAST_CONTROL, MOST_SKEW, TEN, VIDEO_PREAMBLE
-from vabgrot.lanes.looking import GUARD, OTHER, ends_of
+from vabgrot.lanes.looking import GUARD, OTHER, Bits, Ends, Words, ends_of
+
+Places = npt.NDArray[np.int64]  # in a lane, in bits
 
 MOST_BITS = 1 << 24  # of each lane
 FARTHEST = 4095  # bits by which lanes are tried to be apart
@@ -26,19 +31,19 @@ class Fit(NamedTuple):
     last: tuple[int, ...] | None
 
     @property
-    def spread(self):
+    def spread(self) -> int:
         """How many bits the lanes are apart."""
         return max(0, *self.skew) - min(0, *self.skew)
 
     @property
-    def made_words(self):
+    def made_words(self) -> str:
         """The skew as `make --skew` takes it: by how many bits each lane begins later than one that begins first."""
         return ",".join(str(max(0, *self.skew) - late) for late in (0, *self.skew))
 
     @property
-    def cut(self):
+    def cut(self) -> tuple[int, ...]:
         """The places from which on the lanes begin with the twelve control characters before the first opening."""
-        return tuple(place - TEN * LEAST_CONTROL for place in self.first)
+        return tuple(place - TEN * LEAST_CONTROL for place in self.first or ())
 
 
 class Fits(NamedTuple):
@@ -50,12 +55,12 @@ class Fits(NamedTuple):
     later: Fit | None
 
     @property
-    def is_wrong(self):
+    def is_wrong(self) -> bool:
         """Whether openings fit, but none at the skew that was found."""
         return self.best.openings > 0 and (self.found is None or self.found.openings == 0)
 
 
-def beginnings(path, most=MOST_BITS):
+def beginnings(path: str | Path, most: int = MOST_BITS) -> list[Bits]:
     """The bits of the three lanes of a capture, at most so many of each: arrays of 0 and 1. They end where the file does.
     Refused where its header is none."""
     with open(path, "rb") as file:
@@ -71,7 +76,7 @@ def beginnings(path, most=MOST_BITS):
     ]
 
 
-def first_alignment(places):
+def first_alignment(places: list[Places]) -> list[int] | None:
     """The edges of the three lanes that are the first full alignment (docs/guide/FORMATS.md), or None."""
     for last in np.unique(np.concatenate(places)):
         near = [lane[np.searchsorted(lane, last - MOST_SKEW) : np.searchsorted(lane, last, "right")] for lane in places]
@@ -80,17 +85,18 @@ def first_alignment(places):
     return None
 
 
-def differences(places, others):
+def differences(places: Places, others: Places) -> list[int]:
     """By how many bits places of one lane are before or behind those of another, at most FARTHEST: the most frequent
     differences, of those that are as frequent the least."""
     first = np.searchsorted(others, places - FARTHEST)
     counts = np.searchsorted(others, places + FARTHEST, "right") - first
     within = np.arange(counts.sum()) - np.repeat(np.cumsum(counts) - counts, counts)
     found, times = np.unique(others[np.repeat(first, counts) + within] - np.repeat(places, counts), return_counts=True)
-    return found[np.lexsort((np.abs(found), -times))][:TRIED].tolist()
+    best: list[int] = found[np.lexsort((np.abs(found), -times))][:TRIED].tolist()
+    return best
 
 
-def at(ends, places):
+def at(ends: Ends, places: Places) -> tuple[Words, Words]:
     """The characters of the preamble and of the guard of a lane's ends at these places, 0 where there is no end."""
     found = np.searchsorted(ends.places, places)
     found[found == len(ends.places)] = 0
@@ -98,7 +104,7 @@ def at(ends, places):
     return ends.preambles[found] * is_end, ends.guards[found] * is_end
 
 
-def fit_at(ends, skew):
+def fit_at(ends: Sequence[Ends], skew: tuple[int, int]) -> Fit:
     """What control periods end in at a skew."""
     places = ends[0].places
     preamble_1, guard_1 = at(ends[1], places + skew[0])
@@ -107,27 +113,30 @@ def fit_at(ends, skew):
     island = np.isin(ends[0].guards, ISLAND_GUARDS_0) & (guard_1 == OTHER) & (guard_2 == OTHER)
     is_before = [(preamble_1 == one) & (preamble_2 == two) for one, two in (VIDEO_PREAMBLE, ISLAND_PREAMBLE)]
     right = places[line & is_before[0] | island & is_before[1]]
-    here = [tuple(int(place + late) for late in (0, *skew)) for place in right[[0, -1]]] if len(right) else [None, None]
-    return Fit(skew, len(right), int((line | island).sum()), *here)
+    guards = int((line | island).sum())
+    if not len(right):
+        return Fit(skew, 0, guards, None, None)
+    first, last = (tuple(int(place + late) for late in (0, *skew)) for place in right[[0, -1]])
+    return Fit(skew, len(right), guards, first, last)
 
 
-def fits(lanes):
+def fits(lanes: Sequence[Bits]) -> Fits | None:
     """How the openings of three lanes fit, as Fits; None where a lane has no control period that ends."""
-    ends = [ends_of(lane) for lane in lanes]
-    if not all(lane and len(lane.places) for lane in ends):
+    ends = [its for lane in lanes if (its := ends_of(lane)) and len(its.places)]
+    if len(ends) < len(lanes):
         return None
     edges = first_alignment([lane.places for lane in ends])
     found = fit_at(ends, (edges[1] - edges[0], edges[2] - edges[0])) if edges else None
     lines = [lane.places[lane.guards == guard] for lane, guard in zip(ends, (GUARD, OTHER, GUARD))]
-    islands = [lane.places[np.isin(lane.guards, guards)] for lane, guards in zip(ends, (ISLAND_GUARDS_0, OTHER, OTHER))]
-    tried = [
-        dict.fromkeys(differences(lines[0], lines[lane]) + differences(islands[0], islands[lane])) for lane in (1, 2)
-    ]
-    every = [fit_at(ends, skew) for skew in product(*tried)] + [found] * (found is not None)
+    guards = (ISLAND_GUARDS_0, (OTHER,), (OTHER,))
+    islands = [lane.places[np.isin(lane.guards, found_in)] for lane, found_in in zip(ends, guards)]
+    tried = [dict.fromkeys(differences(lines[0], lines[lane]) + differences(islands[0], islands[lane])) for lane in (1, 2)]
+    every = [fit_at(ends, (one, two)) for one, two in product(*tried)] + ([found] if found else [])
     every = every or [fit_at(ends, (0, 0))]
 
-    def order(fit):
+    def order(fit: Fit) -> tuple[int, int, bool, int]:
         return fit.openings, fit.guards, fit is found, -fit.spread
 
-    behind = [fit for fit in every if found and found.last and fit.openings > 1 and fit.first[0] > found.last[0]]
-    return Fits(found, max(every, key=order), max(behind, key=order, default=None))
+    last = found.last[0] if found and found.last else None
+    behind = [fit for fit in every if last is not None and fit.openings > 1 and fit.first and fit.first[0] > last]
+    return Fits(found, max(every, key=order), max(behind, key=order) if behind else None)

@@ -3,19 +3,22 @@
 import re
 
 import numpy as np
+import numpy.typing as npt
 from tqdm import tqdm
 
 from vabgrot.errors import Refused
 from vabgrot.formats.characters import TEN
+
+Words = npt.NDArray[np.uint16] | npt.NDArray[np.uint32]
 
 PART = 1 << 18  # words; four of them make five bytes
 TEXTS = np.array([f"{word:03x}\n".encode() for word in range(1 << TEN)])
 COMMENT = re.compile(rb"//[^\n]*")
 
 
-def words_of(data, width, path):
+def words_of(data: bytes, width: int, path: str) -> Words:
     """The words of a file as an array: of 16 or 32 bits, low byte first; or where `width` is ten hexadecimal numbers with
-    spaces or ends of lines between them, as Verilog's $readmemh reads and $writememh writes them."""
+    spaces or ends of lines between them, as Verilog's $readmemh reads and $writememh writes them. Raises Refused, with the path."""
     if width != TEN:
         if len(data) % (width // 8):
             raise Refused(f"{path}: its {len(data)} bytes are no whole number of words of {width} bits")
@@ -31,14 +34,15 @@ def words_of(data, width, path):
     return found.astype(np.uint16)
 
 
-def bits_of(words, msb):
+def bits_of(words: Words, msb: bool) -> npt.NDArray[np.bool_]:
     """The lowest ten bits of each word of an array of unsigned numbers as booleans, one after another from the lowest, or
     with `msb` from the highest on."""
     places = np.arange(TEN)[:: -1 if msb else 1]
-    return (words[:, None] >> places.astype(words.dtype) & 1).astype(bool).reshape(-1)
+    bits: npt.NDArray[np.bool_] = (words[:, None] >> places.astype(words.dtype) & 1).astype(bool).reshape(-1)
+    return bits
 
 
-def joined(words, msb):
+def joined(words: Words, msb: bool) -> bytes:
     """The bytes that have `bits_of` an array of words."""
     parts = []
     for at in tqdm(range(0, len(words), PART), unit="part", disable=None):
@@ -46,7 +50,7 @@ def joined(words, msb):
     return b"".join(parts)
 
 
-def parted(lane, count, width, msb):
+def parted(lane: bytes | bytearray, count: int, width: int, msb: bool) -> bytes:
     """The file of the words that have these bits of a lane, ten each, for `words_of`; zeros follow the last."""
     worth = (1 << np.arange(TEN)[:: -1 if msb else 1]).astype("<u4" if width == 32 else "<u2")
     bits, size, parts = np.frombuffer(lane, np.uint8), PART * TEN // 8, []

@@ -8,6 +8,8 @@ from dataclasses import dataclass
 
 from PIL import Image
 
+from vabgrot.link import Frame
+
 SMALL = (192, 144)
 ROOM = 24_000_000  # bytes for all pictures, of which base64 makes a third more
 QUALITIES = (90, 75, 55, 35, 20)
@@ -22,17 +24,19 @@ class Picture:
     scale: int
 
     @property
-    def text(self):
+    def text(self) -> str:
+        """The file in base64."""
         return b64encode(self.data).decode()
 
 
-def encoded(image, kind, **words):
+def encoded(image: Image.Image, kind: str, **words: int) -> bytes:
+    """The file of an image of a kind, with PIL's words for it."""
     out = io.BytesIO()
     image.save(out, kind, **words)
     return out.getvalue()
 
 
-def url(image):
+def url(image: Image.Image) -> str:
     """A small picture as a URL of its own."""
     small = image.copy()
     small.thumbnail(SMALL, Image.Resampling.BOX)
@@ -44,11 +48,13 @@ def url(image):
 class Album:
     """The pictures of a page. Frames that are alike have one file."""
 
-    def __init__(self, room=ROOM):
-        self.room, self.pictures, self.numbers = room, [], {}
+    def __init__(self, room: int = ROOM) -> None:
+        self.room = room
+        self.pictures: list[Picture] = []
+        self.numbers: dict[bytes, tuple[int, str]] = {}  # by what the frame is
         self.exact = 0  # the size of the last frame's exact file
 
-    def add(self, frame, left):
+    def add(self, frame: Frame, left: int) -> tuple[int, str]:
         """The number of a frame's picture, and its small one; `left` frames are still to come, as far as is known."""
         data = b"".join(row[: 3 * frame.width].ljust(3 * frame.width, b"\0") for row in frame.rows)
         image = Image.frombytes("RGB", (frame.width, len(frame.rows)), data)
@@ -59,7 +65,8 @@ class Album:
             self.room -= len(self.pictures[-1].data)
         return self.numbers[key]
 
-    def picture(self, image, room):
+    def picture(self, image: Image.Image, room: int) -> Picture:
+        """A frame's file of so many bytes at most, as far as that can be."""
         if self.exact < 2 * room or not self.exact:
             data = encoded(image, "PNG", compress_level=4)
             self.exact = len(data)

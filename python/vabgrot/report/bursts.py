@@ -6,7 +6,7 @@ from typing import NamedTuple
 
 from vabgrot.formats.characters import LEAST_CONTROL
 from vabgrot.formats.faults import DENSE
-from vabgrot.report.findings import PERIODS
+from vabgrot.report.findings import PERIODS, Faults, Periods
 
 CONTROL, VIDEO, PACKET, OPEN, CLOSE = map(PERIODS.index, ("control", "video", "packet", "open", "close"))
 NEAR = 64  # columns between two neighbouring faults of a burst at most
@@ -21,7 +21,7 @@ class Burst(NamedTuple):
     faults: list[int]
 
 
-def bursts_of(faults: dict[str, list], periods: dict[str, list]) -> list[Burst]:
+def bursts_of(faults: Faults, periods: Periods) -> list[Burst]:
     """The bursts among the faults of a listing, in the order of their columns. No row and no island that stands alone lies in
     one; nor does a slip."""
     order = sorted(range(len(faults["at"])), key=faults["at"].__getitem__)
@@ -38,7 +38,7 @@ def bursts_of(faults: dict[str, list], periods: dict[str, list]) -> list[Burst]:
     return [burst for group in groups if (burst := burst_of(faults, group))]
 
 
-def burst_of(faults: dict[str, list], group: list[int]) -> Burst | None:
+def burst_of(faults: Faults, group: list[int]) -> Burst | None:
     """The burst that faults near one another are, given by their numbers; None where they are too few."""
     places = {faults["at"][number] for number in group}
     shows = any(faults["kind"][number] in DENSE for number in group)
@@ -47,7 +47,7 @@ def burst_of(faults: dict[str, list], group: list[int]) -> Burst | None:
     return Burst(min(places), max(places) - min(places) + 1, sorted(group))
 
 
-def standing_alone(periods: dict[str, list], faulty: list[int]) -> Iterator[int]:
+def standing_alone(periods: Periods, faulty: list[int]) -> Iterator[int]:
     """The first columns of the rows and islands without a fault that stand after twelve control columns and before one."""
     quiet, first = 0, None
     for kind, at, columns in zip(periods["kind"], periods["at"], periods["columns"]):

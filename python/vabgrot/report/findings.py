@@ -3,11 +3,13 @@ themselves."""
 
 from collections import Counter
 from dataclasses import dataclass, field
+from typing import Generic, Protocol, TypedDict, TypeVar
 
-from vabgrot import link, packets
+from vabgrot import packets
 from vabgrot.formats.audio import BLOCK
 from vabgrot.formats.characters import TEN
 from vabgrot.formats.faults import LANED, OF_PACKET, UNCOUNTED
+from vabgrot.link import Frame, Frames, Thing
 from vabgrot.video.timings import Meter
 
 PERIODS = ("control", "video", "packet", "open", "close", "unknown", "unaligned")
@@ -19,11 +21,12 @@ FIRST_DIGITS = 48  # of a long row
 class Text:
     """The lines of the listing: whole where it is short, else without the pixels behind the first ones of a row."""
 
-    full: list = field(default_factory=list)
-    short: list = field(default_factory=list)
-    size: int = 0
+    full: list[str] = field(default_factory=list)
+    short: list[str] = field(default_factory=list)
+    size: int = 0  # bytes
 
-    def add(self, name, fields):
+    def add(self, name: str, fields: list[str]) -> None:
+        """The next line."""
         line = " ".join((name, *fields))
         self.size += len(line) + 1
         if self.size <= FULL_TEXT:
@@ -33,21 +36,25 @@ class Text:
         self.short.append(line)
 
     @property
-    def is_whole(self):
+    def is_whole(self) -> bool:
+        """Whether the lines are kept as they are."""
         return self.size <= FULL_TEXT
 
     @property
-    def lines(self):
+    def lines(self) -> list[str]:
+        """The lines, whole or short."""
         return self.full if self.is_whole else self.short
 
 
 class Blocks:
     """Finds the channel status in the C bits of samples: 192 of them, from one that starts a block to the next."""
 
-    def __init__(self):
-        self.bits, self.told = ([], []), Counter()
+    def __init__(self) -> None:
+        self.bits: tuple[list[int], list[int]] = ([], [])
+        self.found: Counter[tuple[tuple[int, ...], tuple[int, ...]]] = Counter()  # the bits of both channels
 
-    def take(self, sample):
+    def take(self, sample: packets.Sample) -> None:
+        """The next sample."""
         if sample.start:
             self.bits = ([], [])
         elif not self.bits[0]:
@@ -55,35 +62,43 @@ class Blocks:
         for bits, flags in zip(self.bits, (sample.left_flags, sample.right_flags)):
             bits.append(flags >> 2 & 1)
         if len(self.bits[0]) == BLOCK:
-            self.told[tuple(map(tuple, self.bits))] += 1
+            left, right = self.bits
+            self.found[tuple(left), tuple(right)] += 1
             self.bits = ([], [])
 
 
 class Sound:
     """The samples, the places of lost packets among them, and the first clock packet."""
 
-    def __init__(self):
-        self.left, self.right, self.gaps = bytearray(), bytearray(), []
-        self.clock, self.vic, self.blocks = None, None, Blocks()
+    def __init__(self) -> None:
+        self.left, self.right = bytearray(), bytearray()  # three bytes a sample, high byte first
+        self.gaps: list[int] = []
+        self.clock: tuple[int, int] | None = None  # N and CTS
+        self.vic = 0  # of the first AVI InfoFrame that names one
+        self.blocks = Blocks()
 
     @property
-    def samples(self):
+    def samples(self) -> int:
+        """How many samples of two channels there are."""
         return len(self.left) // 3
 
-    def take(self, content):
+    def take(self, content: packets.Content) -> None:
+        """The samples of the next packet, if it has some."""
         for sample in content.samples:
             self.left += sample.left[::-1]
             self.right += sample.right[::-1]
             self.blocks.take(sample)
 
-    def lose(self):
+    def lose(self) -> None:
+        """Samples may be missing before the next one."""
         self.gaps.append(self.samples)
         self.blocks.bits = ([], [])
 
 
 @dataclass
-class Told:
-    """A packet with what was told of it."""
+class Received:
+    """A packet with its place, and what the listing says of it: what was found of its five blocks, and how many of its
+    characters are none of TERC4."""
 
     line: int
     epoch: int
@@ -91,16 +106,17 @@ class Told:
     at: int
     packet: packets.Packet
     content: packets.Content | None = None
-    verdicts: list = field(default_factory=lambda: ["clean"] * 5)
+    verdicts: list[str] = field(default_factory=lambda: ["clean"] * 5)
     symbols: int = 0
 
-    def read(self):
+    def read(self) -> None:
         """Reads the content, where no block is lost."""
         if "lost" not in self.verdicts:
             self.content = packets.content_of(self.packet)
 
     @property
-    def words(self):
+    def words(self) -> str:
+        """What it carries, in words."""
         return self.content.words if self.content else "not read, since a block is lost"
 
 
@@ -115,49 +131,85 @@ class Epoch:
     hidden: int = 0
 
     @property
-    def hidden_columns(self):
+    def hidden_columns(self) -> int:
+        """The columns that have no line."""
         return -(-self.hidden // TEN)
 
 
-class Findings:
+class Periods(TypedDict):
+    """A table of periods, column by column: its kind as a number of PERIODS, its first column, how many it has, its line of the
+    listing, and what it has: the value of control columns, the pixels of a row, the first byte of a packet."""
+
+    kind: list[int]
+    at: list[int]
+    columns: list[int]
+    line: list[int]
+    value: list[int]
+
+
+class Faults(TypedDict):
+    """A table of faults, column by column: the lane (-1 where it has none), the column of the capture, the epoch and the column in
+    it, the line of the listing, its other numbers, and the frame, the pixel and the colour there (-1 where they are not known)."""
+
+    kind: list[str]
+    lane: list[int]
+    at: list[int]
+    epoch: list[int]
+    column: list[int]
+    line: list[int]
+    more: list[list[int]]
+    frame: list[int]
+    x: list[int]
+    y: list[int]
+    rgb: list[str]
+
+
+Shown = TypeVar("Shown")
+Shows = TypeVar("Shows", covariant=True)
+
+
+class Show(Protocol[Shows]):
+    """Turns a frame that ended at a column into what is kept of it: `ragged` rows have another width, and `vic` is the code of its
+    InfoFrame where that says another size."""
+
+    def __call__(self, frame: Frame, at: int, ragged: int, vic: int | None) -> Shows: ...
+
+
+class Findings(Generic[Shown]):
     """Takes the lines of a link listing, one after another, and gives each frame to `show` when it ends."""
 
-    def __init__(self, show, is_dvi=None):
-        self.show, self.frames_of, self.text, self.sound = show, link.Frames(is_dvi), Text(), Sound()
+    def __init__(self, show: Show[Shown], is_dvi: bool | None = None) -> None:
+        self.show, self.frames_of, self.text, self.sound = show, Frames(is_dvi), Text(), Sound()
         self.meter = Meter()
-        self.periods = {"kind": [], "at": [], "columns": [], "line": [], "value": []}
-        self.faults = {
-            "kind": [],
-            "lane": [],
-            "at": [],
-            "epoch": [],
-            "column": [],
-            "line": [],
-            "more": [],
-            "frame": [],
-            "x": [],
-            "y": [],
-            "rgb": [],
-        }
-        self.counts, self.content_counts = Counter(), Counter()
-        self.packets, self.frames, self.pending, self.last, self.vic = [], [], [], None, 0
-        self.epochs, self.rows, self.cut = [Epoch()], 0, None
-        self.unknown = -1  # the last period of no told length
+        self.periods: Periods = {"kind": [], "at": [], "columns": [], "line": [], "value": []}
+        places: Faults = {"kind": [], "lane": [], "at": [], "epoch": [], "column": [], "line": [], "more": [], "frame": [], "x": [], "y": [], "rgb": []}
+        self.faults = places
+        self.counts: Counter[tuple[str, int | None]] = Counter()  # of a link's faults, by kind and lane
+        self.content_counts: Counter[str] = Counter()
+        self.packets: list[Received] = []
+        self.frames: list[Shown] = []
+        self.pending: list[int] = []  # the faults among the rows of the frame that has not ended
+        self.last: Received | None = None  # the packet of which more may be said
+        self.epochs, self.rows, self.vic = [Epoch()], 0, 0
+        self.cut: Thing | None = None
+        self.unknown = -1  # the last period whose length is not known
         self.is_certain = True
 
     @property
-    def columns(self):
+    def columns(self) -> int:
+        """The columns so far, over all epochs."""
         counter = self.frames_of.columns
         return counter.before + counter.column
 
     @property
-    def aligned_columns(self):
+    def aligned_columns(self) -> int:
         """The columns without those of epochs that were not aligned."""
         return self.columns - sum(epoch.hidden_columns for epoch in self.epochs)
 
-    def take(self, line, name, fields):
+    def take(self, line: int, name: str, fields: list[str]) -> None:
+        """The next line, given its number, its name and its fields."""
         thing = self.frames_of.columns.take(line, name, fields)
-        if not (thing.kind == "fault" and thing.fields[0] in OF_PACKET):
+        if thing.fault not in OF_PACKET:
             self.settle()
         self.text.add(name, fields)
         self.meter.take(thing)
@@ -173,96 +225,115 @@ class Findings:
         else:
             self.period(thing)
 
-    def shift(self, columns):
-        """The last period of no told length has so many columns more, and all behind it begins as much later."""
+    def shift(self, columns: int) -> None:
+        """The last period whose length is not known has so many columns more, and all behind it begins as much later."""
         if columns and self.unknown >= 0:
             for number in range(self.unknown + 1, len(self.periods["at"])):
                 self.periods["at"][number] += columns
 
-    def period(self, thing):
-        value = thing.fields[0] if thing.kind == "control" else 0
+    def period(self, thing: Thing) -> None:
+        """Control columns, a row, or what an island is of."""
+        value = thing.value if thing.kind == "control" else 0
         if thing.kind == "video":
             self.rows += 1
-            value = len(thing.fields[0]) // 6
+            value = thing.pixels
         elif thing.kind == "packet":
-            self.last = Told(
-                thing.line, thing.epoch, thing.column, thing.at, packets.packet_of(thing.fields, thing.line)
-            )
-            value = self.last.packet.kind
-        self.add(self.periods, PERIODS.index(thing.kind), thing.at, thing.columns, thing.line, value)
+            packet = packets.packet_of(thing.texts, thing.line)
+            self.last = Received(thing.line, thing.epoch, thing.column, thing.at, packet)
+            value = packet.kind
+        self.add_period(thing.kind, thing.at, thing.columns, thing.line, value)
 
-    @staticmethod
-    def add(table, *values):
-        for column, value in zip(table.values(), values):
-            column.append(value)
+    def add_period(self, kind: str, at: int, columns: int, line: int, value: int) -> None:
+        """A row of the table of periods."""
+        self.periods["kind"].append(PERIODS.index(kind))
+        self.periods["at"].append(at)
+        self.periods["columns"].append(columns)
+        self.periods["line"].append(line)
+        self.periods["value"].append(value)
 
-    def settle(self):
-        """Reads the last packet, now that all is told of it."""
-        told, self.last = self.last, None
-        if told is None:
+    def add_fault(self, thing: Thing, at: int, lane: int, more: list[int]) -> None:
+        """A row of the table of faults; its frame is not known as long as that has not ended."""
+        x, y, rgb = self.pixel() if thing.fault == "code" else (-1, -1, "")
+        self.faults["kind"].append(thing.fault)
+        self.faults["lane"].append(lane)
+        self.faults["at"].append(at)
+        self.faults["epoch"].append(thing.epoch)
+        self.faults["column"].append(thing.column)
+        self.faults["line"].append(thing.line)
+        self.faults["more"].append(more)
+        self.faults["frame"].append(-1)
+        self.faults["x"].append(x)
+        self.faults["y"].append(y)
+        self.faults["rgb"].append(rgb)
+
+    def settle(self) -> None:
+        """Reads the last packet, now that all is said of it."""
+        received, self.last = self.last, None
+        if received is None:
             return
-        told.read()
-        self.packets.append(told)
-        content = told.content
+        received.read()
+        self.packets.append(received)
+        content, packet = received.content, received.packet
         if content is None:
-            if told.packet.kind == 2:
+            if packet.kind == 2:
                 self.sound.lose()
             return
         self.content_counts.update(fault.split()[0] for fault in content.faults)
-        if told.packet.kind == 1 and not content.faults and not self.sound.clock:
-            self.sound.clock = packets.clock_numbers(told.packet)
-        elif told.packet.kind == 0x82 and told.packet.header[1] == 2 and not content.faults:
-            self.vic = told.packet.bytes[4] & 127
+        if packet.kind == 1 and not content.faults and not self.sound.clock:
+            self.sound.clock = packets.clock_numbers(packet)
+        elif packet.kind == 0x82 and packet.header[1] == 2 and not content.faults:
+            self.vic = packet.bytes[4] & 127
             self.sound.vic = self.sound.vic or self.vic
         self.sound.take(content)
 
-    def fault(self, thing):
-        kind, *numbers = thing.fields
+    def fault(self, thing: Thing) -> None:
+        """A fault or a slip, with all that follows from it."""
+        kind, numbers = thing.fault, [*thing.numbers]
         self.counts[kind, numbers[0] if kind in LANED else None] += 1
         lane = numbers.pop(0) if kind in LANED else -1
         if kind == "slip":
             self.hide(numbers[0])
-        at = self.columns if kind == "slip" else thing.at
-        x, y, rgb = self.pixel() if kind == "code" else (-1, -1, "")
         if self.frames_of.frame.rows:
             self.pending.append(len(self.faults["kind"]))
         more = numbers if kind == "slip" else numbers[1:]
-        self.add(self.faults, kind, lane, at, thing.epoch, thing.column, thing.line, more, -1, x, y, rgb)
+        self.add_fault(thing, self.columns if kind == "slip" else thing.at, lane, more)
         if kind in OF_PACKET and self.last:
-            self.judge(kind, more)
+            self.judge(self.last, kind, more)
         elif kind == "slip":
             self.is_certain &= thing.is_exact
-            self.epochs.append(Epoch(self.columns, *more))
+            self.epochs.append(Epoch(self.columns, numbers[0]))
             self.sound.lose()
             self.cut, self.unknown = None, -1
         elif thing.columns or kind in UNCOUNTED:
             self.unknown = len(self.periods["at"])
-            self.add(self.periods, PERIODS.index("unknown"), thing.at, thing.columns, thing.line, 0)
+            self.add_period("unknown", thing.at, thing.columns, thing.line, 0)
 
-    def hide(self, end):
+    def hide(self, end: int) -> None:
         """The last epoch ends at this place of the capture. Where it was not aligned its bits are columns that no line tells."""
         epoch = self.epochs[-1]
         if not epoch.is_aligned and end > epoch.place:
             epoch.hidden = end - epoch.place
-            self.add(self.periods, PERIODS.index("unaligned"), self.columns, epoch.hidden_columns, 0, 0)
+            self.add_period("unaligned", self.columns, epoch.hidden_columns, 0, 0)
             self.frames_of.columns.leave_out(epoch.hidden_columns)
 
-    def judge(self, kind, more):
-        """What a fault says of the last packet."""
+    @staticmethod
+    def judge(packet: Received, kind: str, more: list[int]) -> None:
+        """What a fault says of a packet."""
         if kind == "symbols":
-            self.last.symbols = more[0]
+            packet.symbols = more[0]
         elif kind in ("mended", "lost"):
-            self.last.verdicts[more[0]] = f"mended, bit {more[1]}" if kind == "mended" else "lost"
+            packet.verdicts[more[0]] = f"mended, bit {more[1]}" if kind == "mended" else "lost"
 
-    def pixel(self):
+    def pixel(self) -> tuple[int, int, str]:
         """The place of the last `! code` in its frame, and the colour that was read there."""
         frame = self.frames_of.frame
-        if not frame.marks or frame.marks[-1].pixel is None:
+        x = frame.marks[-1].pixel if frame.marks else None
+        if x is None:
             return -1, len(frame.rows) - 1, ""
-        _, x, y = frame.marks[-1]
+        y = frame.marks[-1].row
         return x, y, frame.rows[y][3 * x : 3 * x + 3].hex()
 
-    def end_frame(self, frame, at):
+    def end_frame(self, frame: Frame, at: int) -> None:
         """Shows a frame that ended, and gives the faults that came among its rows to it."""
         number = len(self.frames)
         for fault in self.pending:
@@ -273,7 +344,7 @@ class Findings:
         self.content_counts.update({"ragged": ragged * frame.is_whole, "vic": int(other)})
         self.frames.append(self.show(frame, at, ragged, self.vic if other else None))
 
-    def finish(self, is_whole, bits):
+    def finish(self, is_whole: bool, bits: int) -> None:
         """No more lines come; a whole listing has its line `end`. `bits` are those of the longest lane."""
         if is_whole:
             self.text.add("end", [])
@@ -286,7 +357,7 @@ class Findings:
         if is_whole and len(self.epochs) > 1:
             self.hide(bits)
 
-    def stretch(self):
+    def stretch(self) -> None:
         """What could not be counted goes on until the next period."""
         ends = [*self.periods["at"][1:], self.columns]
         for number, kind in enumerate(self.periods["kind"]):

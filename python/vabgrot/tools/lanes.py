@@ -3,8 +3,10 @@
 import importlib
 import io
 import sys
-from argparse import ArgumentTypeError
+from argparse import ArgumentParser, ArgumentTypeError, Namespace
+from collections.abc import Callable, Iterable, Sequence
 from pathlib import Path
+from types import ModuleType
 
 from vabgrot import capture, command
 from vabgrot.capture import MOST_BITS
@@ -38,7 +40,7 @@ tools/lanes cut bars.tmc --from 3,0,0 > early.tmc
 tools/lanes look mixed.tmc || echo it has to be packed anew"""
 
 
-def bit_counts(text):
+def bit_counts(text: str) -> list[int]:
     """The value of --bits or of --from: one number for all lanes, or three."""
     counts = command.numbers(text, MOST_BITS)
     if len(counts) not in (1, 3):
@@ -46,7 +48,7 @@ def bit_counts(text):
     return counts * (3 // len(counts))
 
 
-def lane_numbers(text):
+def lane_numbers(text: str) -> list[int]:
     """The value of --invert: some lanes, each once."""
     numbers = command.numbers(text, 2)
     if len(set(numbers)) != len(numbers):
@@ -54,7 +56,7 @@ def lane_numbers(text):
     return numbers
 
 
-def order(text):
+def order(text: str) -> list[int]:
     """The value of --order: all three lanes."""
     numbers = lane_numbers(text)
     if len(numbers) != 3:
@@ -62,7 +64,7 @@ def order(text):
     return numbers
 
 
-def with_numpy(name):
+def with_numpy(name: str) -> ModuleType:
     """A module that asks for packages which the rest of this tool can do without."""
     try:
         return importlib.import_module(f"vabgrot.lanes.{name}")
@@ -70,29 +72,27 @@ def with_numpy(name):
         sys.exit(f"lanes: {why}; Debian's packages python3-numpy and python3-tqdm have it")
 
 
-def lane_of(path, bits, args):
+def lane_of(path: str, wanted: int | None, args: Namespace) -> tuple[bytes, int]:
     """The bytes of a lane and the number of its bits: those of the file, or the first ones."""
     with open(path, "rb") as file:
         data = file.read()
     words = with_numpy("words").words_of(data, args.words, path) if args.words else None
     most = TEN * len(words) if args.words else 8 * len(data)
-    bits = most if bits is None else bits
+    bits = most if wanted is None else wanted
     if bits > most:
         raise Refused(f"{path}: it has {most} bits, and {bits} are wanted")
     if bits > MOST_BITS:
         raise Refused(f"{path}: it has {bits} bits, and a lane has at most {MOST_BITS}")
-    if args.words:
-        whole = with_numpy("words").joined(words, args.msb)
-    else:
-        whole = data.translate(MIRROR if args.msb else None)
+    whole: bytes = with_numpy("words").joined(words, args.msb) if args.words else data.translate(MIRROR if args.msb else None)
     return whole[: (bits + 7) // 8], bits
 
 
-def inverted(lane):
+def inverted(lane: bytes) -> bytes:
+    """A lane with all bits turned over."""
     return bytes(byte ^ 0xFF for byte in lane)
 
 
-def each_once(paths):
+def each_once(paths: Iterable[str]) -> None:
     """Refuses a file that is named twice, unless it is none that holds what is written to it."""
     known = set()
     for path in (Path(path) for path in paths):
@@ -102,32 +102,35 @@ def each_once(paths):
         known.add(place)
 
 
-def written(lanes, counts):
+def written(lanes: Sequence[bytes], counts: Sequence[int]) -> None:
     """Writes a capture of some lanes to standard output."""
     capture.write(sys.stdout.buffer, [io.BytesIO(lane) for lane in lanes], counts if len(set(counts)) > 1 else counts[:1])
 
 
-def pack(args):
+def pack(args: Namespace) -> int:
+    """Three files into a capture."""
     each_once(args.lanes)
     lanes, counts = [b""] * 3, [0] * 3
     for number, path, bits in zip(args.order, args.lanes, args.bits or [None] * 3):
         lane, counts[number] = lane_of(path, bits, args)
-        lane = bytearray(inverted(lane) if number in args.invert else lane)
+        bits_of = bytearray(inverted(lane) if number in args.invert else lane)
         if counts[number] % 8:
-            lane[-1] &= (1 << counts[number] % 8) - 1
-        lanes[number] = lane
+            bits_of[-1] &= (1 << counts[number] % 8) - 1
+        lanes[number] = bytes(bits_of)
     written(lanes, counts)
     return command.DONE
 
 
-def unpacked(lane, count, args):
+def unpacked(lane: bytes, count: int, args: Namespace) -> bytes:
     """The bytes of the file of a lane."""
-    if args.words:
-        return with_numpy("words").parted(lane, count, args.words, args.msb)
-    return lane.translate(MIRROR if args.msb else None)
+    if not args.words:
+        return lane.translate(MIRROR if args.msb else None)
+    data: bytes = with_numpy("words").parted(lane, count, args.words, args.msb)
+    return data
 
 
-def unpack(args):
+def unpack(args: Namespace) -> int:
+    """A capture into three files."""
     each_once(args.lanes)
     lanes, counts = capture.lanes_of(sys.stdin.buffer.read())
     for path, lane, count in zip(args.lanes, lanes, counts):
@@ -138,7 +141,8 @@ def unpack(args):
     return command.DONE
 
 
-def cut(args):
+def cut(args: Namespace) -> int:
+    """A capture without the first bits of its lanes."""
     with open(args.capture, "rb") as file:
         lanes, counts = capture.lanes_of(file.read())
     for number, (count, start) in enumerate(zip(counts, args.starts)):
@@ -146,12 +150,13 @@ def cut(args):
             raise Refused(f"{args.capture}: lane {number} has {count} bits, and {start} are to be cut")
         whole = int.from_bytes(lanes[number][start // 8 :], "little") >> start % 8
         counts[number] -= start
-        lanes[number] = whole.to_bytes((counts[number] + 7) // 8, "little")
+        lanes[number] = bytearray(whole.to_bytes((counts[number] + 7) // 8, "little"))
     written(lanes, counts)
     return command.DONE
 
 
-def look(args):
+def look(args: Namespace) -> int:
+    """What the lanes of a capture look like."""
     looking = with_numpy("looking")
     with open(args.capture, "rb") as file:
         lanes, counts = capture.lanes_of(file.read())
@@ -160,37 +165,53 @@ def look(args):
     return command.DONE if is_right else command.FAULTY
 
 
-def work(argv):
+def add_words(words: ArgumentParser) -> None:
+    """The words of pack and unpack."""
+    words.add_argument("lanes", nargs=3, metavar="FILE", help="lane 0 (blue), lane 1 (green), lane 2 (red)")
+    words.add_argument("--msb", action="store_true", help="the first bit is the highest of a byte, or of its ten")
+    text = """a file is words of so many bits, low byte first, with ten bits of the lane in the lowest ten of each; with 10 it
+    is text, a word of three hexadecimal digits a line, as Verilog's $readmemh reads it"""
+    words.add_argument("--words", type=int, choices=[10, 16, 32], help=text)
+
+
+def add_pack_words(words: ArgumentParser) -> None:
+    """Those of pack alone."""
+    text = "the bits of each file, where a last byte or word is not whole"
+    words.add_argument("--bits", type=bit_counts, metavar="B[,B,B]", help=text)
+    text = "turn all bits of these lanes of the capture over, as 1 or 0,2"
+    words.add_argument("--invert", type=lane_numbers, default=[], metavar="LANES", help=text)
+    text = "which lanes of the capture the three files are, in turn; 0,1,2 if left out"
+    words.add_argument("--order", type=order, default=[0, 1, 2], metavar="L,L,L", help=text)
+
+
+def work(argv: Sequence[str] | None) -> int:
     parser = command.parser("lanes", TEXT, "for look, where the capture is not right as it is", EXAMPLES)
     parsers = parser.add_subparsers(required=True, metavar="pack|unpack|cut|look")
-    for name, work, text in (("pack", pack, PACK), ("unpack", unpack, UNPACK)):
-        words = parsers.add_parser(name, help=text.split(". ")[0], description=text)
-        words.add_argument("lanes", nargs=3, metavar="FILE", help="lane 0 (blue), lane 1 (green), lane 2 (red)")
-        words.add_argument("--msb", action="store_true", help="the first bit is the highest of a byte, or of its ten")
-        text = """a file is words of so many bits, low byte first, with ten bits of the lane in the lowest ten of each; with 10 it
-        is text, a word of three hexadecimal digits a line, as Verilog's $readmemh reads it"""
-        words.add_argument("--words", type=int, choices=[10, 16, 32], help=text)
+
+    def add(name: str, work: Callable[[Namespace], int], says: str, text: str) -> ArgumentParser:
+        words = parsers.add_parser(name, help=says, description=text)
         words.set_defaults(work=work)
-        if work is unpack:
-            continue
-        text = "the bits of each file, where a last byte or word is not whole"
-        words.add_argument("--bits", type=bit_counts, metavar="B[,B,B]", help=text)
-        text = "turn all bits of these lanes of the capture over, as 1 or 0,2"
-        words.add_argument("--invert", type=lane_numbers, default=[], metavar="LANES", help=text)
-        text = "which lanes of the capture the three files are, in turn; 0,1,2 if left out"
-        words.add_argument("--order", type=order, default=[0, 1, 2], metavar="L,L,L", help=text)
-    for name, work, text in (("cut", cut, CUT), ("look", look, LOOK)):
-        help_text = "cuts lanes at their beginning" if work is cut else "says why a capture has no alignment"
-        words = parsers.add_parser(name, help=help_text, description=text)
+        return words
+
+    for name, its_work, text in (("pack", pack, PACK), ("unpack", unpack, UNPACK)):
+        words = add(name, its_work, text.split(". ")[0], text)
+        add_words(words)
+        if its_work is pack:
+            add_pack_words(words)
+    for name, its_work, says, text in (
+        ("cut", cut, "cuts lanes at their beginning", CUT),
+        ("look", look, "says why a capture has no alignment", LOOK),
+    ):
+        words = add(name, its_work, says, text)
         words.add_argument("capture", metavar="CAPTURE", help="the file of a capture")
-        words.set_defaults(work=work)
-        if work is cut:
+        if its_work is cut:
             text = "the bit of each lane, or of all of them, with which it is to begin"
             words.add_argument("--from", type=bit_counts, required=True, dest="starts", metavar="P[,P,P]", help=text)
     args = parser.parse_args(argv)
-    return args.work(args)
+    status: int = args.work(args)
+    return status
 
 
-def main(argv=None):
+def main(argv: Sequence[str] | None = None) -> int:
     """Runs the tool over its words, those of the command line if none are given; answers its status."""
     return command.run("lanes", lambda: work(argv))

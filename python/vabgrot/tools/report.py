@@ -6,12 +6,14 @@ import sys
 import zlib
 from base64 import b64encode
 from collections import Counter
+from collections.abc import Sequence
 from concurrent.futures import ThreadPoolExecutor
 from itertools import accumulate
 from pathlib import Path
-from typing import NamedTuple
+from typing import Any, NamedTuple, TypedDict
 
 import jinja2
+from markupsafe import Markup
 from tqdm import tqdm
 
 from vabgrot import command, listing, packets, pcm, place, program
@@ -19,10 +21,11 @@ from vabgrot.errors import Refused
 from vabgrot.formats.faults import BY_ROW, CONTENT, OF_SKEW
 from vabgrot.formats.modes import VICS
 from vabgrot.lanes import openings
+from vabgrot.link import Frame
 from vabgrot.replacing import replacing
 from vabgrot.report import bursts
 from vabgrot.report.album import Album
-from vabgrot.report.findings import Findings
+from vabgrot.report.findings import Findings, Sound
 from vabgrot.video.matching import SIZES, Rate, change_note, timings
 from vabgrot.video.timings import PARTS
 
@@ -58,22 +61,52 @@ CUT = "“tools/lanes cut {name} --from {cut} > cut.tmc” begins where they fit
 MOST_PEAKS, WAVE = 1200, 1200
 
 
-def header_of(path):
-    """The version of a capture and the bits of each lane; the program judges all else of it."""
+def header_of(path: Path) -> list[int]:
+    """The bits of each lane of a capture; the program judges all else of it."""
     with open(path, "rb") as file:
         head = file.read(16)
     count = 3 if head[3:4] == b"2" else 1
     bits = [int.from_bytes(head[at : at + 4], "big") for at in range(4, 4 + 4 * count, 4)]
-    return head[3:4].decode("ascii", "replace"), bits * (3 // count)
+    return bits * (3 // count)
+
+
+# What the page has of a frame.
+Shown = TypedDict(
+    "Shown",
+    {
+        "picture": int,
+        "width": int,
+        "height": int,
+        "whole": bool,
+        "number": int,
+        "faults": dict[str, int],
+        "says": str,
+        "line": int,
+        "lines": list[int],
+        "from": int,
+        "to": int,
+        "kind": str,
+    },
+)
+Found = Findings[Shown]
+
+
+class Info(TypedDict):
+    """What the page has of an InfoFrame, a clock or a general control packet that came so many times."""
+
+    name: str
+    rows: tuple[packets.Row, ...]
+    line: int
+    times: int
 
 
 class Show:
     """Turns each frame that ends into what the page has of it."""
 
-    def __init__(self, columns):
+    def __init__(self, columns: int) -> None:
         self.album, self.columns, self.frames, self.whole = Album(), columns, 0, 0
 
-    def __call__(self, frame, at, ragged, vic):
+    def __call__(self, frame: Frame, at: int, ragged: int, vic: int | None) -> Shown:
         self.frames += 1
         self.whole += frame.is_whole
         left = max(0, round((self.columns - at) * self.frames / max(at, 1)))
@@ -100,15 +133,16 @@ class Show:
         }
 
 
-def check_end(run, words, path):
+def check_end(run: program.Run, words: list[str], path: Path) -> None:
     """Refused where the program ended otherwise than after a capture, or after what is none."""
     if run.status not in (0, 1, program.NO_CAPTURE, program.NO_ALIGNMENT):
         raise Refused(f"`{' '.join(words)}` of {path}: {run.note or f'status {run.status}'}")
 
 
-def contents_of(path):
+def contents_of(path: Path) -> Counter[str]:
     """How many fault lines of each kind `recover content` writes of what a capture's link carried."""
-    words, counts = ["recover", "content"], Counter()
+    words = ["recover", "content"]
+    counts: Counter[str] = Counter()
     with program.Run(words, path) as run:
         for line in run.output:
             if line.startswith(b"! "):
@@ -117,7 +151,7 @@ def contents_of(path):
     return Counter({kind: counts[kind] for kind in CONTENT if counts[kind]})
 
 
-def gather(words, path, bits):
+def gather(words: list[str], path: Path, bits: int) -> tuple[Found, Album, program.Run]:
     """What the program tells of a capture, its status and its note. Of a capture without slips the faults of its contents
     are those of `recover content`, which knows of no slips and reads HDMI alone."""
     with ThreadPoolExecutor(1) as beside:
@@ -128,7 +162,7 @@ def gather(words, path, bits):
     return found, album, run
 
 
-def heard(words, path, bits):
+def heard(words: list[str], path: Path, bits: int) -> tuple[Found, Album, program.Run]:
     """What a link listing of a capture tells, the pictures, and the run that wrote it; `bits` are those of the longest lane."""
     show = Show(bits // 10)
     found = Findings(show, is_dvi=words[1] == "dvi")
@@ -140,15 +174,15 @@ def heard(words, path, bits):
     return found, show.album, run
 
 
-def places_of(found):
+def places_of(found: Found) -> list[str]:
     """How many faults each lane has, and how many are of none."""
-    counts = Counter()
+    counts: Counter[int] = Counter()
     for (_, lane), times in found.counts.items():
         counts[3 if lane is None else lane] += times
     return [f"{count:,} {PLACES[place]}" for place, count in sorted(counts.items())]
 
 
-def bits_of(bits):
+def bits_of(bits: list[int]) -> str:
     """How many bits the lanes have, in words."""
     return f"{bits[0]:,} bits a lane" if len(set(bits)) == 1 else "{:,}, {:,} and {:,} bits of the lanes".format(*bits)
 
@@ -156,16 +190,16 @@ def bits_of(bits):
 class Slips(NamedTuple):
     """What became of the slips, in words: how many were aligned anew, and from which place on none; and what is not shown."""
 
-    count: int
+    number: int
     aligned: str
     hidden: str
 
-    def __str__(self):
-        says = f"{self.count:,} slip{'s' * (self.count > 1)}, {self.aligned}"
+    def __str__(self) -> str:
+        says = f"{self.number:,} slip{'s' * (self.number > 1)}, {self.aligned}"
         return f"{says}: {self.hidden} not shown" if self.hidden else says
 
 
-def slips_of(found, bits):
+def slips_of(found: Found, bits: list[int]) -> Slips | None:
     """What became of the slips; None where there are none."""
     epochs = found.epochs[1:]
     if not epochs:
@@ -184,7 +218,7 @@ def slips_of(found, bits):
     return Slips(len(epochs), ", ".join(aligned), f"{' and '.join(hidden)} are" if hidden else "")
 
 
-def verdict_of(found, run, slips):
+def verdict_of(found: Found, run: program.Run, slips: Slips | None) -> dict[str, str]:
     """The word at the top, and a sentence on it."""
     total = sum(found.counts.values())
     faults = f"{total:,} fault line{'s' * (total != 1)}"
@@ -207,14 +241,14 @@ def verdict_of(found, run, slips):
     return {"word": word, "sign": sign, "kind": kind, "says": says}
 
 
-def contents_in_words(found):
+def contents_in_words(found: Found) -> list[str]:
     """How many faults of each kind the contents have."""
     return [f"{found.content_counts[kind]:,} {kind}" for kind in CONTENT if found.content_counts[kind]]
 
 
-def matrix_of(found):
+def matrix_of(found: Found) -> list[dict[str, object]]:
     """The fault counts, by kind and lane."""
-    rows = []
+    rows: list[dict[str, object]] = []
     for fault in BY_ROW:
         kind = fault.kind
         counts = [(lane, found.counts[kind, None if lane < 0 else lane]) for lane in (0, 1, 2, -1)]
@@ -223,25 +257,30 @@ def matrix_of(found):
     return rows
 
 
-def infos_of(found):
+def infos_of(found: Found) -> list[Info]:
     """Each unlike InfoFrame, clock and general control packet, how often it came, and where first."""
-    infos = {}
-    for told in found.packets:
-        if told.content and told.content.rows:
-            key = told.packet.name, tuple(told.content.rows)
-            infos.setdefault(key, {"name": key[0], "rows": key[1], "line": told.line, "times": 0})["times"] += 1
-    return sorted(infos.values(), key=lambda info: -info["times"])[:24]
+    infos: dict[tuple[str, tuple[packets.Row, ...]], Info] = {}
+    for one in found.packets:
+        if one.content and one.content.rows:
+            key = one.packet.name, tuple(one.content.rows)
+            infos.setdefault(key, {"name": key[0], "rows": key[1], "line": one.line, "times": 0})["times"] += 1
+
+    def order(info: Info) -> int:
+        return -info["times"]
+
+    return sorted(infos.values(), key=order)[:24]
 
 
-def rate_of(sound, clock):
+def rate_of(sound: Sound, clock: int | None) -> tuple[int, bool]:
     """The sampling rate by the clock packet, and whether it is only supposed."""
     clock = clock or (VICS[sound.vic].clock if sound.vic in VICS else None)
     if not sound.clock or not all(sound.clock) or not clock:
         return 48000, False
-    return pcm.rate_of(*sound.clock, clock), True
+    n, cycles = sound.clock
+    return pcm.rate_of(n, cycles, clock), True
 
 
-def paths_of(data, middle, size):
+def paths_of(data: bytearray, middle: int, size: int) -> str:
     """The outline of one side's samples, as an SVG path: the greatest of each step, and back the least."""
     steps = min(MOST_PEAKS, size)
     above, below = [], []
@@ -255,7 +294,7 @@ def paths_of(data, middle, size):
     return f"M{'L'.join(above + below[::-1])}Z"
 
 
-def sound_of(found, clock):
+def sound_of(found: Found, clock: int | None) -> dict[str, object] | None:
     """What the page has of the sound."""
     sound = found.sound
     if not sound.samples:
@@ -277,7 +316,7 @@ def sound_of(found, clock):
             "times": times,
             "rows": [(name, one, other) for (name, one), (_, other) in zip(*map(packets.channel_status, both))],
         }
-        for both, times in sound.blocks.told.most_common(4)
+        for both, times in sound.blocks.found.most_common(4)
     ]
     return {
         "says": says,
@@ -292,16 +331,20 @@ def sound_of(found, clock):
     }
 
 
-def data_of(name, found, album):
+def data_of(name: str, found: Found, album: Album) -> str:
     """What the page's script reads: lists by column, packed."""
-    words = {}
-    table = {"names": [], "at": [], "words": [], "faults": [], "verdicts": [], "symbols": [], "line": []}
-    for told in found.packets:
-        place = words.setdefault(told.words, len(words))
-        faults = told.content.faults if told.content else []
-        found.add(table, told.packet.name, told.at, place, faults, told.verdicts, told.symbols, told.line)
+    words: dict[str, int] = {}
+    table = {
+        "names": [one.packet.name for one in found.packets],
+        "at": [one.at for one in found.packets],
+        "words": [words.setdefault(one.words, len(words)) for one in found.packets],
+        "faults": [one.content.faults if one.content else [] for one in found.packets],
+        "verdicts": [one.verdicts for one in found.packets],
+        "symbols": [one.symbols for one in found.packets],
+        "line": [one.line for one in found.packets],
+    }
     alignments = accumulate(epoch.is_aligned for epoch in found.epochs)
-    data = {
+    data: dict[str, object] = {
         "name": name,
         "columns": found.columns,
         "epochs": [epoch.at for epoch in found.epochs],
@@ -323,11 +366,11 @@ def data_of(name, found, album):
     return b64encode(zlib.compress(json.dumps(data, separators=(",", ":")).encode(), 6)).decode()
 
 
-def counts_of(found, bits, size, slips):
+def counts_of(found: Found, bits: list[int], size: int, slips: Slips | None) -> list[tuple[str, str, str]]:
     """The numbers at the top."""
     whole = sum(frame["whole"] for frame in found.frames)
     parts = len(found.frames) - whole
-    hurt = sum(told.symbols > 0 or told.verdicts.count("clean") < 5 for told in found.packets)
+    hurt = sum(one.symbols > 0 or one.verdicts.count("clean") < 5 for one in found.packets)
     counts = [
         ("faults", f"{sum(found.counts.values()):,}", "lines of the listing"),
         ("columns", f"{found.aligned_columns:,}", "" if found.is_certain else "about, since some could not be counted"),
@@ -338,13 +381,14 @@ def counts_of(found, bits, size, slips):
         ("capture", f"{size / 1e6:,.1f} MB" if size >= 1e6 else f"{size:,} bytes", bits_of(bits)),
     ]
     if slips:
-        counts.insert(1, ("slips", f"{slips.count:,}", slips.aligned))
+        counts.insert(1, ("slips", f"{slips.number:,}", slips.aligned))
     if found.content_counts.total():
         counts.insert(1, ("contents", f"{found.content_counts.total():,}", "faults of what was carried"))
     return counts
 
 
-def notes_of(found, words, album):
+def notes_of(found: Found, words: list[str], album: Album) -> list[str]:
+    """What is to be known of the page: what is not shown, or otherwise than it was."""
     notes = []
     if found.cut:
         notes.append(
@@ -359,9 +403,9 @@ def notes_of(found, words, album):
             "So that the page stays small some pictures are not exact; where they are enlarged, damaged pixels are."
         )
     colours = {
-        dict(told.content.rows)["format"]
-        for told in found.packets
-        if told.packet.name == "AVI InfoFrame" and told.content and told.content.rows
+        str(dict(one.content.rows)["format"])
+        for one in found.packets
+        if one.packet.name == "AVI InfoFrame" and one.content and one.content.rows
     }
     if colours - {"RGB"}:
         notes.append(
@@ -370,21 +414,23 @@ def notes_of(found, words, album):
     return notes
 
 
-def fits_of(path, words, found, run):
+def fits_of(path: Path, words: list[str], found: Found, run: program.Run) -> openings.Fits | None:
     """At which skews openings of HDMI fit; None where nothing speaks against the one that was found, or a lane has no control
     period among the bits that are looked at."""
     is_suspect = run.status == program.NO_ALIGNMENT or any(kind in OF_SKEW for kind, _ in found.counts)
     return openings.fits(openings.beginnings(path)) if is_suspect and words[1] != "dvi" else None
 
 
-def opening_advice(path, found, fits):
+def opening_advice(path: Path, found: Found, fits: openings.Fits) -> str | None:
     """What to do where openings fit at another skew than that of the first alignment; None where they do not."""
     best, fit = fits.best, fits.best if fits.is_wrong else fits.later
+    if fit is None:
+        return None
     if fits.is_wrong and fits.found:
         says = WRONG.format(found=fits.found.made_words, best=best.made_words, openings=f"{best.openings:,}")
     elif fits.is_wrong:
         says = FAR.format(best=best.made_words, openings=f"{best.openings:,}")
-    elif fit and len(found.epochs) == 1:
+    elif fit.first and fits.found and fits.found.last and len(found.epochs) == 1:
         last, first = f"{fits.found.last[0]:,}", f"{fit.first[0]:,}"
         says = LATER.format(last=last, first=first, found=fits.found.made_words, later=fit.made_words)
     else:
@@ -392,10 +438,10 @@ def opening_advice(path, found, fits):
     return f"{says} {CUT.format(name=shlex.quote(path.name), cut=','.join(map(str, fit.cut)))}"
 
 
-def advice_of(path, words, found, run):
+def advice_of(path: Path, words: list[str], found: Found, run: program.Run) -> tuple[str, ...]:
     """What to look at; first whether the lanes were aligned at the right skew, and then whether the source is one of DVI."""
     fits = fits_of(path, words, found, run)
-    wrong = fits and opening_advice(path, found, fits)
+    wrong = opening_advice(path, found, fits) if fits else None
     if wrong:
         return (wrong,)
     if run.status == program.NO_ALIGNMENT:
@@ -405,52 +451,51 @@ def advice_of(path, words, found, run):
     return (DVI_ADVICE, *ADVICE) if fits and not fits.best.guards else ADVICE
 
 
-def page_of(path, words, found, album, run, bits, clock):
+def page_of(path: Path, words: list[str], found: Found, album: Album, run: program.Run, bits: list[int], clock: int | None) -> str:
     """The page's text."""
-    sound = sound_of(found, clock)
-    sections = [("timing", "Timing")] * bool(found.rows) + [("pictures", "Pictures"), ("timeline", "Timeline"), ("faults", "Faults"), ("packets", "Packets")]
-    sections += [("sound", "Sound")] * bool(sound) + [("listing", "Listing")]
-    advice = advice_of(path, words, found, run)
-    slips = slips_of(found, bits)
-    measured = timings(found.meter, Rate(clock))
-    whole = "whole" if found.text.is_whole else "with the first pixels of each row"
-    return (
-        jinja2.Environment(loader=jinja2.FileSystemLoader(PAGE), autoescape=True)
-        .get_template("report.html")
-        .render(
-            name=path.name,
-            link="DVI" if words[1] == "dvi" else "HDMI",
-            verdict=verdict_of(found, run, slips),
-            sections=([("advice", "What to look at")] if advice else []) + (sections if found.columns else []),
-            counts=counts_of(found, bits, path.stat().st_size, slips),
-            parts=PARTS,
-            timings=measured[:SIZES],
-            change=change_note(measured),
-            notes=notes_of(found, words, album) if found.columns else [],
-            advice=[place.named(line) for line in advice],
-            slips=slips,
-            columns=found.columns,
-            frames=found.frames,
-            matrix=matrix_of(found),
-            content_faults=[
-                (kind, found.content_counts[kind], fault.says)
-                for kind, fault in CONTENT.items()
-                if found.content_counts[kind]
-            ],
-            packets=found.packets,
-            infos=infos_of(found),
-            sound=sound,
-            listing_says=f"What “{' '.join(words)}” wrote, {whole}: {len(found.text.lines):,} lines, {found.text.size:,} bytes.",
-            made=f"{place.named('tools/report')} {path.name}",
-            style=jinja2.utils.markupsafe.Markup((PAGE / "report.css").read_text("utf-8")),
-            script=jinja2.utils.markupsafe.Markup("".join((PAGE / name).read_text("utf-8") for name in SCRIPTS)),
-            data=data_of(path.stem, found, album),
-            pictures=album.pictures,
-        )
+    template = jinja2.Environment(loader=jinja2.FileSystemLoader(PAGE), autoescape=True).get_template("report.html")
+    slips, measured = slips_of(found, bits), timings(found.meter, Rate(clock))
+    return template.render(
+        name=path.name,
+        link="DVI" if words[1] == "dvi" else "HDMI",
+        verdict=verdict_of(found, run, slips),
+        counts=counts_of(found, bits, path.stat().st_size, slips),
+        parts=PARTS,
+        timings=measured[:SIZES],
+        change=change_note(measured),
+        notes=notes_of(found, words, album) if found.columns else [],
+        slips=slips,
+        made=f"{place.named('tools/report')} {path.name}",
+        style=Markup((PAGE / "report.css").read_text("utf-8")),
+        script=Markup("".join((PAGE / name).read_text("utf-8") for name in SCRIPTS)),
+        data=data_of(path.stem, found, album),
+        pictures=album.pictures,
+        **sections_of(found, words, advice_of(path, words, found, run), sound_of(found, clock)),
     )
 
 
-def work(argv):
+def sections_of(found: Found, words: list[str], advice: tuple[str, ...], sound: dict[str, object] | None) -> dict[str, Any]:
+    """What the template has of the sections, and their names and titles."""
+    sections = [("timing", "Timing")] * bool(found.rows)
+    sections += [("pictures", "Pictures"), ("timeline", "Timeline"), ("faults", "Faults"), ("packets", "Packets")]
+    sections += [("sound", "Sound")] * bool(sound) + [("listing", "Listing")]
+    contents = [(kind, found.content_counts[kind], fault.says) for kind, fault in CONTENT.items()]
+    whole = "whole" if found.text.is_whole else "with the first pixels of each row"
+    return {
+        "sections": ([("advice", "What to look at")] if advice else []) + (sections if found.columns else []),
+        "advice": [place.named(line) for line in advice],
+        "columns": found.columns,
+        "frames": found.frames,
+        "matrix": matrix_of(found),
+        "content_faults": [it for it in contents if it[1]],
+        "packets": found.packets,
+        "infos": infos_of(found),
+        "sound": sound,
+        "listing_says": f"What “{' '.join(words)}” wrote, {whole}: {len(found.text.lines):,} lines, {found.text.size:,} bytes.",
+    }
+
+
+def work(argv: Sequence[str] | None) -> int:
     parser = command.parser("report", TEXT, "done, and the page tells a fault", EXAMPLES)
     parser.add_argument(
         "capture", metavar="CAPTURE", type=Path, help="the capture, as `make`, `damage` or `lanes pack` write it"
@@ -472,7 +517,7 @@ def work(argv):
     words = ["recover", "dvi" if args.dvi else "track" if program.has("recover", "track") else "link"]
     if args.dvi and not program.has(*words):
         raise Refused("the program has no `recover dvi`")
-    version, bits = header_of(args.capture)
+    bits = header_of(args.capture)
     found, album, run = gather(words, args.capture, max(bits))
     if run.status == program.NO_CAPTURE and not found.columns:
         raise Refused(f"{args.capture}: {program.explained(run.note)}")
@@ -484,6 +529,6 @@ def work(argv):
     return command.FAULTY if run.status or contents else command.DONE
 
 
-def main(argv=None):
+def main(argv: Sequence[str] | None = None) -> int:
     """Runs the tool over its words, those of the command line if none are given; answers its status."""
     return command.run("report", lambda: work(argv))

@@ -1,6 +1,8 @@
 """A waveform of three lanes, or the words of a simulation, into a capture."""
 
 import sys
+from argparse import ArgumentParser, Namespace
+from collections.abc import Iterator, Sequence
 from pathlib import Path
 
 import numpy as np
@@ -11,6 +13,8 @@ from vabgrot.errors import Refused
 from vabgrot.lanes import words as tens
 from vabgrot.replacing import naming, replacing
 from vabgrot.waves import dump, loops, recovery, sampling, waveform
+from vabgrot.waves.recovery import Lane
+from vabgrot.waves.waveform import Wave
 
 TEXT = """Finds the bits of three lanes in a waveform and writes them to standard output as a capture of version 2, for
 `vabgrot recover`. FILE is a NumPy array of samples by channels (.npy, .npz; or .npz with an array a channel), a .csv with
@@ -39,7 +43,8 @@ tools/slice examples/red.vcd --lanes blue,green,red --eye eye.png | ./vabgrot re
 tools/slice examples/words.vcd --words source.q0,source.q1,source.q2 --clock clk > words.tmc"""
 
 
-def words(argv):
+def words(argv: Sequence[str] | None) -> Namespace:
+    """The words of the command."""
     parser = command.parser("slice", f"{TEXT} {CHANNELS}\n\n{WORDS}", FAULTY, EXAMPLES)
     parser.add_argument("file", metavar="FILE", help="the waveform")
     text = "the channels of lane 0 (blue), 1 (green) and 2 (red); %(default)s if left out"
@@ -62,7 +67,7 @@ def words(argv):
     return args
 
 
-def check_words(parser, args):
+def check_words(parser: ArgumentParser, args: Namespace) -> None:
     """Ends with status 2 where words of the command do not go together."""
     if args.lanes.count(",") != 2:
         parser.error("--lanes has three channels with commas between them")
@@ -81,13 +86,16 @@ def check_words(parser, args):
         parser.error("--channels is at least 1, --piece at least 1000, and --rate is over 0")
 
 
-def sliced(args, wave):
+def sliced(args: Namespace, wave: Wave) -> list[Lane]:
     """The lanes, with all their bits."""
     words = args.lanes.split(",") + ([args.clock] if args.clock else [])
     *channels, last = waveform.channels_of(words, wave.names)
-    base = recovery.Clock(last) if args.clock else recovery.Freely()
-    channels += [] if args.clock else [last]
-    lanes = [recovery.Lane(f"lane {number}", channel, bool(args.eye)) for number, channel in enumerate(channels)]
+    base: recovery.Base = recovery.Freely()
+    if args.clock:
+        base = recovery.Clock(last)
+    else:
+        channels.append(last)
+    lanes = [Lane(f"lane {number}", channel, bool(args.eye)) for number, channel in enumerate(channels)]
     with tqdm(total=wave.total, unit="sample", unit_scale=True, disable=None) as bar:
         for number, piece in enumerate(waveform.pieces(wave, args.file, args.piece)):
             base.feed(piece)
@@ -101,7 +109,7 @@ def sliced(args, wave):
     return lanes
 
 
-def unit_of(units, scale):
+def unit_of(units: float, scale: float | None) -> str:
     """A time in words: in seconds, or in the dump's units where it does not say what these are."""
     if not scale:
         return f"{units:.9g} units of time"
@@ -109,18 +117,18 @@ def unit_of(units, scale):
     return f"{units * scale * 10**power:.9g} {unit}"
 
 
-def told_words(columns, scale):
+def told_words(columns: sampling.Columns, scale: float | None) -> Iterator[str]:
     """The lines on the columns of words."""
     step, text = columns.step, f"words: {columns.count} columns"
     if step:
         rate = f" ({1 / (step * scale) / 1e6:.6g} MHz)" if scale else ""
         text += f", one each {unit_of(step, scale)}{rate}"
-    yield f"{text}, the first at {unit_of(columns.first, scale)}; {columns.early} with x or z before it were left out"
-    if columns.late:
+    yield f"{text}, the first at {unit_of(columns.first or 0, scale)}; {columns.early} with x or z before it were left out"
+    if columns.torn is not None:
         yield f"words: {columns.late} with x or z behind it were left out, the first at {unit_of(columns.torn, scale)}"
 
 
-def take_words(args):
+def take_words(args: Namespace) -> int:
     """Writes the capture of the words of a dump; the status."""
     if Path(args.file).suffix.lower() not in (".vcd", ".fst"):
         raise Refused(f"{args.file}: --words are taken of a dump, whose name ends in .vcd or .fst")
@@ -142,14 +150,17 @@ def take_words(args):
     return command.FAULTY if columns.late else command.DONE
 
 
-def apart(lanes):
+def apart(lanes: list[Lane]) -> float:
     """By how much the lanes' bit rates differ, in parts of them; 0 where that is less than a bit over all."""
-    fast, *_, slow = sorted((lane.measure for lane in lanes), key=lambda measure: measure.period)
-    part = slow.period / fast.period - 1 if fast.period else 0
-    return part if part * slow.bits > 1 else 0
+    def period(measure: recovery.Measure) -> float:
+        return measure.period
+
+    fast, *_, slow = sorted((lane.measure for lane in lanes), key=period)
+    part = slow.period / fast.period - 1 if fast.period else 0.0
+    return part if part * slow.bits > 1 else 0.0
 
 
-def told(lane, rate):
+def told(lane: Lane, rate: float | None) -> str:
     """The line of a lane."""
     found = lane.measure
     speed = f"{rate / found.period / 1e6:.6g} Mbit/s, " if rate and found.period else ""
@@ -161,7 +172,7 @@ def told(lane, rate):
     )
 
 
-def draw(path, lanes):
+def draw(path: str, lanes: list[Lane]) -> None:
     """The eye diagrams of the lanes, one below the other."""
     try:
         import matplotlib
@@ -173,6 +184,7 @@ def draw(path, lanes):
         raise Refused(f"{why}; Debian's package python3-matplotlib has it") from None
     figure, parts = pyplot.subplots(3, 1, figsize=(7, 11), constrained_layout=True)
     for part, lane in zip(parts, lanes):
+        assert lane.eye is not None and lane.eye_levels is not None
         counts = lane.eye.reshape(recovery.EYE_HEIGHT, recovery.EYE_WIDTH)
         extent = (-1, 1, lane.eye_levels.low, lane.eye_levels.high)
         part.imshow(np.log1p(counts), origin="lower", aspect="auto", extent=extent, cmap="inferno")
@@ -190,7 +202,7 @@ def draw(path, lanes):
         raise Refused(f"{path}: {why}") from None
 
 
-def work(argv):
+def work(argv: Sequence[str] | None) -> int:
     args = words(argv)
     if args.words is not None:
         return take_words(args)
@@ -210,6 +222,6 @@ def work(argv):
     return command.FAULTY
 
 
-def main(argv=None):
+def main(argv: Sequence[str] | None = None) -> int:
     """Runs the tool over its words, those of the command line if none are given; answers its status."""
     return command.run("slice", lambda: work(argv))

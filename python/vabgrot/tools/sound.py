@@ -2,6 +2,7 @@
 
 import sys
 from collections import Counter
+from collections.abc import Sequence
 
 from tqdm import tqdm
 
@@ -22,18 +23,23 @@ EXAMPLES = "tools/sound tone.wav < examples/bars.content"
 class Heard:
     """What the lines of a content listing say of its sound."""
 
-    def __init__(self):
-        self.left, self.right = [], []
-        self.acr = self.vic = self.named = None
-        self.faults = Counter()
+    def __init__(self) -> None:
+        self.left: list[str] = []  # six hexadecimal digits a sample
+        self.right: list[str] = []
+        self.acr: tuple[int, int] | None = None  # N and CTS of the first clock packet
+        self.vic: int | None = None
+        self.named: int | None = None  # the rate that the first channel status names
+        self.faults: Counter[str] = Counter()
 
-    def take(self, line, name, fields):
+    def take(self, line: int, name: str, fields: list[str]) -> None:
+        """The next line; raises Refused where a field of it is wrong."""
         if name == "s":
             left, right, *_ = listing.fields_of(fields, 6, line)
             self.left.append(left)
             self.right.append(right)
         elif name == "acr" and not self.acr:
-            self.acr = [listing.number(part, line) for part in listing.fields_of(fields, 2, line)]
+            n, cycles = (listing.number(part, line) for part in listing.fields_of(fields, 2, line))
+            self.acr = n, cycles
         elif name == "block":
             left, _ = listing.fields_of(fields, 2, line)
             self.named = self.named or pcm.rate_in(listing.digits(left, BLOCK // 8, line))
@@ -46,13 +52,13 @@ class Heard:
         elif name == "!" and fields[0] in OF_SOUND:
             self.faults[fields[0]] += 1
 
-    def usual_clock(self):
+    def usual_clock(self) -> int | None:
         """The pixel clock of the mode's code, and for a mode of one's own that which `content` takes."""
         if self.vic == 0:
             return CUSTOM_CLOCK
         return VICS[self.vic].clock if self.vic in VICS else None
 
-    def rate(self, clock):
+    def rate(self, clock: int | None) -> int:
         """The sampling rate by the clock packet (HDMI 1.4, section 7.2)."""
         if self.named and not self.acr:
             return self.named
@@ -66,7 +72,7 @@ class Heard:
         return pcm.rate_of(*self.acr, clock)
 
 
-def sound_of(heard, rate, bits):
+def sound_of(heard: Heard, rate: int, bits: int | None) -> pcm.Sound:
     """The samples as they were listed, with 16 bits where the others are 0."""
     sides = []
     for name, found in (("left", heard.left), ("right", heard.right)):
@@ -82,7 +88,7 @@ def sound_of(heard, rate, bits):
     return pcm.Sound(rate, bits, *sides)
 
 
-def work(argv):
+def work(argv: Sequence[str] | None) -> int:
     parser = command.parser("sound", TEXT, "done, and a fault touched the sound", EXAMPLES)
     parser.add_argument("file", metavar="FILE.wav", help="the file to be written")
     rate = parser.add_mutually_exclusive_group()
@@ -108,6 +114,6 @@ def work(argv):
     return command.FAULTY if heard.faults else command.DONE
 
 
-def main(argv=None):
+def main(argv: Sequence[str] | None = None) -> int:
     """Runs the tool over its words, those of the command line if none are given; answers its status."""
     return command.run("sound", lambda: work(argv))

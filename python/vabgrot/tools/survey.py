@@ -8,9 +8,11 @@ import subprocess
 import sys
 import time
 from collections import Counter
+from collections.abc import Iterable, Iterator, Sequence
 from concurrent.futures import ThreadPoolExecutor, as_completed
 from html import escape
 from pathlib import Path
+from typing import Any
 
 from tqdm import tqdm
 
@@ -38,11 +40,12 @@ CONTENTS = tuple(faults.CONTENT)  # faults that `recover content` alone writes
 HEAD = ("path", "bytes", "modified", "verdict", "note", *THINGS, "faults", *FAULTS, "contents", *CONTENTS, "seconds")
 VERDICTS = {0: "clean", 1: "faulty", 3: "refused", 7: "unaligned"}
 KEPT = {*VERDICTS.values(), "contents"}
+Row = dict[str, str | int]  # of the table, by its columns
 
 
-def counted(source):
+def counted(source: Iterable[bytes]) -> Counter[str]:
     """How much of each thing the lines of a link listing tell."""
-    counts = Counter()
+    counts: Counter[str] = Counter()
     for line in source:
         name, _, rest = line.rstrip(b"\n").partition(b" ")
         if name == b"c":
@@ -63,9 +66,9 @@ def counted(source):
     return counts
 
 
-def contents_counted(source):
+def contents_counted(source: Iterable[bytes]) -> Counter[str]:
     """How many faults of contents the lines of a content listing tell."""
-    counts = Counter()
+    counts: Counter[str] = Counter()
     for line in source:
         if line.startswith(b"! "):
             kind = line.split()[1].decode("ascii", "replace")
@@ -74,7 +77,7 @@ def contents_counted(source):
     return counts
 
 
-def verdict_of(check, statuses, contents):
+def verdict_of(check: "subprocess.CompletedProcess[bytes]", statuses: dict[str, int], contents: int) -> Row:
     """The verdict and the note, of the run of `check`, the statuses of the two `recover`, and how many faults contents have."""
     status, note = check.returncode, check.stderr.decode("ascii", "replace").strip()
     if status not in VERDICTS:
@@ -85,11 +88,13 @@ def verdict_of(check, statuses, contents):
     return {"verdict": "contents" if contents and not status else VERDICTS[status], "note": note}
 
 
-def judged(path, program, on=()):
+def judged(path: str, program: str, on: Sequence[str] = ()) -> Row:
     """The verdict over one capture, what speaks against it, and the counts of its listings. `on` are the words that start the
     program on one processor, if any."""
     began = time.monotonic()
-    row, statuses = {"path": path}, {}
+    row: Row = {"path": path}
+    statuses: dict[str, int] = {}
+    contents = 0
     try:
         with open(path, "rb") as capture:
             found = os.fstat(capture.fileno())
@@ -99,15 +104,18 @@ def judged(path, program, on=()):
                 capture.seek(0)
                 words = [*on, program, "recover", kind]
                 with subprocess.Popen(words, stdin=capture, stdout=subprocess.PIPE, stderr=subprocess.DEVNULL) as run:
-                    row |= count(run.stdout)
+                    assert run.stdout
+                    counts = count(run.stdout)
+                row |= counts
+                contents = counts["contents"]
                 statuses[kind] = run.returncode
-        row |= verdict_of(check, statuses, row.get("contents", 0))
+        row |= verdict_of(check, statuses, contents)
     except OSError as why:
         row |= {"verdict": "failed", "note": f"{why.filename or path}: {why.strerror}"}
     return row | {"seconds": f"{time.monotonic() - began:.2f}"}
 
 
-def captures_of(places):
+def captures_of(places: Iterable[str]) -> list[str]:
     """The captures that were named, and the files *.tmc of the folders, each once."""
     paths = []
     for place in map(Path, places):
@@ -123,15 +131,16 @@ def captures_of(places):
 class Table:
     """The file of the rows: one is added as soon as it is there."""
 
-    def __init__(self, path, anew):
-        self.path, self.rows = path, {}
+    def __init__(self, path: Path, anew: bool) -> None:
+        self.path = path
+        self.rows: dict[str, Row] = {}
         if path.exists() and not anew:
             self.read()
         self.replace(self.rows.values())
         self.file = open(path, "ab", buffering=0)
 
-    def read(self):
-        """Takes the whole rows of an earlier survey; the last one may break off."""
+    def read(self) -> None:
+        """Takes the whole rows of an earlier survey; the last one may break off. Raises Refused where there is none."""
         text = self.path.read_text("utf-8", "surrogateescape")
         lines = text[: text.rfind("\n") + 1].splitlines()
         rows = csv.DictReader(lines)
@@ -139,25 +148,25 @@ class Table:
             raise Refused(f"{self.path}: it is no table of a survey, or one with other columns; --anew writes over it")
         for row in rows:
             if None not in row.values() and row["verdict"] in KEPT:
-                self.rows[row["path"]] = row
+                self.rows[row["path"]] = {**row}
 
-    def replace(self, rows):
+    def replace(self, rows: Iterable[Row]) -> None:
         """Writes these rows in place of all others, at one stroke."""
         with replacing(self.path, "w", newline="", encoding="utf-8", errors="surrogateescape") as file:
             writer = csv.DictWriter(file, HEAD, restval=0, extrasaction="ignore")
             writer.writeheader()
             writer.writerows(rows)
 
-    def has(self, path):
+    def has(self, path: str) -> bool:
         """Whether a capture was judged and is as it was."""
         row = self.rows.get(path)
         found = os.stat(path)
         return row is not None and (row["bytes"], row["modified"]) == (str(found.st_size), str(found.st_mtime_ns))
 
-    def add(self, row):
+    def add(self, row: Row) -> None:
         """Adds a row to the file, all of it or nothing."""
-        row["note"] = explained(row["note"])
-        self.rows[row["path"]] = row
+        row["note"] = explained(str(row["note"]))
+        self.rows[str(row["path"])] = row
         text = io.StringIO(newline="")
         csv.DictWriter(text, HEAD, restval=0, extrasaction="ignore").writerow(row)
         left = text.getvalue().encode("utf-8", "surrogateescape")
@@ -170,7 +179,7 @@ class Table:
                 self.file.truncate(size)
                 raise
 
-    def ended(self, paths):
+    def ended(self, paths: list[str]) -> list[Row]:
         """Writes the rows of these captures in order, and behind them those of others that are still there, in place of
         what came as it came; answers the first."""
         self.file.close()
@@ -180,13 +189,13 @@ class Table:
         return rows
 
 
-def here(paths, program):
+def here(paths: list[str], program: str) -> Iterator[Row]:
     """The rows of captures that are judged on this machine, as they come: one at a time on each processor."""
-    free = queue.SimpleQueue()
+    free: queue.SimpleQueue[tuple[str, ...]] = queue.SimpleQueue()
     for on in processors():
         free.put(on)
 
-    def judged_on_one(path):
+    def judged_on_one(path: str) -> Row:
         on = free.get()
         try:
             return judged(path, program, on)
@@ -203,7 +212,7 @@ def here(paths, program):
             raise
 
 
-def elsewhere(paths, program, scheduler):
+def elsewhere(paths: list[str], program: str, scheduler: str) -> Iterator[Row]:
     """The rows of captures that the workers of a scheduler judge. Dask gives what a lost worker had to another one."""
     try:
         import cloudpickle
@@ -211,22 +220,22 @@ def elsewhere(paths, program, scheduler):
     except ImportError as why:
         sys.exit(f"survey: {why}; Debian's package python3-distributed has it")
     try:
-        client = distributed.Client(scheduler, timeout=os.environ.get(CONNECT, "5s"))
+        client: Any = distributed.Client(scheduler, timeout=os.environ.get(CONNECT, "5s"))  # type: ignore[no-untyped-call]
     except (OSError, ValueError) as why:
         raise Refused(f"{scheduler}: no scheduler answers ({str(why).splitlines()[0]})") from None
     cloudpickle.register_pickle_by_value(sys.modules[__name__])  # the workers need not have this package
     with client:
         waits = {client.submit(judged, path, program, pure=False, retries=2): path for path in paths}
-        for wait in distributed.as_completed(waits):
-            why = wait.exception()
-            if why is None:
+        for wait in distributed.as_completed(waits):  # type: ignore[no-untyped-call]
+            fault = wait.exception()
+            if fault is None:
                 yield wait.result()
             else:
-                yield {"path": waits[wait], "verdict": "failed", "note": f"{type(why).__name__}: {why}"}
+                yield {"path": waits[wait], "verdict": "failed", "note": f"{type(fault).__name__}: {fault}"}
             wait.release()
 
 
-def page(rows):
+def page(rows: list[Row]) -> str:
     """The table as HTML: the columns in which something stands."""
     totals = Counter(row["verdict"] for row in rows)
     shown = [name for name in HEAD if name != "modified" and any(str(row[name]) not in ("0", "") for row in rows)]
@@ -247,7 +256,7 @@ def page(rows):
     )
 
 
-def work(argv):
+def work(argv: Sequence[str] | None) -> int:
     parser = command.parser("survey", TEXT, FAULTY, EXAMPLES)
     text = "a capture, or a folder, of which all files *.tmc are taken, those of its folders too"
     parser.add_argument("places", nargs="+", metavar="DIR-OR-CAPTURE", help=text)
@@ -269,8 +278,8 @@ def work(argv):
         raise Refused(f"{args.places[0]}: it has no files *.tmc")
     table = Table(args.table, args.anew)
     wanted = [path for path in paths if not table.has(path)]
-    rows = elsewhere(wanted, program, args.scheduler) if args.scheduler else here(wanted, program)
-    for row in tqdm(rows, total=len(paths), initial=len(paths) - len(wanted), unit="capture", disable=None):
+    found = elsewhere(wanted, program, args.scheduler) if args.scheduler else here(wanted, program)
+    for row in tqdm(found, total=len(paths), initial=len(paths) - len(wanted), unit="capture", disable=None):
         table.add(row)
     rows = table.ended(paths)
     with replacing(args.table.with_suffix(".html"), "w", encoding="utf-8", errors="surrogateescape") as file:
@@ -281,6 +290,6 @@ def work(argv):
     return command.DONE if set(totals) == {"clean"} else command.FAULTY
 
 
-def main(argv=None):
+def main(argv: Sequence[str] | None = None) -> int:
     """Runs the tool over its words, those of the command line if none are given; answers its status."""
     return command.run("survey", lambda: work(argv))

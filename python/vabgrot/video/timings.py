@@ -128,26 +128,26 @@ class Meter:
             self.lose(at)
         self.next = at + thing.columns
         if kind == "control":
-            if thing.fields[0] & 3 != self.value:
-                self.change(at, thing.fields[0] & 3)
+            if thing.value & 3 != self.value:
+                self.change(at, thing.value & 3)
         elif kind == "video":
-            pixels = len(thing.fields[0]) // 6
+            pixels = thing.pixels
             if self.known and self.known[-1] == at:
                 self.known[-1] = self.next
             self.firsts.append(self.next - pixels)
             self.widths.append(pixels)
             self.levels.append(self.value)
         elif kind == "packet":
-            if thing.fields[5] != ALIKE[self.value]:
-                self.syncs(at, thing.fields[5])
-            if thing.fields[0].startswith(AVI):
+            if thing.texts[5] != ALIKE[self.value]:
+                self.syncs(at, thing.texts[5])
+            if thing.digits.startswith(AVI):
                 self.avi(thing)
-            elif thing.fields[0].startswith(CONTROL):
+            elif thing.digits.startswith(CONTROL):
                 self.depth(thing)
         elif kind == "slip":
             self.lose(at)
         elif kind != "cut":
-            self.syncs(at, thing.fields[0])
+            self.syncs(at, thing.digits)
 
     def change(self, column: int, value: int) -> None:
         """The syncs have another value from a column on."""
@@ -167,8 +167,8 @@ class Meter:
 
     def fault(self, thing: link.Thing) -> None:
         """A fault: what it makes of the columns, and which changes it may have made."""
-        kind, columns = thing.fields[0], thing.columns
-        if kind == "guard" or kind == "word" and thing.fields[1] == 0:
+        kind, columns = thing.fault, thing.columns
+        if kind == "guard" or kind == "word" and thing.numbers[0] == 0:
             self.words.append(thing.at)
             self.known.append(thing.at + 1)
         elif kind in OF_PACKET:
@@ -180,14 +180,14 @@ class Meter:
 
     def depth(self, thing: link.Thing) -> None:
         """Keeps the depth of colour of a general control packet that says one."""
-        packet = packets.packet_of(thing.fields, thing.line)  # type: ignore[no-untyped-call]
+        packet = packets.packet_of(thing.texts, thing.line)
         depth = packet.bytes[1] & 15
         if depth in BITS:
             self.depths.append((thing.at, BITS[depth]))
 
     def avi(self, thing: link.Thing) -> None:
         """Keeps what an AVI InfoFrame says; one with a wrong checksum says nothing."""
-        packet = packets.packet_of(thing.fields, thing.line)  # type: ignore[no-untyped-call]
+        packet = packets.packet_of(thing.texts, thing.line)
         count, data = packet.header[2] & 31, packet.bytes
         if (sum(packet.header) + sum(data[: count + 1])) & 255 or count < 5:
             return

@@ -3,8 +3,9 @@
 import difflib
 import re
 import subprocess
+from collections.abc import Container, Iterable, Iterator
 from pathlib import Path
-from typing import Iterator, NamedTuple, Optional
+from typing import NamedTuple
 
 from vabgrot.errors import Refused
 
@@ -21,7 +22,7 @@ class Variable(NamedTuple):
     width: int
 
     @property
-    def name(self):
+    def name(self) -> str:
         return self.path.rpartition(".")[2]
 
 
@@ -30,22 +31,23 @@ class Change(NamedTuple):
     is a change without a code."""
 
     time: int
-    code: Optional[str]
+    code: str | None
     digits: str
 
 
-def lines_of(path):
+def lines_of(path: str | Path) -> Iterator[str]:
     """The lines of a value change dump, or of one that `fst2vcd` makes of an FST file."""
     with open(path, encoding="ascii", errors="replace") as file:
         if Path(path).suffix.lower() != ".fst":
             yield from file
             return
-    words = dict(stdout=subprocess.PIPE, stderr=subprocess.DEVNULL, encoding="ascii", errors="replace")
+    words, nothing = ["fst2vcd", "-f", str(path)], subprocess.DEVNULL
     try:
-        process = subprocess.Popen(["fst2vcd", "-f", str(path)], **words)
+        process = subprocess.Popen(words, stdout=subprocess.PIPE, stderr=nothing, encoding="ascii", errors="replace")
     except FileNotFoundError:
         raise Refused(f"{path}: `fst2vcd` of Debian's package gtkwave is wanted to read it, and is missing") from None
     with process:
+        assert process.stdout
         yield from process.stdout
     if process.returncode:
         raise Refused(f"{path}: fst2vcd ends with status {process.returncode}: it is no FST file, or a broken one")
@@ -55,12 +57,15 @@ class Dump:
     """A dump: its variables, and `scale`, the seconds of its unit of time (None where it does not say). The changes are
     read once, in turn."""
 
-    def __init__(self, path):
+    def __init__(self, path: str | Path) -> None:
         self.path, self.lines = path, lines_of(path)
-        self.variables, self.scopes, self.scale = [], [], None
+        self.variables: list[Variable] = []
+        self.scopes: list[str] = []
+        self.scale: float | None = None
         self.read_header()
 
-    def read_header(self):
+    def read_header(self) -> None:
+        """Reads up to the changes; raises Refused where these do not come."""
         words = (word for line in self.lines for word in line.split())
         for word in words:
             if word == "$enddefinitions":
@@ -75,7 +80,7 @@ class Dump:
             self.take(word, body)
         raise Refused(f"{self.path}: no value change dump: it has no $enddefinitions")
 
-    def take(self, word, body):
+    def take(self, word: str, body: list[str]) -> None:
         """Takes what stands between a keyword of the header and its $end."""
         if word == "$timescale":
             scale = re.fullmatch(r"(\d+)([munpf]?)s", "".join(body))
@@ -88,7 +93,7 @@ class Dump:
             name = RANGE.sub("", body[3])
             self.variables.append(Variable(".".join([*self.scopes, name]), body[2], int(body[1])))
 
-    def changes(self, codes) -> Iterator[Change]:
+    def changes(self, codes: Container[str]) -> Iterator[Change]:
         """Each new time, and the changes of the variables with these codes. A time that goes back is refused."""
         now = 0
         for line in self.lines:
@@ -106,8 +111,9 @@ class Dump:
                 if (code := code.strip()) in codes:
                     yield Change(now, code, digits)
 
-    def find(self, word):
-        """The variable that a word names: by its whole path, or by an ending of it that no other variable has."""
+    def find(self, word: str) -> Variable:
+        """The variable that a word names: by its whole path, or by an ending of it that no other variable has. Raises Refused where
+        it names none, or more than one."""
         same = {it.code: it for it in reversed(self.variables) if it.path == word}
         found = same or {it.code: it for it in reversed(self.variables) if it.path.endswith(f".{word}")}
         if len(found) == 1:
@@ -121,7 +127,7 @@ class Dump:
         raise Refused(f"{self.path}: there is no variable `{word}`{names}")
 
 
-def some(names):
+def some(names: Iterable[str]) -> str:
     """The first ones of some names, as text."""
-    names = list(dict.fromkeys(names))
-    return ", ".join(names[:MOST_NAMES]) + (" and others" if len(names) > MOST_NAMES else "")
+    each = list(dict.fromkeys(names))
+    return ", ".join(each[:MOST_NAMES]) + (" and others" if len(each) > MOST_NAMES else "")

@@ -2,12 +2,26 @@
 once and kept in a folder of the user's; without numba Python runs `follow` as it stands, and NumPy does what the other
 two do (recovery.py), to the last bit."""
 
+import importlib
 import os
-from functools import lru_cache
+from collections.abc import Callable, MutableSequence
+from functools import cache as once
 from math import floor
 from pathlib import Path
+from types import ModuleType
+from typing import Any, ParamSpec, TypeVar
 
 import numpy as np
+import numpy.typing as npt
+
+Reals = npt.NDArray[np.float64]
+Ints = npt.NDArray[np.int64]
+Levels = npt.NDArray[np.float32]
+Numbers = Reals | MutableSequence[float]  # NumPy's for numba, lists for Python
+Places = Ints | MutableSequence[int]
+Track = tuple[Reals, Ints, Reals]  # phases, numbers and periods
+P = ParamSpec("P")
+R = TypeVar("R")
 
 GAIN, PULL = 0.03, 0.03**2 / 10  # of the phase-locked loop, a bit
 MOST_WEIGHT = 8  # bits without an edge for which the next one makes up
@@ -16,7 +30,7 @@ CYCLE = 10  # the bits of a cycle of the clock (HDMI 1.4, section 4.2.4)
 WITHOUT = "Debian's package python3-numba is not here: with it this takes a fraction of the time"
 
 
-def follow(edges, phase, period, pull, phases, numbers, periods, errors):
+def follow(edges: Numbers, phase: float, period: float, pull: float, phases: Numbers, numbers: Places, periods: Numbers, errors: Numbers) -> None:
     """Follows the edges one by one with a second-order digital phase-locked loop; each counts by the bits since the one
     before, 8 at most. Bit numbers[i] begins at phases[i], and periods[i] is that of a bit: before the first edge, which
     is given, and behind each; errors[i] is how far edge i is behind the beginning of a bit, in bits."""
@@ -43,7 +57,7 @@ def follow(edges, phase, period, pull, phases, numbers, periods, errors):
         periods[place + 1] = period
 
 
-def cross(values, begin, side, low, high, first, moments):
+def cross(values: Levels, begin: int, side: bool, low: np.float32, high: np.float32, first: float, moments: Numbers) -> int:
     """Writes when the level is above `high` or below `low` for the first time after the other (`side`: it was above when
     last seen), and answers how often that is. Value i lies at `first` + i, from 1 on; a level between two values lies on
     the line from one to the other."""
@@ -59,13 +73,14 @@ def cross(values, begin, side, low, high, first, moments):
             side = not side
             left = np.float64(values[place - 1])
             step = np.float64(values[place]) - left
-            part = (np.float64(high if side else low) - left) / (step if step != 0 else 1.0)
+            threshold = np.float64(high) if side else np.float64(low)
+            part = float((threshold - left) / (step if step != 0 else np.float64(1.0)))
             moments[count] = first + (place - 1) + min(max(part, 0.0), 1.0)
             count += 1
     return count
 
 
-def sample(values, first, track, clock, number, middle, ones):
+def sample(values: Levels, first: float, track: Track, clock: Track, number: int, middle: float, ones: npt.NDArray[np.bool_]) -> tuple[float, float]:
     """Writes whether the level in the middle of each bit from `number` on is above `middle`; answers the lowest level
     that is and the highest that is not. `track` has the phases, numbers and periods of the lane, and `clock` those of
     the clock, which are empty where there is none. Value i, of two at least, lies at `first` + i, and a level between two
@@ -97,14 +112,14 @@ def sample(values, first, track, clock, number, middle, ones):
 
 
 TRACK = "Tuple((f8[::1], i8[::1], f8[::1]))"
-TYPES = {
+TYPES: dict[Callable[..., Any], str] = {
     follow: "void(f8[::1], f8, f8, f8, f8[::1], i8[::1], f8[::1], f8[::1])",
     cross: "i8(f4[::1], i8, b1, f4, f4, f8, f8[::1])",
     sample: f"UniTuple(f8, 2)(f4[::1], f8, {TRACK}, {TRACK}, i8, f8, b1[::1])",
 }
 
 
-def cache():
+def cache() -> str | None:
     """The folder of the user's for what was compiled; None where there is none that can be written."""
     try:
         place = Path(os.environ.get("XDG_CACHE_HOME") or Path.home() / ".cache") / "vabgrot"
@@ -115,31 +130,38 @@ def cache():
     return str(place) if place.is_absolute() and os.access(place, os.W_OK) else None
 
 
-@lru_cache(None)
-def numba():
+@once
+def numba() -> ModuleType | None:
     """Numba, with the folder in which it keeps what it compiled; None where it is missing."""
     try:
-        import numba as found
+        found = importlib.import_module("numba")
     except ImportError:
         return None
     found.config.CACHE_DIR = found.config.CACHE_DIR or cache() or ""
     return found
 
 
-@lru_cache(None)
-def fast(function):
+@once
+def compiled(function: Callable[..., Any]) -> Any:
     """One of the loops as machine code; None without numba."""
-    if not numba():
+    tool = numba()
+    if tool is None:
         return None
     try:
-        if numba().config.CACHE_DIR:
-            return numba().njit(TYPES[function], cache=True)(function)
+        if tool.config.CACHE_DIR:
+            return tool.njit(TYPES[function], cache=True)(function)
     except Exception:  # the folder has no room, or what is in it is torn, which ends in faults of many kinds
         pass
-    return numba().njit(TYPES[function])(function)
+    return tool.njit(TYPES[function])(function)
 
 
-def followed(edges, phase, period, pull, number):
+def fast(function: Callable[P, R]) -> Callable[P, R] | None:
+    """One of the loops as machine code; None without numba."""
+    found: Callable[P, R] | None = compiled(function)
+    return found
+
+
+def followed(edges: Reals, phase: float, period: float, pull: float, number: int) -> tuple[Reals, Ints, Reals, Reals]:
     """The phases, numbers, periods and errors that `follow` writes of an array of edges."""
     size = len(edges) + 1
     if run := fast(follow):
@@ -147,6 +169,6 @@ def followed(edges, phase, period, pull, number):
         numbers[0] = number
         run(np.ascontiguousarray(edges), phase, period, pull, phases, numbers, periods, errors)
         return phases, numbers, periods, errors
-    lists = [0.0] * size, [number] * size, [0.0] * size, [0.0] * (size - 1)
-    follow(edges.tolist(), float(phase), float(period), pull, *lists)
-    return tuple(map(np.array, lists))
+    starts, counts, steps, behind = [0.0] * size, [number] * size, [0.0] * size, [0.0] * (size - 1)
+    follow(edges.tolist(), float(phase), float(period), pull, starts, counts, steps, behind)
+    return np.array(starts), np.array(counts), np.array(steps), np.array(behind)

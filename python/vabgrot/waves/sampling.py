@@ -1,15 +1,20 @@
 """Words of ten bits out of a value change dump, as a clock samples them, or one a step of time."""
 
 import math
+from collections.abc import Iterator
 from itertools import chain, islice
-from typing import Iterator, NamedTuple
+from typing import NamedTuple
 
 import numpy as np
+import numpy.typing as npt
 
 from vabgrot.capture import MOST_BITS
 from vabgrot.errors import Refused
 from vabgrot.formats.characters import TEN
 from vabgrot.waves.dump import Dump, Variable
+
+Row = tuple[int, ...]  # the words of lanes 0, 1 and 2
+Words = npt.NDArray[np.uint16]  # columns by lanes
 
 UNKNOWN = -1  # a word of which a bit is x or z
 ASK = "give --clock"
@@ -22,25 +27,27 @@ class Stretch(NamedTuple):
     first: int
     last: int
     columns: int
-    words: tuple
+    words: Row
 
 
 class Columns:
     """The columns of a dump piece by piece, those with x or z left out: `early` are those before the first whole one, at the
     time `first`, and `late` those after it, the first at the time `torn`. `step` is the time from a column to the next."""
 
-    def __init__(self, stretches: Iterator[Stretch], size: int):
+    def __init__(self, stretches: Iterator[Stretch], size: int) -> None:
         self.stretches, self.size = stretches, min(size, MOST_AT_ONCE)
         self.count, self.early, self.late = 0, 0, 0
-        self.first = self.last = self.torn = None
+        self.first: int | None = None
+        self.torn: int | None = None
+        self.last = 0
 
     @property
-    def step(self):
+    def step(self) -> float:
         """The units of time a column, over all columns; 0 where there is no second one."""
         steps = self.count + self.late - 1
-        return (self.last - self.first) / steps if steps > 0 else 0
+        return (self.last - (self.first or 0)) / steps if steps > 0 else 0
 
-    def take(self, stretch):
+    def take(self, stretch: Stretch) -> bool:
         """Counts a stretch, and answers whether its columns are written."""
         is_whole = UNKNOWN not in stretch.words
         if is_whole:
@@ -57,9 +64,10 @@ class Columns:
             raise Refused(f"a lane has at most {MOST_BITS} bits")
         return is_whole
 
-    def pieces(self):
+    def pieces(self) -> Iterator[Words]:
         """Arrays of columns, three words a row."""
-        held, columns = [], 0
+        held: list[Stretch] = []
+        columns = 0
         for stretch in filter(self.take, self.stretches):
             held.append(stretch)
             columns += stretch.columns
@@ -70,13 +78,13 @@ class Columns:
             yield repeated(held)
 
 
-def repeated(stretches):
+def repeated(stretches: list[Stretch]) -> Words:
     """The columns of some stretches, three words a row."""
     rows = np.array([stretch.words for stretch in stretches], np.uint16)
     return np.repeat(rows, [stretch.columns for stretch in stretches], axis=0)
 
 
-def variables_of(dump: Dump, names, clock):
+def variables_of(dump: Dump, names: list[str], clock: str | None) -> tuple[list[Variable], Variable | None]:
     """The variables of the three lanes, ten bits each, and of the clock, which is None where none is named."""
     lanes = [dump.find(name) for name in names]
     for lane in lanes:
@@ -92,26 +100,27 @@ def variables_of(dump: Dump, names, clock):
     return lanes, ticks
 
 
-class Words(dict):
+class Held(dict[str, int]):
     """The words of the three lanes at a time, by the codes of their variables."""
 
-    known = {}
+    known: dict[str, int] = {}
 
-    def __init__(self, lanes):
+    def __init__(self, lanes: list[Variable]) -> None:
         super().__init__((lane.code, UNKNOWN) for lane in lanes)
 
-    def change(self, code, digits):
+    def change(self, code: str, digits: str) -> None:
         if digits not in self.known:
             self.known[digits] = int(digits, 2) if not digits.strip("01") else UNKNOWN
         self[code] = self.known[digits]
 
-    def row(self):
+    def row(self) -> Row:
         return tuple(self.values())
 
 
-def by_clock(dump: Dump, lanes: list, clock: Variable) -> Iterator[Stretch]:
+def by_clock(dump: Dump, lanes: list[Variable], clock: Variable) -> Iterator[Stretch]:
     """A column at each rise of the clock: the words as they stood before that time, which a register takes."""
-    held, coming, level, rose = Words(lanes), [], "x", None
+    held, coming, level = Held(lanes), list[tuple[str, str]](), "x"
+    rose: int | None = None
     for time, code, digits in dump.changes({clock.code, *held}):
         if code is None:
             for change in coming:
@@ -128,9 +137,9 @@ def by_clock(dump: Dump, lanes: list, clock: Variable) -> Iterator[Stretch]:
             level = digits
 
 
-def changes_of(dump: Dump, lanes: list) -> Iterator[tuple]:
+def changes_of(dump: Dump, lanes: list[Variable]) -> Iterator[tuple[int, Row | None]]:
     """The times at which words change, and the words from there on; last the time at which the dump ends, and None."""
-    held, changed, before = Words(lanes), set(), 0
+    held, changed, before = Held(lanes), set[str](), 0
     for time, code, digits in dump.changes(set(held)):
         if code is not None:
             if code in changed and UNKNOWN not in held.row():
@@ -147,12 +156,13 @@ def changes_of(dump: Dump, lanes: list) -> Iterator[tuple]:
     yield before, None
 
 
-def by_step(dump: Dump, lanes: list, size: int) -> Iterator[Stretch]:
+def by_step(dump: Dump, lanes: list[Variable], size: int) -> Iterator[Stretch]:
     """A column each step of time: the least time between changes of the words, of which every other one is a multiple."""
     found, size = changes_of(dump, lanes), min(size, MOST_AT_ONCE)
     for time, row in found:
         if row is None:
             return
+        held = row
         if UNKNOWN not in row:
             break
         yield Stretch(time, time, 1, row)
@@ -163,12 +173,12 @@ def by_step(dump: Dump, lanes: list, size: int) -> Iterator[Stretch]:
     if not step or math.gcd(*spans) != step:
         steps = f"{math.gcd(*spans)} and {step} units of time" if step else "fewer than two times"
         raise Refused(f"{dump.path}: the words change at no even steps ({steps}): {ASK}")
-    time, row = first[0]
     for later, following in chain(first[1:], found):
         if following and (later - time) % step:
             raise Refused(f"{dump.path}: the words change at time {later}, at no step of {step} units: {ASK}")
         columns = max(1, (later - time) // step)
         for at in range(0, columns, size):
             part = min(size, columns - at)
-            yield Stretch(time + at * step, time + (at + part - 1) * step, part, row)
-        time, row = later, following
+            yield Stretch(time + at * step, time + (at + part - 1) * step, part, held)
+        if following:
+            time, held = later, following
