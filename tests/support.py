@@ -4,8 +4,9 @@ import os
 import subprocess
 from pathlib import Path
 
-from vabgrot.place import PROGRAM, TOP
+from vabgrot import place
 
+TOP = place.TOP
 HANGS = 1200  # the seconds after which something hangs, also on a slow machine that has other work
 LISTING = b"c 00 4\nc 04 8\nv ff0000\nc 00 12\nend\n"
 READERS = (["recover", "link"], ["recover", "content"], ["check"], ["damage", "0:0:354"])
@@ -16,7 +17,7 @@ USAGE = b"usage: make, recover, check, damage or sample\n"
 
 def built():
     """The program that VABGROT_PROGRAM names, or the one that `./vabgrot` and `rt ci` build."""
-    return Path(os.environ.get("VABGROT_PROGRAM", PROGRAM)).resolve()
+    return Path(os.environ.get("VABGROT_PROGRAM", place.PROGRAM)).resolve()
 
 
 def ran(words, source):

@@ -40,7 +40,7 @@ def lanes_of(data: bytes) -> tuple[list[bytearray], list[int]]:
     counts, at = header_of(data)
     lengths = [(count + 7) // 8 for count in counts]
     if len(data) != at + sum(lengths):
-        raise Refused(f"the capture has {len(data)} bytes, and its header tells {at + sum(lengths)}")
+        raise Refused(f"the capture has {len(data)} bytes, and its header says {at + sum(lengths)}")
     lanes = [bytearray() for _ in range(3)]
     for _ in range(0, max(lengths), BLOCK):
         for lane, length in zip(lanes, lengths):
@@ -49,5 +49,5 @@ def lanes_of(data: bytes) -> tuple[list[bytearray], list[int]]:
             at += size
     for number, (lane, count) in enumerate(zip(lanes, counts)):
         if count % 8 and lane[-1] >> count % 8:
-            raise Refused(f"lane {number} has bits behind its last one")
+            raise Refused(f"lane {number} has ones behind its last bit")
     return lanes, counts

@@ -37,7 +37,7 @@ def lines(source: IO[bytes], names: frozenset[str] = CONTENT, is_whole: bool = T
     if not is_whole:
         return
     if number == 0:
-        raise Refused("nothing came")
+        raise Refused("the input is empty")
     raise Refused(f"the {KINDS[names]} breaks off after {number} lines, without its line `end`")
 
 

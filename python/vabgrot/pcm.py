@@ -1,14 +1,18 @@
 """Sound for the tools: WAV files as samples of 24 bits a side, and the channel status that goes with them."""
 
 import io
-import wave
 from pathlib import Path
 from typing import NamedTuple
+
+import numpy as np
+import numpy.typing as npt
+import soundfile
 
 from vabgrot.errors import Refused
 from vabgrot.formats.audio import BLOCK, RATES, WORD_LENGTHS
 
-FLIP_SIGN = bytes(byte ^ 0x80 for byte in range(256))
+WAVES = ("WAV", "WAVEX")  # the formats of libsndfile that are read
+USED_BITS = {"PCM_U8": 16, "PCM_16": 16, "PCM_24": 24, "PCM_32": 24}  # by its subtypes
 
 
 class Sound(NamedTuple):
@@ -24,60 +28,37 @@ class Sound(NamedTuple):
         return len(self.left) // 3
 
 
-def side(data: bytes, width: int, channels: int, channel: int) -> bytes:
-    """One channel of a WAV file's bytes, three bytes a sample, high byte first; short ones get zeros, long are cut."""
-    taken = bytearray(3 * (len(data) // (width * channels)))
-    for place in range(min(width, 3)):
-        taken[place::3] = data[channel * width + width - 1 - place :: width * channels]
-    if width == 1:  # samples of one byte have no sign
-        taken[0::3] = taken[0::3].translate(FLIP_SIGN)
-    return bytes(taken)
-
-
-def plain(data: bytes) -> bytes:
-    """A WAV file's bytes, those of the extensible format as the plain one, which `wave` reads: the first two bytes of
-    the subformat take the place of the tag."""
-    at = 12
-    while at + 8 <= len(data):
-        size = int.from_bytes(data[at + 4 : at + 8], "little")
-        if data[at : at + 4] == b"fmt " and size >= 40 and data[at + 8 : at + 10] == b"\xfe\xff":
-            return data[: at + 8] + data[at + 32 : at + 34] + data[at + 10 :]
-        at += 8 + size + size % 2
-    return data
+def side(values: npt.NDArray[np.int32]) -> bytes:
+    """The upper three bytes of each number, the highest first."""
+    return values.astype(">i4").view(np.uint8).reshape(-1, 4)[:, :3].tobytes()
 
 
 def read(path: str | Path) -> Sound:
-    """The sound of a WAV file of one or two channels."""
-    with open(path, "rb") as file:
-        source = io.BytesIO(plain(file.read()))
-    try:
-        with wave.open(source) as file:
-            channels, width, rate = file.getnchannels(), file.getsampwidth(), file.getframerate()
-            data = file.readframes(file.getnframes())
-    except (wave.Error, EOFError) as why:
-        raise Refused(f"{path}: no WAV file of linear PCM ({why or 'it breaks off'})") from None
+    """The sound of a WAV file of one or two channels; short samples get zeros, and those of more than 24 bits are cut. Raises OSError
+    where it cannot be read, and Refused where it is none."""
+    with open(path, "rb") as source:
+        try:
+            with soundfile.SoundFile(source) as file:
+                kind, subtype, channels, rate = file.format, file.subtype, file.channels, file.samplerate
+                values = file.read(dtype="int32", always_2d=True)
+        except soundfile.SoundFileError as why:
+            raise Refused(f"{path}: no WAV file of linear PCM ({why})") from None
+    if kind not in WAVES or subtype not in USED_BITS:
+        raise Refused(f"{path}: no WAV file of linear PCM (it is {kind}, {subtype})")
     if channels > 2:
         raise Refused(f"{path}: it has {channels} channels, and one or two are wanted")
     if rate not in RATES:
         raise Refused(f"{path}: its rate is {rate} Hz; a link carries {', '.join(map(str, RATES))}")
-    data = data[: len(data) // (width * channels) * width * channels]
-    left = side(data, width, channels, 0)
-    return Sound(rate, 16 if width <= 2 else 24, left, side(data, width, channels, 1) if channels == 2 else left)
+    return Sound(rate, USED_BITS[subtype], side(values[:, 0]), side(values[:, -1]))
 
 
 def wav(sound: Sound) -> bytes:
     """The bytes of a WAV file of two channels, with the sound's bits a sample."""
-    width = sound.bits // 8
-    data = bytearray(2 * width * sound.samples)
+    values = np.zeros((sound.samples, 2, 4), np.uint8)
     for channel, taken in enumerate((sound.left, sound.right)):
-        for place in range(width):
-            data[channel * width + width - 1 - place :: 2 * width] = taken[place::3]
+        values[:, channel, :3] = np.frombuffer(taken, np.uint8).reshape(-1, 3)
     out = io.BytesIO()
-    with wave.open(out, "wb") as file:
-        file.setnchannels(2)
-        file.setsampwidth(width)
-        file.setframerate(sound.rate)
-        file.writeframes(data)
+    soundfile.write(out, values.view(">i4")[:, :, 0].astype(np.int32), sound.rate, f"PCM_{sound.bits}", format="WAV")
     return out.getvalue()
 
 

@@ -19,7 +19,7 @@ NO_CAPTURES = {
     "magic": place.named("no capture, which begins with TMC; `tools/lanes pack` makes one of the raw bits of three lanes"),
     "version": "no capture that is known: its fourth byte is {}, and that of versions 1 and 2 is 49 or 50",
     "short": "no whole capture: it ends after {} bytes, in its header or before the end that the header names",
-    "padding": "no capture: byte {}, the last one of a lane, has bits behind the lane's end",
+    "padding": "no capture: byte {}, the last one of a lane, has ones behind the lane's end",
     "trailing": "no capture: byte {} and what follows are behind the end that the header names",
 }
 

@@ -22,4 +22,5 @@ def test_the_map(record_property):
 
 def test_what_is_believed():
     """Each theorem that the documents speak of stands in the record."""
-    assert re.search(r"definitions of \d+ lines in \d+ crates\n$", printed("believed.py", "headline", "headline_anywhere", "headline_local"))
+    said = printed("believed.py", "headline", "headline_anywhere", "headline_local")
+    assert re.search(r"definitions of \d+ lines in \d+ crates\n$", said)

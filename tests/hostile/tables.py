@@ -11,7 +11,7 @@ import resource
 import subprocess
 import tempfile
 
-from tests.hostile.inputs import CONTENT, DVI, ISLAND, SILENT, SLIPPED, SOUND, busy, frames, noisy, sources
+from tests.hostile.inputs import CONTENT, DVI, ISLAND, SILENT, SLIPPED, busy, frames, noisy, sources
 from tests.models import hearing, model
 from tests.models.feeding import answers, feeds
 from tests.models.model import BLOCK, lanes_of, packed, replaced, sent
@@ -20,7 +20,6 @@ from tests.models.tables import CONTROL
 from tests.support import FURTHER, HANGS, LISTING, READERS, SLIP, TOP, USAGE, run
 
 KNOWN = (["make", "link"], ["make", "content"], *READERS)  # little room for the others is tried half as often
-
 
 
 def turned(word, by):

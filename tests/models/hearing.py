@@ -3,7 +3,6 @@ the columns that a link listing sends. It searches from each place anew, and is 
 import functools
 import itertools
 
-
 from tests.models.model import aligned, capture_of, coded, decoded, first_uncoded, is_control, sent_bits
 from tests.models.tables import ACTIVE, CONTROL, ISLAND_GUARD, MOST_PACKETS, MOST_PIXELS, TERC4, VIDEO_GUARD
 

@@ -4,7 +4,6 @@ from tests.models.hearing import packet_columns, pixels_of
 from tests.models.tables import ACTIVE, CONTROL, ISLAND_GUARD, MOST_PACKETS, PORCHES, TERC4, VIDEO_GUARD
 
 
-
 # ---- packets
 
 def four(data):

@@ -50,7 +50,8 @@ def slipped(program):
 
 def sound(program):
     """Samples are made into a capture, written as a biphase stream, and read again; a lost packet is left out."""
-    samples = b"".join(b"s %06x %06x %d %d %d 0\n" % (77 * at, 16_777_215 - at, at % 8, at // 8 % 8, int(at % 192 == 0)) for at in range(400))
+    numbers = ((77 * at, 16_777_215 - at, at % 8, at // 8 % 8, int(at % 192 == 0)) for at in range(400))
+    samples = b"".join(b"s %06x %06x %d %d %d 0\n" % it for it in numbers)
     mode = b"mode 2 8 3600 64 1 2 2 4 0\n"
     capture = run(program, ["make", "content"], mode + samples + b"row 0102030405ff\nframe 2 1\nend\n")[1]
     status, stream, notes = run(program, ["recover", "biphase", "0"], capture)
@@ -168,7 +169,8 @@ def usual(program):
         folder = os.open(TOP, os.O_RDONLY)
         yield f"{words[0]} of a folder", run(program, words, stdin=folder), (4, b"", b"read failed\n")
         os.close(folder)
-    for words, source in ((["make", "link"], LISTING), (["recover", "link"], capture), (["check"], capture), (["damage", "0:0:000"], capture)):
+    inputs = ((["make", "link"], LISTING), (["recover", "link"], capture), (["check"], capture), (["damage", "0:0:000"], capture))
+    for words, source in inputs:
         with open("/dev/full", "wb") as full:
             yield f"{words[0]} to a full device", run(program, words, source, stdout=full), (5, None, b"write failed\n")
     yield "sample 3", run(program, ["sample", "3"]), (0, SAMPLE, b"")

@@ -9,6 +9,7 @@ import time
 from pathlib import Path
 
 import pytest
+
 from tests.support import HANGS, TOP
 
 CRATES = """# a comment
@@ -18,6 +19,7 @@ right tests_may=Threads: low
 apart: low
 hdmi_cli: low left right
 """
+
 
 @pytest.fixture
 def building(tmp_path, kit):
@@ -29,6 +31,7 @@ def building(tmp_path, kit):
     (top / "crates" / "right" / "src" / "more.rt").write_text("//! more\n" * 9)
     (top / "crates.txt").write_text(CRATES)
     shutil.copy(TOP / "build.py", top)
+
     def run():
         (tmp_path / "log").write_text("")
         env = {"PATH": f"{tmp_path / 'path'}:/usr/bin:/bin"}

@@ -1,7 +1,6 @@
 """tools/bursts.py: which faults are one burst, and which stand for themselves."""
 
 import pytest
-from tests.support import TOP
 
 CONTROL, VIDEO, PACKET, OPEN, CLOSE, UNKNOWN = range(6)
 

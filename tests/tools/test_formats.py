@@ -5,7 +5,6 @@ import shutil
 import subprocess
 
 import pytest
-from tests.support import TOP
 
 from vabgrot.formats.modes import CTA, DMT, formats, of_vic
 

@@ -8,6 +8,7 @@ import subprocess
 import tomllib
 
 import pytest
+
 from tests.support import TOP
 
 PROGRAM = '#!/bin/sh\necho "$@"\nexit 2\n'
@@ -165,10 +166,10 @@ def test_package(front, tmp_path):
     assert said.endswith(f"vabgrot: made {package}\n") and [*package.parent.iterdir()] == [package]
     fields = dict(line.split(": ", 1) for line in ran(["dpkg-deb", "--field", package]).splitlines() if line[0] != " ")
     assert (fields["Package"], fields["Version"]) == ("vabgrot", "1.0.0")
-    needed = {"python3", "python3-jinja2", "python3-numpy", "python3-pil", "python3-tqdm", "libc6"}
+    needed = {"python3", "python3-jinja2", "python3-numpy", "python3-pil", "python3-soundfile", "python3-tqdm", "libc6"}
     assert {part.split()[0] for part in fields["Depends"].split(", ")} == needed
     assert {"python3-matplotlib", "python3-numba"} == set(fields["Recommends"].split(", "))
-    asked = re.search(r"(?m)^apt-get install (.*)$", (TOP / "README.md").read_text())[1].split()
+    asked = re.search(r"(?m)^apt-get install ((?:.*\\\n)*.*)$", (TOP / "README.md").read_text())[1].replace("\\\n", " ").split()
     assert {it for it in asked if it[0] != "-"} == (needed | set(fields["Recommends"].split(", "))) - {"libc6", "python3"}
     ran(["dpkg-deb", "--extract", package, tmp_path / "root"])
     assert front("install", tmp_path / "prefix")[0] == 0
@@ -177,8 +178,8 @@ def test_package(front, tmp_path):
         for top in (tmp_path / "root" / "usr", tmp_path / "prefix")
     ]
     assert names[0] == names[1]
-    assert all(line.startswith(("drwxr-xr-x root/root", "-rwxr-xr-x root/root", "-rw-r--r-- root/root", "lrwxrwxrwx root/root"))
-        for line in ran(["dpkg-deb", "--contents", package]).splitlines())
+    rights = tuple(f"{it} root/root" for it in ("drwxr-xr-x", "-rwxr-xr-x", "-rw-r--r--", "lrwxrwxrwx"))
+    assert all(line.startswith(rights) for line in ran(["dpkg-deb", "--contents", package]).splitlines())
     assert front("--version", script=tmp_path / "root/usr/bin/vabgrot-lanes")[1] == front("--version")[1]
 
 

@@ -6,6 +6,7 @@ import shutil
 import subprocess
 
 import pytest
+
 from tests.support import HANGS, TOP, built
 from tests.tools.test_examples import TOOLS, commands
 

@@ -83,7 +83,7 @@ def test_empty_lanes(tool, files):
         (b"TMC2" + bytes(11), b"breaks off after 15 bytes"),
         (CAPTURE[:-1], b"109 bytes"),
         (CAPTURE + b"\0", b"111 bytes"),
-        (CAPTURE[:-1] + b"\x75", b"lane 2 has bits behind"),
+        (CAPTURE[:-1] + b"\x75", b"lane 2 has ones behind its last bit"),
     ],
 )
 def test_what_is_no_capture_is_refused(tool, files, source, says):

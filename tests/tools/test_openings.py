@@ -5,6 +5,7 @@ import shlex
 from html import unescape
 
 import pytest
+
 from tests.support import TOP
 
 ACROSS, LINES, FIRST, PIXELS = 80, 12, 48, 30  # columns of a line, lines, the column of the first guard, pixels of a row

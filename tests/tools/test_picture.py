@@ -5,8 +5,9 @@ import shutil
 import subprocess
 
 import pytest
-from tests.support import HANGS, TOP, built
 from PIL import Image
+
+from tests.support import HANGS, TOP, built
 
 TEXT = (TOP / "docs" / "guide" / "report.txt").read_text("utf-8")
 

@@ -142,7 +142,7 @@ def test_a_slip_leaves_its_frame_out(tool, tmp_path):
 @pytest.mark.parametrize(
     "text, says",
     [
-        (b"", b"nothing came"),
+        (b"", b"the input is empty"),
         (TWO[:-4], b"breaks off after 7 lines"),
         (TWO + b"x", b"line 9: something follows the line `end`"),
         (TWO[:60], b"line 3: the listing breaks off in it"),

@@ -1,6 +1,5 @@
 """The first walk of the README, to its picture."""
 
-
 from PIL import Image
 
 from tests.support import TOP

@@ -1,13 +1,14 @@
 """What the tools do where a file cannot be written whole: nothing of it is left, what was there stays, and one line names it. The
 limit of a file's size stands for a full disk."""
 
+import functools
 import resource
 import subprocess
 
 import pytest
-from tests.support import HANGS, TOP, built
 from PIL import Image
 
+from tests.support import HANGS, TOP, built
 from vabgrot import replacing
 
 MODE = "64,8,16,64,48,2,2,2,1"
@@ -23,7 +24,7 @@ def limited(tmp_path):
         if is_there:
             (tmp_path / path).write_bytes(EARLIER)
         before = {it: it.read_bytes() for it in tmp_path.rglob("*") if it.is_file()}
-        limit = lambda: resource.setrlimit(resource.RLIMIT_FSIZE, (most, most))
+        limit = functools.partial(resource.setrlimit, resource.RLIMIT_FSIZE, (most, most))
         command = [TOP / "tools" / name, *map(str, words)]
         came = subprocess.run(command, input=source, capture_output=True, cwd=tmp_path, preexec_fn=limit, timeout=HANGS)
         assert (came.returncode, came.stderr.decode().splitlines()[-1]) == (3, f"{name}: {path}: File too large")

@@ -8,15 +8,16 @@ import wave
 from collections import Counter
 
 import pytest
-from tests.support import HANGS, TOP, built, ran
 from PIL import Image
+
 from tests.models.timed import Sent, text
+from tests.support import HANGS, built, ran
 
 webdriver = pytest.importorskip("selenium.webdriver", reason="Debian's package python3-selenium is missing")
-from selenium.webdriver.chrome.service import Service
-from selenium.webdriver.common.by import By
-from selenium.webdriver.common.keys import Keys
-from selenium.webdriver.support.ui import Select, WebDriverWait
+from selenium.webdriver.chrome.service import Service  # noqa: E402
+from selenium.webdriver.common.by import By  # noqa: E402
+from selenium.webdriver.common.keys import Keys  # noqa: E402
+from selenium.webdriver.support.ui import Select, WebDriverWait  # noqa: E402
 
 CHROMIUM, DRIVER = "/usr/bin/chromium", "/usr/bin/chromedriver"
 MODE = "32,8,16,64,24,2,2,2,1"
@@ -65,7 +66,8 @@ class Page:
     def rows(self, id):
         """The cells of a table, of all its pages, each cell the texts in it."""
         self.run(
-            "const bar = document.querySelector(`#${arguments[0]} .bar`); while (!bar.querySelectorAll('button')[0].disabled) bar.querySelectorAll('button')[0].click()",
+            "const bar = document.querySelector(`#${arguments[0]} .bar`);"
+            "while (!bar.querySelectorAll('button')[0].disabled) bar.querySelectorAll('button')[0].click()",
             id,
         )
         found = []
@@ -149,13 +151,13 @@ def test_timing(report, program):
         block = shown.text("timing")
         assert "640 pixels, 480 rows, progressive, 2 whole frames" in block
         assert ("VIC 1 (640x480p, 59.94 Hz, 4:3), but H back porch 40, wants 48" in block) == (amber > 0)
-        cells = shown.run("return [...document.querySelectorAll('#timing tbody tr')].map((row) => [...row.cells].map((one) => one.textContent))")
+        rows = "[...document.querySelectorAll('#timing tbody tr')]"
+        cells = shown.run(f"return {rows}.map((row) => [...row.cells].map((one) => one.textContent))")
         back = str(raster["across"][3])
         assert cells[0] == ["across, columns", "640", "16", "96", back, str(752 + int(back)), "negative"]
         assert cells[1] == ["down, lines", "480", "10", "2", "33", "525", "negative"]
         assert shown.run("return document.querySelectorAll('#timing .amber').length") == amber
         assert shown.run("return document.querySelector('main section').id") == "timing"
-
 
 
 def texts(data):
@@ -210,7 +212,7 @@ def test_a_clean_capture(report, tool, program, sent, tmp_path):
     capture = program("make", "content", "--skew", "0,70,35", source=sent)
     link, content = (program("recover", kind, source=capture) for kind in ("link", "content"))
     page = report(capture)
-    assert "Clean" in page.text("verdict") and page.text("no-faults") == "No fault was told."
+    assert "Clean" in page.text("verdict") and page.text("no-faults") == "No fault was found."
     same_counts(page, link, content)
     assert page.lines() == texts(link)
     same_frames(page, tool, content, tmp_path / "out")
@@ -406,10 +408,11 @@ def test_contents_that_are_wrong(report, program):
     )
     page = report(capture, 1)
     cells = page.run(
-        "return [...document.querySelectorAll('#faults .matrix tbody tr')].map((row) => [row.cells[0].textContent, Number(row.cells[1].textContent)])"
+        "return [...document.querySelectorAll('#faults .matrix tbody tr')]"
+        ".map((row) => [row.cells[0].textContent, Number(row.cells[1].textContent)])"
     )
     assert dict(cells) == told and set(told) == {"checksum", "length", "parity", "uneven", "layout", "depth"}
-    assert "Contents wrong" in page.text("verdict") and page.text("no-faults") == "No fault was told."
+    assert "Contents wrong" in page.text("verdict") and page.text("no-faults") == "No fault was found."
     says = "The link is clean, its contents are not: 1 length, 1 checksum, 1 parity, 1 layout, 1 uneven, 1 depth."
     assert page.run("return document.querySelector('header .says').textContent") == says
     assert page.run("return document.querySelector('header').className") == "contents" and page.count("contents") == 6
@@ -532,8 +535,8 @@ def test_text_is_found(report, program, sent):
     typed(page, "#packet-table", "N 6144")
     assert {row[0] for row in page.rows("packet-table")} == {"Audio clock"}
     header = next(line.split(" ")[1] for line in lines if line.startswith("p 84"))
-    for text in (header, f"{header[:2]} {header[2:4]} {header[4:]}"):
-        typed(page, "#packet-table", text)
+    for digits in (header, f"{header[:2]} {header[2:4]} {header[4:]}"):
+        typed(page, "#packet-table", digits)
         assert {row[0] for row in page.rows("packet-table")} == {"Audio InfoFrame"}
     typed(page, "#packet-table", "")
     assert len(page.rows("packet-table")) == every
@@ -636,7 +639,8 @@ def test_narrow_and_wide(report, program, sent):
             )
             assert page.run("return innerWidth") == width
             assert page.run("return document.documentElement.scrollWidth - document.documentElement.clientWidth") == 0
-            tall = "return [...document.querySelectorAll('.cards b')].filter((one) => one.scrollWidth > one.clientWidth || one.clientHeight > 40).length"
+            is_tall = "one.scrollWidth > one.clientWidth || one.clientHeight > 40"
+            tall = f"return [...document.querySelectorAll('.cards b')].filter((one) => {is_tall}).length"
             assert page.run(tall) == 0
     finally:
         page.driver.execute_cdp_cmd("Emulation.clearDeviceMetricsOverride", {})

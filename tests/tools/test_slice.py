@@ -8,10 +8,9 @@ import pytest
 from PIL import Image
 
 from tests.models.channel import Channel
-
+from tests.support import TOP
 from vabgrot import capture
 from vabgrot.waves import loops, recovery, waveform
-from tests.support import TOP
 
 EXAMPLES = TOP / "examples"
 SKEW = (0.0, 6.9, 3.8)

@@ -82,7 +82,7 @@ def test_faults_are_counted(tool, path):
 @pytest.mark.parametrize(
     "text, says",
     [
-        (b"", b"nothing came"),
+        (b"", b"the input is empty"),
         (AVI + ACR + b"end\n", b"the listing has no samples"),
         (AVI + SAMPLES + b"end\n", b"no clock packet"),
         (AVI + b"acr 6144 0\n" + SAMPLES + b"end\n", b"no clock packet"),

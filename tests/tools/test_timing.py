@@ -7,13 +7,12 @@ import shutil
 from functools import partial
 
 import pytest
-from tests.support import TOP
-from tests.models.timed import Sent, text
 
+from tests.models.timed import Sent, text
+from tests.tools.test_formats import decoded
 from vabgrot import link
 from vabgrot.formats.modes import CTA, DMT, of_vic
 from vabgrot.video.matching import Rate, timings
-from tests.tools.test_formats import decoded
 from vabgrot.video.timings import Meter
 
 # CTA-861, section 4: VIC 1, 4, 5, 6 and 16.

@@ -181,9 +181,8 @@ class Findings(Generic[Shown]):
     def __init__(self, show: Show[Shown], is_dvi: bool | None = None) -> None:
         self.show, self.frames_of, self.text, self.sound = show, Frames(is_dvi), Text(), Sound()
         self.meter = Meter()
-        self.periods: Periods = {"kind": [], "at": [], "columns": [], "line": [], "value": []}
-        places: Faults = {"kind": [], "lane": [], "at": [], "epoch": [], "column": [], "line": [], "more": [], "frame": [], "x": [], "y": [], "rgb": []}
-        self.faults = places
+        self.periods = Periods(kind=[], at=[], columns=[], line=[], value=[])
+        self.faults = Faults(kind=[], lane=[], at=[], epoch=[], column=[], line=[], more=[], frame=[], x=[], y=[], rgb=[])
         self.counts: Counter[tuple[str, int | None]] = Counter()  # of a link's faults, by kind and lane
         self.content_counts: Counter[str] = Counter()
         self.packets: list[Received] = []

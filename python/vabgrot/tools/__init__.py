@@ -5,7 +5,14 @@ import sys
 from collections.abc import Sequence
 
 NAMES = ("content", "lanes", "pictures", "report", "slice", "sound", "survey", "timing")
-PACKAGES = {"PIL": "python3-pil", "jinja2": "python3-jinja2", "numpy": "python3-numpy", "tqdm": "python3-tqdm"}  # of Debian
+# Debian's packages, by their modules.
+PACKAGES = {
+    "PIL": "python3-pil",
+    "jinja2": "python3-jinja2",
+    "numpy": "python3-numpy",
+    "soundfile": "python3-soundfile",
+    "tqdm": "python3-tqdm",
+}
 
 
 def start(name: str, argv: Sequence[str] | None = None) -> int:

@@ -227,7 +227,7 @@ def verdict_of(found: Found, run: program.Run, slips: Slips | None) -> dict[str,
         says = "The capture is well formed, but its three lanes have no place at which a control period ends on all of them."
     elif run.status == program.NO_CAPTURE:
         word, sign, kind = "Broken file", "✗", "faulty"
-        says = f"The program refuses the file: {program.explained(run.note)}. What it told before that place is shown: {faults}."
+        says = f"The program refuses the file: {program.explained(run.note)}. What it wrote before that place is shown: {faults}."
     elif total:
         word, sign, kind = "Faulty", "✗", "faulty"
         says = f"The listing tells {faults}: {', '.join(places_of(found))}."
@@ -237,7 +237,7 @@ def verdict_of(found: Found, run: program.Run, slips: Slips | None) -> dict[str,
         says = f"The link is clean, its contents are not: {', '.join(contents_in_words(found))}."
     else:
         word, sign, kind = "Clean", "✓", "clean"
-        says = "No fault was told: a conforming source could have sent what came."
+        says = "No fault was found: a conforming source could have sent what was received."
     return {"word": word, "sign": sign, "kind": kind, "says": says}
 
 
@@ -304,9 +304,9 @@ def sound_of(found: Found, clock: int | None) -> dict[str, object] | None:
     data = pcm.wav(pcm.Sound(rate, bits, bytes(sound.left), bytes(sound.right)))
     seconds = sound.samples / rate
     told = (
-        "as the clock packets tell"
+        "by the clock packets"
         if is_told
-        else "which is supposed, since no clock packet with a known pixel clock came"
+        else "which is supposed, since no clock packet with a known pixel clock was received"
     )
     says = f"{sound.samples:,} samples of {bits} bits at {rate:,} Hz, {told}: {seconds:.3f} s."
     if sound.gaps:
@@ -496,7 +496,7 @@ def sections_of(found: Found, words: list[str], advice: tuple[str, ...], sound: 
 
 
 def work(argv: Sequence[str] | None) -> int:
-    parser = command.parser("report", TEXT, "done, and the page tells a fault", EXAMPLES)
+    parser = command.parser("report", TEXT, "done, and the page shows a fault", EXAMPLES)
     parser.add_argument(
         "capture", metavar="CAPTURE", type=Path, help="the capture, as `make`, `damage` or `lanes pack` write it"
     )
@@ -509,7 +509,7 @@ def work(argv: Sequence[str] | None) -> int:
         help="the page; if left out, %(default)s",
     )
     parser.add_argument("--dvi", action="store_true", help="the source is one of DVI, without guard bands and islands")
-    text = "the pixel clock, for the rate of the frames, and that of the sound where the AVI InfoFrame does not tell it"
+    text = "the pixel clock, for the rate of the frames, and that of the sound where the AVI InfoFrame does not say it"
     parser.add_argument("--clock", type=int, metavar="HZ", help=text)
     args = parser.parse_args(argv)
     if args.clock is not None and args.clock < 1:

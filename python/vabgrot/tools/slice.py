@@ -54,7 +54,7 @@ def words(argv: Sequence[str] | None) -> Namespace:
     parser.add_argument("--msb", action="store_true", help="bit 9 of --words is sent first, as of `tools/lanes pack --msb`")
     text = "the clock's channel or variable; if left out, each lane's own edges are followed, or the steps of --words"
     parser.add_argument("--clock", metavar="C", help=text)
-    text = "the sampling rate, where the file does not tell it: of use for the bit rate that is told alone"
+    text = "the sampling rate, where the file does not say it: the bit rate on standard error is worked out by it, and nothing else"
     parser.add_argument("--rate", type=float, metavar="HZ", help=text)
     text = "FILE has raw samples of this kind, of each channel in turn, low byte first; asks for --channels"
     parser.add_argument("--raw", choices=waveform.RAW, help=text)

@@ -16,7 +16,8 @@ from vabgrot.replacing import replacing
 TEXT = f"""Reads a content listing, or what `vabgrot read biphase` writes, from standard input and writes its samples as a
 WAV file of two channels. The rate is that of the first clock packet and the mode's pixel clock (one within 0.2 percent
 of a usual rate is that rate, since a listing cannot tell 59.94 from 60 frames a second); that of a mode without a code
-is {CUSTOM_CLOCK} Hz. Without a clock packet it is the one that the first channel status block names. Faults that touch the sound are counted on standard error."""
+is {CUSTOM_CLOCK} Hz. Without a clock packet it is the one that the first channel status block names. Faults that touch the
+sound are counted on standard error."""
 EXAMPLES = "tools/sound tone.wav < examples/bars.content"
 
 

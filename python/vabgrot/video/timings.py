@@ -421,7 +421,11 @@ def sized(part: Part, found: list[Field]) -> list[tuple[int, int | None]]:
         sizes.append((int(widths[np.argmax(counts)]), one.rows.stop - one.rows.start) if one.is_whole else None)
     every = [size for size in sizes if size is not None]
     last = every[0] if every else (int(np.bincount(part.pixels(part.widths)).argmax()), None)
-    return [last := size if size is not None else last for size in sizes]
+    kept = []
+    for size in sizes:
+        last = size if size is not None else last
+        kept.append(last)
+    return kept
 
 
 def across_of(part: Part, lines: Lines, mask: npt.NDArray[np.bool_], ruler: Ruler, found: list[Field]) -> dict[str, Figure]:

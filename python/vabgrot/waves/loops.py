@@ -30,7 +30,16 @@ CYCLE = 10  # the bits of a cycle of the clock (HDMI 1.4, section 4.2.4)
 WITHOUT = "Debian's package python3-numba is not here: with it this takes a fraction of the time"
 
 
-def follow(edges: Numbers, phase: float, period: float, pull: float, phases: Numbers, numbers: Places, periods: Numbers, errors: Numbers) -> None:
+def follow(
+    edges: Numbers,
+    phase: float,
+    period: float,
+    pull: float,
+    phases: Numbers,
+    numbers: Places,
+    periods: Numbers,
+    errors: Numbers,
+) -> None:
     """Follows the edges one by one with a second-order digital phase-locked loop; each counts by the bits since the one
     before, 8 at most. Bit numbers[i] begins at phases[i], and periods[i] is that of a bit: before the first edge, which
     is given, and behind each; errors[i] is how far edge i is behind the beginning of a bit, in bits."""
@@ -80,7 +89,15 @@ def cross(values: Levels, begin: int, side: bool, low: np.float32, high: np.floa
     return count
 
 
-def sample(values: Levels, first: float, track: Track, clock: Track, number: int, middle: float, ones: npt.NDArray[np.bool_]) -> tuple[float, float]:
+def sample(
+    values: Levels,
+    first: float,
+    track: Track,
+    clock: Track,
+    number: int,
+    middle: float,
+    ones: npt.NDArray[np.bool_],
+) -> tuple[float, float]:
     """Writes whether the level in the middle of each bit from `number` on is above `middle`; answers the lowest level
     that is and the highest that is not. `track` has the phases, numbers and periods of the lane, and `clock` those of
     the clock, which are empty where there is none. Value i, of two at least, lies at `first` + i, and a level between two

@@ -264,7 +264,7 @@ class Freely:
     def lock(self, edges: Reals, start: float, name: str, least: float) -> Loop:
         period = period_of(edges, least / 2)
         if period is None or period < least:
-            text = "its edges keep to no bit rate" if period is None else f"its edges tell some {period:.2g} samples a bit"
+            text = "its edges keep to no bit rate" if period is None else f"its edges show some {period:.2g} samples a bit"
             wanted = f"; under {least} the clock's channel is wanted, with --clock" if least else ""
             raise Refused(f"{name}: {text}{wanted}")
         return settled(edges, Loop(edges[0], period), start)
@@ -307,7 +307,7 @@ class Lane:
         edges = base.bits(moments)
         if self.pieces == 1:
             if len(edges) < 8:
-                raise Refused(f"{self.name}: its level changes {len(edges)} times, which tells no bit rate")
+                raise Refused(f"{self.name}: its level changes {len(edges)} times, which shows no bit rate")
             least = LEAST_SAMPLES if piece.times is None else 0.0
             self.loop = base.lock(edges[:FIRST], base.bits(np.array([self.trace.first]))[0], self.name, least)
         track = self.loop.track(edges)
@@ -425,7 +425,7 @@ class Clock:
         edges = moments[rising]
         if self.loop is None:
             if len(edges) < 8:
-                raise Refused(f"the clock: it rises {len(edges)} times, which tells no bit rate")
+                raise Refused(f"the clock: it rises {len(edges)} times, which shows no bit rate")
             loop = Loop(edges[0], float(np.median(np.diff(edges[:FIRST]))))
             self.loop = settled(edges[:FIRST], loop, piece.first)
         self.track = self.loop.track(edges)
