@@ -15,6 +15,7 @@ is not proved or the program not linked, with what was said of it on standard er
 
 import contextlib
 import fcntl
+import functools
 import hashlib
 import os
 import re
@@ -210,7 +211,7 @@ class Building:
         try:
             with open(crate.log, "wb") as log:
                 how = {"cwd": crate.folder, "stdin": subprocess.DEVNULL, "stdout": log, "stderr": subprocess.STDOUT}
-                let = lambda: signal.pthread_sigmask(signal.SIG_SETMASK, before)
+                let = functools.partial(signal.pthread_sigmask, signal.SIG_SETMASK, before)
                 self.running[crate] = subprocess.Popen(words, process_group=0, preexec_fn=let, **how)
         finally:
             signal.pthread_sigmask(signal.SIG_SETMASK, before)

@@ -32,12 +32,15 @@ import subprocess
 import sys
 import tempfile
 import time
+from pathlib import Path
 
 import inputs
 
-TOP = os.path.dirname(os.path.dirname(os.path.abspath(__file__)))
-FRONT = os.path.join(TOP, "vabgrot")
-BUILT = os.path.join(TOP, "crates", "hdmi_cli", "out", "hdmi_cli")
+TOP = Path(__file__).resolve().parents[1]
+sys.path.insert(0, str(TOP / "python"))
+from vabgrot.place import PROGRAM  # noqa: E402
+
+FRONT = TOP / "vabgrot"
 COLUMNS = 5000
 COUNTED_COLUMNS = 2200
 COUNTED = (20, 60)  # lines of the small and the large input
@@ -265,7 +268,7 @@ def main():
         reader.error(f"there is no part {unknown[0]}")
     if given.program is None:  # builds the program where that is due
         subprocess.run([FRONT, "check"], stdin=subprocess.DEVNULL, stderr=subprocess.DEVNULL)
-    program = os.path.abspath(given.program or BUILT)
+    program = os.path.abspath(given.program or PROGRAM)
     if not os.path.isfile(program):
         sys.exit(f"{program}: there is no such program; `./vabgrot` builds it")
     with tempfile.TemporaryDirectory() as folder:

@@ -1,19 +1,20 @@
 """The inputs of bench.py: listings, contents, captures and streams of noise, each with a fixed seed, so that they are the same at
 each run."""
 import itertools
-import os
 import random
 import sys
+from pathlib import Path
 
-sys.path.insert(0, os.path.join(os.path.dirname(os.path.dirname(os.path.abspath(__file__))), "tests"))
-import model  # noqa: E402
-from model import BLOCK  # noqa: E402
+sys.path[:0] = [str(Path(__file__).resolve().parents[1] / part) for part in ("python", ".")]
+from tests.models import model  # noqa: E402
+from vabgrot.capture import BLOCK  # noqa: E402
+from vabgrot.formats import characters  # noqa: E402
 
 PIXELS = 1920
 KINDS = 64  # so many lines of pixels are unlike
 ISLAND = "c 00 12\nc 14 8\ni 00\np {}\ne 00\n"
 ISLAND_COLUMNS = 12 + 8 + 2 + 32 + 2
-CONTROL, OTHER = 0x354, 0x100  # a control character, and one that is none
+CONTROL, OTHER = characters.CONTROL[0], 0x100  # a control character, and one that is none
 
 
 def packet(noise):
@@ -98,7 +99,7 @@ def one_lock(columns):
 
 
 OPENING = [[CONTROL] * 12 + [it] * 8 + [guard] * 2 + [OTHER] * 2 for it, guard in
-           ((CONTROL, 0x2CC), (0x0AB, 0x133), (CONTROL, 0x2CC))]
+           zip((CONTROL, *characters.VIDEO_PREAMBLE), characters.VIDEO_GUARD)]
 
 
 def control(columns, damaged):

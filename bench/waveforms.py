@@ -13,8 +13,8 @@ from pathlib import Path
 import numpy as np
 
 TOP = Path(__file__).resolve().parents[1]
-sys.path.append(str(TOP / "tools" / "tests"))
-from channel import Channel  # noqa: E402
+sys.path.insert(0, str(TOP))
+from tests.models.channel import Channel  # noqa: E402
 
 SAMPLES, TIMES = 8_600_000, 5
 
@@ -55,4 +55,5 @@ def main():
                 print(f"{samples:g} samples a bit, {name}: {best:.2f} s, of them {start:.2f} the start; {rate:.1f} a second")
 
 
-main()
+if __name__ == "__main__":
+    main()

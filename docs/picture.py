@@ -1,12 +1,12 @@
 #!/usr/bin/python3
 """Makes the README's picture of a report anew: runs the commands of the README in a folder of their own, opens the page that
-they write in headless Chromium, and writes docs/report.png and docs/report.txt.
+they write in headless Chromium, and writes docs/guide/report.png and docs/guide/report.txt.
 
     docs/picture.py             writes the two files
     docs/picture.py --text      writes what the page says to standard output, and no file
 
 The text file has what the page says above the end of the picture: verdict, counts, notes, names. It stands in the picture's
-file too (as its Description), so that tools/tests/test_picture.py notices a picture whose page has changed since. The
+file too (as its Description), so that tests/tools/test_picture.py notices a picture whose page has changed since. The
 program is the one that VABGROT_PROGRAM names, or that ./vabgrot builds. Needs Debian's packages chromium, chromium-driver,
 python3-selenium, and those of the tools."""
 
@@ -28,8 +28,11 @@ from selenium.webdriver.common.by import By
 from selenium.webdriver.support.ui import WebDriverWait
 
 TOP = Path(__file__).resolve().parents[1]
-BUILT = TOP / "crates" / "hdmi_cli" / "out" / "hdmi_cli"
-PICTURE, TEXT = TOP / "docs" / "report.png", TOP / "docs" / "report.txt"
+sys.path.insert(0, str(TOP / "python"))
+from vabgrot.errors import Refused  # noqa: E402
+from vabgrot.program import find  # noqa: E402
+
+PICTURE, TEXT = TOP / "docs" / "guide" / "report.png", TOP / "docs" / "guide" / "report.txt"
 HEADING, PAGE = "## A picture there and back", "walk/damaged.html"
 WIDTH, HEIGHT = 1280, 2110
 WAITS = 300  # seconds for the page, also on a slow machine
@@ -50,9 +53,10 @@ def commands():
 
 def walked(folder):
     """The page that the commands write in a folder, which gets links to what they name."""
-    program = Path(os.environ.get("VABGROT_PROGRAM", BUILT)).resolve()
-    if not program.is_file():
-        sys.exit(f"picture.py: there is no program {program}: `./vabgrot` builds it, or VABGROT_PROGRAM names one")
+    try:
+        program = find().resolve()
+    except Refused as why:
+        sys.exit(f"picture.py: {why}")
     for name in ("tools", "docs", "examples"):
         (folder / name).symlink_to(TOP / name)
     (folder / "vabgrot").symlink_to(program)

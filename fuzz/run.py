@@ -1,19 +1,23 @@
 #!/usr/bin/env python3
 """Feeds the built program with broken listings, contents, captures and words, and looks for what must never come.
 
-    fuzz/run.py [--seconds S] [--seed N] [--program PROGRAM] [--limit S] [--keep FOLDER]
+    fuzz/run.py [--seconds S] [--seed N] [--program PROGRAM] [--limit S] [--keep FOLDER] [--shrink]
 
 Each case is a seed of some command's input (the examples, captures, listings and biphase streams that are made of them, and random
-captures and listings of some blocks) after some random changes: bits flipped, bytes and lines cut, repeated, moved and spliced, numbers changed, characters of the
-lanes replaced, lanes shifted, bits of a lane left out. It is run twice, once over a file and once over a pipe that is fed in small pieces. A finding is
+captures and listings of some blocks) after some random changes: bits flipped, bytes and lines cut, repeated, moved and spliced,
+numbers changed, characters of the lanes replaced, lanes shifted, bits of a lane left out. It is run twice, once over a file and
+once over a pipe that is fed in small pieces. A finding is
 
 - a run that a signal ends, or that takes longer than the limit (twice in a row),
 - a status that the command has not over a whole input and a sound output,
-- on standard error anything but the one line of the status (docs/FORMATS.md, README.md), or anything on 0 and 1,
+- on standard error anything but the one line of the status (docs/guide/FORMATS.md, README.md), or anything on 0 and 1,
 - an output that its status does not allow (a listing without its last line, a capture that its header does not fit),
 - a second run that answers otherwise,
 - of a capture or a stream of at most 60,000 bytes, so of six blocks, or of a listing of as many columns, another status or output than
-  that of the small models of the formats (tests/model.py, tests/hearing.py, tests/rasters.py).
+  that of the small models of the formats (tests/models).
+
+With --shrink Hypothesis (Debian's python3-hypothesis) draws the cases, a thousand if --cases is not given, and makes the first finding
+as small as it can: the same kind of finding with fewer words and bytes.
 
 Case K of seed N depends on N, on K and on what the program makes of the examples, so `--seed N --first K --cases 1` runs it
 again. The last line counts executions and findings; the status is 1 where there was a finding. It is not part of the gate."""
@@ -27,18 +31,17 @@ import sys
 import tempfile
 import threading
 import time
+from pathlib import Path
 
-TOP = os.path.dirname(os.path.dirname(os.path.abspath(__file__)))
-sys.path.insert(0, os.path.join(TOP, "tests"))
-import feeding  # noqa: E402
-import hearing  # noqa: E402
-import model  # noqa: E402
-import rasters  # noqa: E402
+TOP = Path(__file__).resolve().parents[1]
+sys.path[:0] = [str(TOP / "python"), str(TOP)]
+from tests.models import feeding, hearing, model, rasters  # noqa: E402
+from tests.support import USAGE  # noqa: E402
+from vabgrot.capture import BLOCK  # noqa: E402
+from vabgrot.formats.characters import CONTROL, ISLAND_GUARD, ISLAND_PREAMBLE, TERC4, VIDEO_GUARD, VIDEO_PREAMBLE  # noqa: E402
+from vabgrot.place import PROGRAM  # noqa: E402
 
 SMALL = 60_000
-PROGRAM = os.path.join(TOP, "crates", "hdmi_cli", "out", "hdmi_cli")
-BLOCK = 4096
-USAGE = rb"usage: make, recover, check, damage or sample\n"
 LINE = rb"line [1-9]\d* (?:fault|form|range|order|control|preamble|size|long|unended|after)"
 CAPTURE = rb"(?:magic|version|short|padding|trailing) \d+"
 REFUSED = {
@@ -57,9 +60,10 @@ REFUSED = {
     "read biphase": rb"subframe \d+|short [1-9]\d*",
 }
 STATUSES = {name: (0, 3) if name.startswith(("make", "damage", "slip", "read")) else (0, 1, 3, 7) for name in REFUSED}
-CONTROL = [0x354, 0x0AB, 0x154, 0x2AB]
-TERC4 = [0x29C, 0x263, 0x2E4, 0x2E2, 0x171, 0x11E, 0x18E, 0x13C, 0x2CC, 0x139, 0x19C, 0x2C6, 0x28E, 0x271, 0x163, 0x2C3]
-MARKED = [*CONTROL, *TERC4, 0x133, 0x100, 0x3FF, 0x200]
+MARKED = [*CONTROL, *TERC4, ISLAND_GUARD, 0x100, 0x3FF, 0x200]
+# What three lanes carry before and in an opening, and in a control period.
+OPENINGS = (VIDEO_GUARD, (TERC4[12], ISLAND_GUARD, ISLAND_GUARD), CONTROL[:1] * 3)
+OPENINGS += ((CONTROL[0], *VIDEO_PREAMBLE), (CONTROL[0], *ISLAND_PREAMBLE))
 NUMBERS = [0, 1, 2, 3, 7, 8, 9, 11, 12, 13, 18, 19, 63, 64, 255, 256, 1023, 1024, 4095, 4096, 4097, 32767, 32768, 65535, 65536,
            2**31 - 1, 2**31, 2**32 - 11, 2**32 - 1, 2**32, 9999999999]
 CONTENT = b"""mode 4 4 200 64 2 1 1 1 0
@@ -131,13 +135,13 @@ class Seeds:
 
     def __init__(self, program):
         self.listings, self.contents, self.captures, self.lanes, self.streams = [], [], [], [], []
-        for name in sorted(os.listdir(os.path.join(TOP, "examples"))):
-            with open(os.path.join(TOP, "examples", name), "rb") as file:
-                (self.contents if name.endswith(".content") else self.listings).append(file.read())
+        self.listings += [path.read_bytes() for path in sorted((TOP / "examples").glob("*.link"))]
+        self.contents += [path.read_bytes() for path in sorted((TOP / "examples").glob("*.content"))]
         self.contents.append(CONTENT)
         island = self.listings[0].split(b"v ")[0]
         self.listings.append(island + b"v " + b"0123ab" * 700 + b"\nc 03 3000\n" + self.listings[0])
-        self.listings.append(b"c 00 12\n" + (b"c 14 8\ni 01\n" + 18 * (b"p 82020d " + 4 * b"66000800010000 " + 32 * b"1" + b"\n") + b"e 23\nc 00 12\n") * 3 + b"end\n")
+        packet = b"p 82020d " + 4 * b"66000800010000 " + 32 * b"1" + b"\n"
+        self.listings.append(b"c 00 12\n" + (b"c 14 8\ni 01\n" + 18 * packet + b"e 23\nc 00 12\n") * 3 + b"end\n")
         makes = [(["make", "link"], it) for it in self.listings] + [(["make", "content"], it) for it in self.contents]
         self.dvi = [b"c 00 12\nv ff0000\nc 00 12\nend\n", b"c 00 30\n" + (b"v " + b"0123ab" * 300 + b"\nc 02 3\nc 01 20\n") * 5 + b"end\n"]
         makes += [(["make", "dvi"], it) for it in self.dvi]
@@ -228,7 +232,8 @@ def change_text(rng, data, other):
     elif kind == 6:
         fields = lines[at].split(b" ")
         spot = rng.randrange(len(fields))
-        fields[spot : spot + 1] = rng.choice(([], [b""], [fields[spot]] * 2, [b"%x" % rng.randrange(2**24)], [fields[spot][:-1]], [b"-1"], [b"0x1"]))
+        others = ([], [b""], [fields[spot]] * 2, [b"%x" % rng.randrange(2**24)], [fields[spot][:-1]], [b"-1"], [b"0x1"])
+        fields[spot : spot + 1] = rng.choice(others)
         lines[at] = b" ".join(fields)
     else:
         lines[at] = lines[at][: rng.randrange(len(lines[at]) + 1)] + rng.choice((b"", b" ", b"\0", b"\r", b"0" * 40_000))
@@ -258,7 +263,7 @@ def change_lanes(rng, rows, other):
         for row, more in zip(rows, other):
             row[at:at] = more[cut : cut + much]
     elif kind == 5:
-        guards = rng.choice(([0x2CC, 0x133, 0x2CC], [0x28E, 0x133, 0x133], [0x354, 0x354, 0x354], [0x354, 0x0AB, 0x354], [0x354, 0x0AB, 0x0AB]))
+        guards = rng.choice(OPENINGS)
         much = rng.choice((1, 2, 8, 12))
         for row, word in zip(rows, guards):
             row[at:at] = [word] * much
@@ -347,6 +352,10 @@ def tap(rng):
     return words
 
 
+ODD_WORDS = ("--", "-", "--offset", "--offset=7", "", "link", "dvi", "check", "biphase", "track", "relay", "4")
+ODD_WORDS += ("--skew=1,2", "0:0:000", "é", "\udcff", "x" * 5000)
+
+
 def spoil(rng, words):
     """Words after one change."""
     words = words[:]
@@ -355,7 +364,7 @@ def spoil(rng, words):
     if kind == 0 and words:
         del words[at % len(words)]
     elif kind == 1:
-        words.insert(at, rng.choice(("--", "-", "--offset", "--offset=7", "", "link", "dvi", "check", "biphase", "track", "relay", "4", "--skew=1,2", "0:0:000", "é", "\udcff", "x" * 5000)))
+        words.insert(at, rng.choice(ODD_WORDS))
     elif kind == 2 and words:
         word = words[at % len(words)]
         spot = rng.randrange(len(word) + 1)
@@ -369,9 +378,8 @@ def spoil(rng, words):
     return words
 
 
-def case(seeds, seed, number):
-    """Words and an input, by the seed and the number of the case alone."""
-    rng = random.Random(f"{seed} {number}")
+def case(seeds, rng):
+    """Words and an input, by what is drawn alone."""
     name = rng.choice(list(REFUSED))
     words = name.split(" ")
     if name == "make link":
@@ -479,7 +487,8 @@ def wrong_output(name, status, output, notes):
             return "a last line without a line feed"
         if (status in (0, 1)) != (lines[-2:] == [b"end", b""]):
             return "a wrong last line"
-        if name in ("recover link", "recover track", "recover dvi") and status in (0, 1) and (status == 1) != any(it.startswith(b"! ") for it in lines):
+        is_whole = name in ("recover link", "recover track", "recover dvi") and status in (0, 1)
+        if is_whole and (status == 1) != any(it.startswith(b"! ") for it in lines):
             return "fault lines that do not fit the status"
     if name == "check":
         last = {0: [b"clean", b""], 1: [b"faulty", b""]}.get(status)
@@ -617,7 +626,40 @@ def options():
     reader.add_argument("--first", type=int, default=0, help="the number of the first case")
     reader.add_argument("--cases", type=int, default=None, help="how many cases at most")
     reader.add_argument("--keep", default=None, help="a folder for the inputs of findings")
+    reader.add_argument("--shrink", action="store_true", help="make the first finding as small as possible")
     return reader.parse_args()
+
+
+def shrunk(program, seeds, given, folder):
+    """The smallest case that Hypothesis comes to of one that is found; none where none is found. Hypothesis draws few bytes a case, so
+    the largest ones are left out."""
+    import hypothesis
+    from hypothesis import strategies
+
+    def is_found(drawn):
+        return found_in(program, *drawn, given.limit, folder)[0] is not None
+
+    drawn = strategies.randoms(use_true_random=False).map(lambda rng: case(seeds, rng))
+    words = {"max_examples": given.cases or 1000, "suppress_health_check": hypothesis.HealthCheck.all()}
+    often = hypothesis.settings(**words, database=None, deadline=None)
+    try:
+        return hypothesis.find(drawn, is_found, settings=often, random=random.Random(given.seed))
+    except hypothesis.errors.NoSuchExample:
+        return None
+
+
+def shrink(program, seeds, given):
+    """Looks for one finding, and says the smallest case of it; the status."""
+    with tempfile.TemporaryDirectory() as folder:
+        smallest = shrunk(program, seeds, given, folder)
+        if smallest is None:
+            print(f"seed {given.seed}: no finding")
+            return 0
+        words, data = smallest
+        print(f"seed {given.seed}: {found_in(program, words, data, given.limit, folder)[0]}: {words!r:.300}, {len(data)} bytes")
+        if given.keep:
+            keep(given.keep, given.seed, "smallest", words, data)
+    return 1
 
 
 def main():
@@ -626,11 +668,13 @@ def main():
     if not os.path.isfile(program):
         sys.exit(f"{program}: there is no such program; `rt ci` and `./vabgrot` build it")
     seeds = Seeds(program)
+    if given.shrink:
+        return shrink(program, seeds, given)
     ends, findings, number = collections.Counter(), 0, given.first
     start = time.monotonic()
     with tempfile.TemporaryDirectory() as folder:
         while time.monotonic() - start < given.seconds and (given.cases is None or number - given.first < given.cases):
-            words, data = case(seeds, given.seed, number)
+            words, data = case(seeds, random.Random(f"{given.seed} {number}"))
             found, status = found_in(program, words, data, given.limit, folder)
             ends[name_of(words) if status != 2 else "usage", status] += 1
             if found:

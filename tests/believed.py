@@ -5,7 +5,8 @@
 
 A theorem is a field of the record `Promises` of crates/hdmi_cli/specs/Theorem.antt; without one it is `headline`. A line names a
 definition and says what the comment above it says; the last line counts them. A type that code declares is named with its file.
-What a definition cites is found by its names alone, as they are imported, so the list may have a few too many. Status 2 where there is no such theorem."""
+What a definition cites is found by its names alone, as they are imported, so the list may have a few too many. Status 2 where there is no
+such theorem."""
 import re
 import sys
 from collections.abc import Iterator

@@ -1,0 +1,1 @@
+"""Whether two captures, or a capture and pictures and sound, carry the same."""

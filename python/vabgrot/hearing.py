@@ -1,0 +1,263 @@
+"""What a listing says of its sound: the samples of each channel, what they are, and the rates that clock packets, channel status and
+audio InfoFrame tell."""
+
+from collections import Counter
+from collections.abc import Iterable, Iterator, Sequence
+from dataclasses import dataclass, field
+
+import numpy as np
+
+from vabgrot import listing, packets, pcm
+from vabgrot.channels import Values, Wide
+from vabgrot.errors import Refused
+from vabgrot.formats import speakers
+from vabgrot.formats.audio import BLOCK, CODED
+from vabgrot.formats.faults import OF_PACKET, OF_SOUND
+from vabgrot.formats.modes import CUSTOM_CLOCK, VICS
+from vabgrot.infoframes import FREQUENCIES
+from vabgrot.packets import Packet, Sample
+from vabgrot.video.colours import DEPTHS
+
+STATUS_BYTES = BLOCK // 8
+SIDE = 3  # bytes of a sample of one channel
+NAMED = {
+    7: "One Bit Audio",
+    8: "DST audio",
+    9: "high bit rate audio (IEC 61937)",
+}  # packets of sound that is no PCM, by their type
+Line = tuple[int, str, list[str]]
+
+
+@dataclass
+class Status:
+    """The channel status of one channel: the C bits of its samples from the first one that starts a block on."""
+
+    bits: list[int] = field(default_factory=list)
+    block: bytes = b""  # the first whole one
+
+    def take(self, starts: bool, bit: int) -> None:
+        """The C bit of a sample."""
+        if self.block:
+            return
+        if starts:
+            self.bits = []
+        elif not self.bits:
+            return
+        self.bits.append(bit)
+        if len(self.bits) == BLOCK:
+            self.block = np.packbits(self.bits, bitorder="little").tobytes()
+
+    def lose(self) -> None:
+        """Samples are missing here."""
+        self.bits = []
+
+    @property
+    def rate(self) -> int | None:
+        """The sampling rate that it names; None where it names none, or is that of professional use."""
+        return CODED.get(self.block[3] & 15) if self.block and not self.block[0] & 1 else None
+
+    @property
+    def is_pcm(self) -> bool:
+        """Whether it says nothing else than linear PCM."""
+        return not self.block or not self.block[0] & 2
+
+
+@dataclass
+class Heard:
+    """The sound of a listing, as its lines are taken."""
+
+    sides: list[bytearray] = field(default_factory=list)  # of channels 1, 2 ..: three bytes a sample, high byte first
+    samples: int = 0
+    status: Status = field(default_factory=Status)
+    clock: tuple[int, int] | None = None  # N and CTS of the first clock packet
+    vic: int | None = None
+    depth: int = 24
+    frequency: int = 0  # of the audio InfoFrame, in Hz; 0 by the stream
+    allocation: int | None = None
+    others: Counter[str] = field(default_factory=Counter)
+    faults: Counter[str] = field(default_factory=Counter)
+    is_wide: bool = False  # layout 1
+
+    def take(self, line: int, name: str, fields: list[str]) -> None:
+        """A line of a content listing, or of what `read biphase` writes."""
+        if name == "s":
+            self.sample_line(line, listing.fields_of(fields, 6, line))
+        elif name == "acr":
+            n, cycles = (listing.number(part, line) for part in listing.fields_of(fields, 2, line))
+            self.clock = self.clock or (n, cycles)
+        elif name == "block":
+            left, _ = listing.fields_of(fields, 2, line)
+            block = listing.digits(left, STATUS_BYTES, line)
+            self.status.block = block if self.status.rate is None else self.status.block
+        elif name in ("vic", "mode"):
+            self.vic = listing.number(listing.fields_of(fields, 1, line)[0], line) if name == "vic" else 0
+        elif name == "avi" and self.vic is None:
+            self.vic = listing.number(listing.fields_of(fields, 17, line)[11], line)
+        elif name == "gcp":
+            self.depth = DEPTHS.get(listing.number(listing.fields_of(fields, 3, line)[2], line), self.depth)
+        elif name == "audio":
+            numbers = [listing.number(part, line) for part in listing.fields_of(fields, 7, line)]
+            self.infoframe(numbers[3], numbers[4])
+        elif name == "packet":
+            self.packet(packets.packet_of([*fields, ""], line))
+        elif name == "!" and fields[0] in OF_SOUND:
+            self.faults[fields[0]] += 1
+
+    def sample_line(self, line: int, fields: list[str]) -> None:
+        """A line of a sample of two channels."""
+        left, right, flags, _, starts, _ = fields
+        self.add(0, *(self.value(text, name) for text, name in ((left, "left"), (right, "right"))))
+        self.samples += 1
+        self.status.take(starts == "1", listing.number(flags, line) >> 2 & 1)
+
+    @staticmethod
+    def value(text: str, name: str) -> bytes:
+        """The three bytes of a sample."""
+        try:
+            data = bytes.fromhex(text)
+        except ValueError:
+            data = b""
+        if len(data) != SIDE:
+            raise Refused(f"a sample's {name} value has not six hexadecimal digits")
+        return data
+
+    def add(self, pair: int, left: bytes, right: bytes) -> None:
+        """A sample of a pair of channels, behind zeros where the pair had none."""
+        while len(self.sides) < 2 * pair + 2:
+            self.sides.append(bytearray())
+        for at, data in ((2 * pair, left), (2 * pair + 1, right)):
+            side = self.sides[at]
+            side.extend(bytes(SIDE * self.samples - len(side)))
+            side += data
+
+    def infoframe(self, rate: int, allocation: int) -> None:
+        """SF and CA of an audio InfoFrame, the first one's."""
+        if self.allocation is None:
+            self.frequency, self.allocation = FREQUENCIES[rate & 7], allocation
+
+    def packet(self, it: Packet) -> None:
+        """A packet without a lost block."""
+        content = packets.content_of(it)
+        if it.kind in NAMED:
+            self.others[NAMED[it.kind]] += 1
+        faults = [fault.split()[0] for fault in content.faults]
+        self.faults.update(fault for fault in faults if fault in OF_SOUND - {"layout"})
+        if it.kind == 1 and not faults:
+            self.clock = self.clock or packets.clock_numbers(it)
+        elif it.kind == 3:
+            self.depth = DEPTHS.get(it.bytes[1] & 15, self.depth)
+        elif it.kind == 0x82 and not faults and self.vic is None:
+            self.vic = it.bytes[4] & (127 if it.header[1] < 3 else 255)
+        elif it.kind == 0x84 and not faults:
+            self.infoframe(it.bytes[2] >> 2 & 7, it.bytes[4])
+        elif it.kind == 2:
+            self.sample_packet(content.samples, content.pairs)
+
+    def sample_packet(self, samples: Sequence[Sample], pairs: Sequence[Sample]) -> None:
+        """The samples of a packet: in layout 0 one after another, in layout 1 one of several pairs."""
+        for sample in (*samples, *pairs):
+            self.add(sample.pair, sample.left[::-1], sample.right[::-1])
+            if sample.pair == 0:
+                self.status.take(sample.start, sample.left_flags >> 2 & 1)
+            self.samples += not pairs
+        if pairs:
+            self.samples += 1
+            self.is_wide = True
+
+    def lose(self) -> None:
+        """A packet of samples has a lost block."""
+        self.faults["lost"] += 1
+        self.status.lose()
+
+    def usual_clock(self) -> int | None:
+        """The rate of columns of the mode's code, and for a mode of one's own that which `content` takes, in Hz; of deep colour it is
+        that of pixels as many times as a pixel has more than 24 bits."""
+        clock = CUSTOM_CLOCK if self.vic == 0 else VICS[self.vic].clock if self.vic in VICS else None
+        return clock and clock * self.depth // 24
+
+    def rates(self, clock: int | None) -> dict[str, int]:
+        """What tells a sampling rate, and which; the rate by the clock packet (HDMI 1.4, section 7.2) first."""
+        clock = clock or self.usual_clock()
+        found = {}
+        if self.clock and all(self.clock) and clock:
+            found["the clock packets"] = pcm.rate_of(*self.clock, clock)
+        if self.status.rate:
+            found["the channel status"] = self.status.rate
+        if self.frequency:
+            found["the audio InfoFrame"] = self.frequency
+        return found
+
+    def rate(self, clock: int | None) -> int:
+        """The sampling rate, by the first that tells one."""
+        found = self.rates(clock)
+        if found:
+            return next(iter(found.values()))
+        has_clock = self.clock and all(self.clock)
+        lack, give = ("AVI InfoFrame with a known code", "--rate or --clock") if has_clock else ("clock packet", "--rate")
+        raise Refused(f"the listing has no {lack}, so its rate is not known: give {give}")
+
+    def values(self) -> Values:
+        """The samples of all channels."""
+        parts = []
+        for side in self.sides:
+            data = np.frombuffer(bytes(side).ljust(SIDE * self.samples, b"\0"), np.uint8).reshape(-1, SIDE).astype(np.int32)
+            parts.append(data[:, 0] << 16 | data[:, 1] << 8 | data[:, 2])
+        found = np.stack(parts, axis=1)
+        return np.where(found >> 23, found - (1 << 24), found).astype(np.int32)
+
+    def names(self, allocation: int | None) -> tuple[str, ...]:
+        """The speakers of the channels, by an allocation or else by the InfoFrame's; and where none is told by the usual one for so
+        many channels."""
+        count = len(self.sides)
+        chosen = self.allocation if allocation is None else allocation
+        if chosen is None:
+            chosen = speakers.USUAL[count]
+        names = speakers.speakers(chosen)
+        if not names:
+            raise Refused(f"the channel allocation {chosen} of the audio InfoFrame is reserved: give --allocation CA")
+        return names[:count]
+
+    def wide(self, rate: int, bits: int | None, allocation: int | None) -> Wide:
+        """The sound, of 16 bits where all others are 0 and else of 24, or of as many as are given."""
+        values = self.values()
+        bits = bits or (24 if (values & 255).any() else 16)
+        names = self.names(allocation)
+        return Wide(rate, bits, values[:, : len(names)], names)
+
+
+def link_lines(heard: Heard, lines: Iterable[Line]) -> None:
+    """Has the sound take the packets of a link listing that have no lost block."""
+    for packet, is_lost in packets_of(lines):
+        if not is_lost:
+            heard.packet(packet)
+        elif packet.kind in (1, 2):
+            heard.lose()
+
+
+def packets_of(lines: Iterable[Line]) -> Iterator[tuple[Packet, bool]]:
+    """The packets of a link listing, and whether each has a lost block."""
+    last: Packet | None = None
+    is_lost = False
+    for line, name, fields in lines:
+        if name == "!" and fields[0] in OF_PACKET:
+            is_lost |= fields[0] == "lost"
+            continue
+        if last:
+            yield last, is_lost
+        last, is_lost = packets.packet_of(listing.fields_of(fields, 6, line), line) if name == "p" else None, False
+    if last:
+        yield last, is_lost
+
+
+def joined(pairs: Sequence[Heard]) -> Heard:
+    """The sound of pairs of channels that were heard one by one, as of `recover biphase 0` and so on. Each begins at its own first block;
+    what one has more than the others is left out."""
+    first = pairs[0]
+    first.samples = min(pair.samples for pair in pairs)
+    first.sides = [side for pair in pairs for side in pair.sides]
+    for side in first.sides:
+        del side[SIDE * first.samples :]
+    for pair in pairs[1:]:
+        first.faults.update(pair.faults)
+    first.is_wide = len(pairs) > 1
+    return first

@@ -1,0 +1,221 @@
+"""Which characters of a capture were damaged: by what is known of control periods, guards, packets and the video coding, or by a
+capture of the same that is right."""
+
+from __future__ import annotations
+
+from collections.abc import Iterator
+from typing import NamedTuple
+
+import numpy as np
+import numpy.typing as npt
+
+from vabgrot.formats.characters import CONTROL, ISLAND_GUARD, ISLAND_GUARDS_0, PACKET, TERC4, VIDEO_GUARD
+from vabgrot.judging.spans import Spans
+from vabgrot.lanes.coding import BITS, damage_of
+from vabgrot.lanes.columns import Columns
+from vabgrot.lanes.looking import IS_CONTROL
+from vabgrot.video.timings import Ints
+
+KINDS = ("control", "guard", "packet", "video")
+IS_TERC4 = np.isin(np.arange(1024), TERC4)
+TO_TERC4 = BITS[np.arange(1024)[:, None] ^ np.array(TERC4)[None, :]].min(axis=1)
+TOGETHER = 256  # rows that are looked at together
+FEW = 2  # characters of a preamble that are wrong by damage; more are the source's
+
+
+class Hit(NamedTuple):
+    """A damaged character: its column, its lane, what it stands in, and how many of its bits are wrong, at least."""
+
+    column: int
+    lane: int
+    kind: str
+    bits: int
+
+
+def exposed(spans: Spans) -> dict[str, int]:
+    """How many characters of each kind a lane has."""
+    guards = sum(2 * len(pairs) for pairs in spans.guards)
+    return dict(zip(KINDS, (int(spans.runs[1].sum()), guards, PACKET * len(spans.packets), int(spans.rows[1].sum()))))
+
+
+def unread(spans: Spans, columns: Columns) -> int:
+    """How many columns nothing is known of."""
+    return max(0, int(min(columns.count, spans.columns)) - sum(exposed(spans).values()))
+
+
+def in_control(spans: Spans, columns: Columns) -> Iterator[Hit]:
+    """The damaged characters of control periods: those that are none, and those of one column that are another one's."""
+    begins, counts, values = spans.runs
+    words = {(at, numbers[0]) for at, numbers in spans.of_kind("word")}
+    for at, lane in sorted(words):
+        near = columns.words(lane, max(at - 1, 0), 3 if at else 2)
+        mine = near[1 if at else 0]
+        wanted = [int(word) for word in near if IS_CONTROL[word]] or list(CONTROL)
+        yield Hit(at, lane, "control", int(min(BITS[int(mine) ^ word] for word in wanted)))
+    if len(begins) < 3:
+        return
+    ends = begins + counts
+    alone = (counts[1:-1] == 1) & (values[:-2] == values[2:]) & (values[1:-1] != values[:-2])
+    alone &= (ends[:-2] == begins[1:-1]) & (ends[1:-1] == begins[2:])
+    for number in (np.flatnonzero(alone) + 1).tolist():
+        at, found, wanted_value = int(begins[number]), int(values[number]), int(values[number - 1])
+        for lane in range(3):
+            unlike = CONTROL[found >> 2 * lane & 3] ^ CONTROL[wanted_value >> 2 * lane & 3]
+            if unlike and (at, lane) not in words:
+                yield Hit(at, lane, "control", unlike.bit_count())
+    yield from in_preambles(spans, columns)
+
+
+def in_preambles(spans: Spans, columns: Columns) -> Iterator[Hit]:
+    """The damaged characters of preambles of which few are wrong."""
+    rows = set(spans.guards[0].tolist())
+    for at, _ in spans.of_kind("preamble"):
+        wanted = (CONTROL[1], CONTROL[0 if at in rows else 1])
+        found = [(lane, columns.words(lane, at - 8, 8)) for lane in (1, 2)]
+        hits = [
+            Hit(at - 8 + place, lane, "control", int(BITS[int(word) ^ wanted[lane - 1]]))
+            for lane, words in found
+            for place, word in enumerate(words)
+            if IS_CONTROL[word] and word != wanted[lane - 1]
+        ]
+        if len(hits) <= FEW:
+            yield from hits
+
+
+def in_guards(spans: Spans, columns: Columns) -> Iterator[Hit]:
+    """The damaged characters of guards."""
+    rows = set(spans.guards[0].tolist())
+    for at, _ in spans.of_kind("guard"):
+        is_row = at in rows or at - 1 in rows
+        for lane, word in enumerate(columns.at(at, 1)[:, 0].tolist()):
+            wanted = (VIDEO_GUARD[lane],) if is_row else ISLAND_GUARDS_0 if lane == 0 else (ISLAND_GUARD,)
+            unlike = min((word ^ one).bit_count() for one in wanted)
+            if unlike:
+                yield Hit(at, lane, "guard", unlike)
+
+
+def in_packets(spans: Spans, columns: Columns) -> Iterator[Hit]:
+    """The damaged characters of packets: those that are none of TERC4, and those of which a block shows a wrong bit."""
+    told: dict[int, list[tuple[str, tuple[int, ...]]]] = {}
+    for kind in ("symbols", "mended", "lost"):
+        for at, numbers in spans.of_kind(kind):
+            told.setdefault(at, []).append((kind, numbers))
+    for at, faults in sorted(told.items()):
+        words = columns.at(at, PACKET)
+        found = {(int(lane), int(place)): int(TO_TERC4[words[lane, place]]) for lane, place in np.argwhere(~IS_TERC4[words])}
+        for kind, numbers in faults:
+            if kind == "mended":
+                lane, place = where(numbers[1], numbers[2])
+                found.setdefault((lane, place), to_nibble(int(words[lane, place]), numbers[1]))
+            elif kind == "lost" and not any((lane == 0) == (numbers[1] == 4) for lane, _ in found):
+                lane = 0 if numbers[1] == 4 else 1
+                found[lane, 0] = 2
+        yield from (Hit(at + place, lane, "packet", bits) for (lane, place), bits in sorted(found.items()))
+
+
+def where(block: int, bit: int) -> tuple[int, int]:
+    """The lane and the column of a packet that carry a bit of a block: 0 to 3 are the bodies, 4 is the header."""
+    return (0, bit) if block == 4 else (1 + bit % 2, bit // 2)
+
+
+def to_nibble(word: int, block: int) -> int:
+    """By how many bits a character of TERC4 differs from the one whose bit of this block is the other one."""
+    if word not in TERC4:
+        return int(TO_TERC4[word])
+    other = TERC4.index(word) ^ 1 << (2 if block == 4 else block)
+    return (word ^ TERC4[other]).bit_count()
+
+
+def in_rows(spans: Spans, columns: Columns) -> Iterator[Hit]:
+    """The damaged characters of rows: the least damage that makes of coded rows those that came."""
+    firsts, widths = spans.rows
+    told = sorted({(numbers[0], int(np.searchsorted(firsts, at, "right")) - 1) for at, numbers in spans.of_kind("code")})
+    groups: dict[tuple[int, int], list[int]] = {}
+    for lane, row in told:
+        groups.setdefault((lane, int(widths[row])), []).append(row)
+    for (lane, width), rows in groups.items():
+        for part in range(0, len(rows), TOGETHER):
+            chosen = rows[part : part + TOGETHER]
+            words = np.stack([columns.words(lane, int(firsts[row]), width) for row in chosen])
+            damage = damage_of(words)
+            for row, pixel, bits in zip(*map(np.ndarray.tolist, damage)):
+                yield Hit(int(firsts[chosen[row]]) + pixel, lane, "video", bits)
+
+
+def hits_of(spans: Spans, columns: Columns) -> list[Hit]:
+    """The damaged characters of a capture, by what is known, in the order of their columns."""
+    return sorted(hit for part in (in_control, in_guards, in_packets, in_rows) for hit in part(spans, columns))
+
+
+# ---- against a capture of the same
+
+PART = 1 << 18  # columns that are compared at once
+WINDOW, TRIED = 64, 24  # columns of a pattern that is looked for, and how many patterns are
+
+
+def joined(words: npt.NDArray[np.uint16]) -> Ints:
+    """The columns as numbers of thirty bits."""
+    wide = words.astype(np.int64)
+    return np.asarray(wide[0] | wide[1] << 10 | wide[2] << 20)
+
+
+def offset_of(mine: Columns, other: Columns) -> int | None:
+    """By how many columns what stands in `mine` stands later in `other`: the offset for which most of some patterns speak; None
+    where none is found in both."""
+    whole = joined(other.at(0, min(other.count, 1 << 24)))
+    order = np.argsort(whole, kind="stable")
+    votes: dict[int, int] = {}
+    for column in np.linspace(0, max(mine.count - WINDOW, 0), TRIED).astype(int).tolist():
+        pattern = joined(mine.at(column, WINDOW))
+        rarest = rare(pattern)
+        first = np.searchsorted(whole, pattern[rarest], "left", sorter=order)
+        last = np.searchsorted(whole, pattern[rarest], "right", sorter=order)
+        for at in order[first : min(last, first + 4096)].tolist():
+            begin = at - rarest
+            if 0 <= begin <= len(whole) - len(pattern) and (whole[begin : begin + len(pattern)] == pattern).mean() > 0.75:
+                votes[begin - column] = votes.get(begin - column, 0) + 1
+    return max(votes, key=lambda offset: (votes[offset], -abs(offset))) if votes else None
+
+
+def rare(pattern: Ints) -> int:
+    """The place of a column that is rarest within a pattern."""
+    values, places, counts = np.unique(pattern, return_index=True, return_counts=True)
+    return int(places[counts.argmin()]) if len(values) else 0
+
+
+class Compared(NamedTuple):
+    """What came of a comparison: the damaged characters, and the characters of each kind that a lane has in both."""
+
+    hits: list[Hit]
+    exposed: dict[str, int]
+
+
+def compared(mine: Columns, other: Columns, spans: Spans, offset: int) -> Compared:
+    """The characters that are not as in another capture, whose columns are `offset` later; `spans` are those of the other one,
+    which says what each stands in."""
+    first, behind = max(0, -offset), min(mine.count, other.count - offset)
+    hits: list[Hit] = []
+    counts = np.zeros(len(KINDS), np.int64)
+    for column in range(first, behind, PART):
+        count = min(PART, behind - column)
+        kinds = kinds_of(spans, column + offset, count)
+        counts += np.bincount(kinds, minlength=len(KINDS) + 1)[: len(KINDS)]
+        unlike = mine.at(column, count) ^ other.at(column + offset, count)
+        for lane, place in np.argwhere(unlike).tolist():
+            kind = int(kinds[place])
+            if kind < len(KINDS):
+                hits.append(Hit(column + place, lane, KINDS[kind], int(BITS[unlike[lane, place]])))
+    return Compared(sorted(hits), dict(zip(KINDS, counts.tolist())))
+
+
+def kinds_of(spans: Spans, column: int, count: int) -> Ints:
+    """The number of the kind of each of so many columns, len(KINDS) where nothing is known."""
+    found = np.full(count, len(KINDS), np.int64)
+    pairs = np.concatenate(spans.guards)
+    lengths_of_packets = np.full(len(spans.packets), PACKET)
+    parts = (spans.runs[:2], (pairs, np.full(len(pairs), 2)), (spans.packets, lengths_of_packets), spans.rows)
+    for kind, (begins, lengths) in enumerate(parts):
+        near = (begins + lengths > column) & (begins < column + count)
+        for begin, length in zip(begins[near].tolist(), lengths[near].tolist()):
+            found[max(begin - column, 0) : max(begin + length - column, 0)] = kind
+    return found

@@ -1,0 +1,91 @@
+"""Rates with their limits of confidence, and whether damage lies closer than chance."""
+
+from __future__ import annotations
+
+from collections import Counter
+from typing import NamedTuple
+
+import numpy as np
+from scipy import stats
+
+from vabgrot.judging.damage import Hit
+from vabgrot.judging.spans import Spans
+from vabgrot.lanes.coding import Ints
+
+CHANCE = 1e-4  # how likely what is told may be by chance
+LEAST = 5  # damaged characters from which on it is asked where they lie
+NEAR = 64  # columns within which damage is a burst
+
+
+class Limits(NamedTuple):
+    """The limits between which a rate lies with a confidence."""
+
+    lower: float
+    upper: float
+    confidence: float
+
+
+def limits_of(wrong: int, of: int, confidence: float) -> Limits:
+    """The exact limits of a rate by Clopper and Pearson, when `wrong` of `of` were wrong."""
+    half = (1 - confidence) / 2
+    lower = float(stats.beta.ppf(half, wrong, of - wrong + 1)) if wrong else 0.0
+    upper = float(stats.beta.ppf(1 - half, wrong + 1, of - wrong)) if wrong < of else 1.0
+    return Limits(lower, upper, confidence)
+
+
+def is_more(times: int, of: int, share: float, tried: int) -> bool:
+    """Whether one of `tried` groups that should have a share of `of` has more than chance gives it."""
+    return float(stats.binom.sf(times - 1, of, share)) * tried < CHANCE
+
+
+def clusters_of(hits: list[Hit], exposed: dict[str, int], spans: Spans) -> list[str]:
+    """Where damage lies closer than chance, in words; nothing where it does not, or is too little."""
+    if len(hits) < LEAST:
+        return []
+    found, count, every = [], len(hits), sum(exposed.values())
+    for lane, times in sorted(Counter(hit.lane for hit in hits).items()):
+        if is_more(times, count, 1 / 3, 3):
+            found.append(f"closer than chance: lane {lane} has {times:,} of {count:,}")
+    for kind, times in sorted(Counter(hit.kind for hit in hits).items()):
+        if exposed[kind] and is_more(times, count, exposed[kind] / every, len(exposed)):
+            found.append(f"closer than chance: {kind} columns have {times:,} of {count:,}, and are {exposed[kind] / every:.0%} of all")
+    columns = np.array([hit.column for hit in hits], np.int64)
+    return found + bursts_of(columns, every) + rows_of(columns, spans)
+
+
+def bursts_of(columns: Ints, every: int) -> list[str]:
+    """Whether damage comes in bursts: within NEAR columns of the one before."""
+    near = int((np.diff(columns) <= NEAR).sum())
+    share = -np.expm1(-NEAR * len(columns) / every)
+    if not is_more(near, len(columns) - 1, float(share), 1):
+        return []
+    return [f"closer than chance: {near:,} of {len(columns):,} lie within {NEAR} columns of the one before"]
+
+
+def rows_of(columns: Ints, spans: Spans) -> list[str]:
+    """Whether one row of the picture, or one column of it, has more than chance gives it."""
+    firsts, widths = spans.rows
+    if len(firsts) < 2:
+        return []
+    row = np.searchsorted(firsts, columns, "right") - 1
+    inside = (row >= 0) & (columns < firsts[row] + widths[row])
+    number = numbers_of(firsts)
+    count = int(inside.sum())
+    found = []
+    for name, places, groups in (
+        ("row", number[row[inside]], int(number.max()) + 1),
+        ("pixel", columns[inside] - firsts[row[inside]], int(widths.max())),
+    ):
+        if count >= LEAST:
+            values, times = np.unique(places, return_counts=True)
+            at = int(times.argmax())
+            if times[at] > 2 and is_more(int(times[at]), count, 1 / groups, groups):
+                found.append(f"closer than chance: {name} {int(values[at]):,} of the picture has {int(times[at]):,} of {count:,}")
+    return found
+
+
+def numbers_of(firsts: Ints) -> Ints:
+    """The number of each row in its frame, from 0: a new one begins behind a gap that is wider than those of most rows."""
+    gaps = np.diff(firsts)
+    begins: Ints = np.append(0, np.flatnonzero(gaps > 1.5 * np.median(gaps)) + 1)
+    return np.asarray(np.arange(len(firsts)) - begins[np.searchsorted(begins, np.arange(len(firsts)), "right") - 1])

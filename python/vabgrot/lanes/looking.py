@@ -1,0 +1,257 @@
+"""What a capture's lanes look like: control characters, what control periods end in, and the lanes' bit order, order and
+polarity."""
+
+import shlex
+from collections.abc import Sequence
+from itertools import permutations, product
+from pathlib import Path
+from typing import NamedTuple
+
+import numpy as np
+import numpy.typing as npt
+from tqdm import tqdm
+
+from vabgrot.formats.characters import (
+    ALL,
+    CONTROL,
+    ISLAND_GUARDS_0,
+    ISLAND_PREAMBLE,
+    LEAST_CONTROL,
+    MOST_SKEW,
+    PREAMBLE,
+    TEN,
+    VIDEO_GUARD,
+    VIDEO_PREAMBLE,
+)
+
+Bits = npt.NDArray[np.uint8]  # of a lane, each 0 or 1
+Words = npt.NDArray[np.uint16]  # characters
+Mask = npt.NDArray[np.bool_]
+
+GUARD, OTHER, _ = VIDEO_GUARD  # the two guard characters; the second is that of an island on lanes 1 and 2, too
+PART = 1 << 22
+MOST_ENDS = 20_000
+IS_CONTROL = np.isin(np.arange(1024), CONTROL)
+IS_TURNED_CONTROL = np.isin(np.arange(1024), [int(f"{word:010b}"[::-1], 2) for word in CONTROL])
+
+
+class Ends(NamedTuple):
+    """Where control periods of twelve characters or more end: the places, the character of the preamble (0 where its
+    eight are not alike), and that of the guard (0 where its two are not alike)."""
+
+    lock: int
+    places: npt.NDArray[np.int64]
+    preambles: Words
+    guards: Words
+
+
+def words_at_all(bits: Bits) -> Words:
+    """The ten bits from each place on, first bit lowest."""
+    words = np.zeros(max(len(bits) - TEN + 1, 0), np.uint16)
+    for place in range(TEN):
+        words |= bits[place : place + len(words)].astype(np.uint16) << np.uint16(place)
+    return words
+
+
+def lock_of(bits: Bits, is_control: Mask = IS_CONTROL) -> int | None:
+    """The least place at which twelve control characters stand in a row."""
+    for first in range(0, len(bits), PART):
+        control = is_control[words_at_all(bits[first : first + PART + TEN * LEAST_CONTROL])]
+        size = len(control) - TEN * (LEAST_CONTROL - 1)
+        if size <= 0:
+            return None
+        found = np.logical_and.reduce([control[TEN * step : TEN * step + size] for step in range(LEAST_CONTROL)])
+        if found.any():
+            return first + int(found.argmax())
+    return None
+
+
+def characters_of(bits: Bits, start: int) -> Words:
+    """The characters from a place on."""
+    count = (len(bits) - start) // TEN
+    rows = bits[start : start + TEN * count].reshape(count, TEN)
+    return rows.astype(np.uint16) @ (1 << np.arange(TEN)).astype(np.uint16)
+
+
+def ends_of(bits: Bits) -> Ends | None:
+    """The ends of the control periods of a lane, or nothing where it has none."""
+    lock = lock_of(bits)
+    if lock is None:
+        return None
+    words = characters_of(bits, lock)
+    control = IS_CONTROL[words]
+    others = np.flatnonzero(~control)
+    lengths = np.diff(others, prepend=-1) - 1
+    at = others[(lengths >= LEAST_CONTROL) & (others < len(words) - 1)][:MOST_ENDS]
+    like = np.logical_and.reduce([words[at - back] == words[at - 1] for back in range(2, PREAMBLE + 1)])
+    guards = np.where(words[at] == words[at + 1], words[at], 0)
+    return Ends(lock, lock + TEN * at, np.where(like, words[at - 1], 0), guards)
+
+
+class Turn(NamedTuple):
+    """A bit order: units of so many bits from a place on, each of which is turned round."""
+
+    unit: int
+    start: int
+
+    def of(self, bits: Bits) -> Bits:
+        """The bits with each whole unit turned round; what is left over at the end is dropped."""
+        end = self.start + (len(bits) - self.start) // self.unit * self.unit
+        turned = bits[self.start : end].reshape(-1, self.unit)[:, ::-1].reshape(-1)
+        return np.concatenate([bits[: self.start], turned]) if self.start else turned
+
+    def __str__(self) -> str:
+        if self == AS_IT_IS:
+            return "as it is"
+        unit = {BYTES.unit: "byte", TEN: "ten"}[self.unit]
+        return f"with each {unit}{f' from bit {self.start} on' if self.start else ''} turned round"
+
+
+AS_IT_IS, BYTES = Turn(1, 0), Turn(8, 0)
+
+
+def turns_of(bits: Bits) -> list[Turn]:
+    """The bit orders to be tried: of each ten those from bit 0 on, as words are dumped, and those that are characters
+    where control characters stand turned round."""
+    place = lock_of(bits, IS_TURNED_CONTROL)
+    return [*dict.fromkeys([AS_IT_IS, BYTES, Turn(TEN, 0), Turn(TEN, (place or 0) % TEN)])]
+
+
+def score(ends: Ends | None) -> int:
+    """How many control periods end in a guard character."""
+    return int(np.isin(ends.guards, (GUARD, OTHER, *ISLAND_GUARDS_0)).sum()) if ends else -1
+
+
+def looked(bits: Bits) -> tuple[Turn, Ends] | None:
+    """The bit order of a lane with the most guards, the first of them where it is as good as others, and its ends; None where it
+    has no ends in any."""
+    turn, ends = max(((turn, ends_of(turn.of(bits))) for turn in turns_of(bits)), key=lambda pair: score(pair[1]))
+    return (turn, ends) if ends else None
+
+
+def lane_line(number: int, count: int, found: tuple[Turn, Ends] | None) -> str:
+    """The line on a lane of so many bits."""
+    if not found:
+        return f"lane {number}: {count} bits, no twelve control characters in a row in any bit order"
+    turn, ends = found
+    kinds = {"2cc": GUARD, "133": OTHER}
+    counts = ", ".join(f"{int((ends.guards == kind).sum())} in {text}" for text, kind in kinds.items())
+    islands = int(np.isin(ends.guards, ISLAND_GUARDS_0).sum())
+    return (
+        f"lane {number}: {count} bits, locks {turn} at place {ends.lock}; of {len(ends.places)} control periods "
+        f"{counts} and {islands} in an island's guard of lane 0"
+    )
+
+
+def openings(found: Sequence[Ends]) -> Words:
+    """The preambles and guards of the three lanes at each end that all three have within 70 bits: lanes by ends by the two."""
+    first = found[0].places
+    rows = [np.stack([found[0].preambles, found[0].guards], axis=1)]
+    near = np.ones(len(first), bool)
+    for ends in found[1:]:
+        if not len(ends.places):
+            return np.zeros((3, 0, 2), np.uint16)
+        at = np.clip(np.searchsorted(ends.places, first), 1, max(len(ends.places) - 1, 1))
+        at = np.minimum(at, len(ends.places) - 1)
+        before = np.maximum(at - 1, 0)
+        at = np.where(np.abs(ends.places[before] - first) <= np.abs(ends.places[at] - first), before, at)
+        near &= np.abs(ends.places[at] - first) <= MOST_SKEW
+        rows.append(np.stack([ends.preambles[at], ends.guards[at]], axis=1))
+    both: Words = np.stack(rows)[:, near]
+    return both
+
+
+def right_openings(rows: Words) -> int:
+    """How many rows of preambles and guards of lanes 0, 1 and 2 open a line or an island (HDMI 1.4, section 5.2.1.1)."""
+    (_, guard_0), (preamble_1, guard_1), (preamble_2, guard_2) = (lane.T for lane in rows)
+
+    def are(preambles: tuple[int, int]) -> Mask:
+        announced: Mask = (preamble_1 == preambles[0]) & (preamble_2 == preambles[1]) & (guard_1 == OTHER)
+        return announced
+
+    line = are(VIDEO_PREAMBLE) & (guard_2 == GUARD) & (guard_0 == GUARD)
+    island = are(ISLAND_PREAMBLE) & (guard_2 == OTHER) & np.isin(guard_0, ISLAND_GUARDS_0)
+    return int((line | island).sum())
+
+
+class Fit(NamedTuple):
+    """How many openings are right where lane `order[c]` is taken for lane c, those of `inverts` turned over first."""
+
+    right: int
+    order: tuple[int, ...]
+    inverts: tuple[int, ...]
+
+
+def fit_of(rows: Words) -> tuple[Fit, int]:
+    """The order and polarity with the most right openings, of the best ones that with the least change; and how many
+    others are as good."""
+    fits: list[Fit] = []
+    for order, signs in product(permutations(range(3)), product((0, 1), repeat=3)):
+        turned = np.stack([np.where(rows[lane] > 0, rows[lane] ^ (ALL * sign), 0) for lane, sign in enumerate(signs)])
+        inverts = tuple(lane for lane in range(3) if signs[lane])
+        fits.append(Fit(right_openings(turned[list(order)]), order, inverts))
+    best = max(fits, key=lambda fit: (fit.right, -len(fit.inverts) - 2 * (fit.order != (0, 1, 2))))
+    return best, sum(fit.right == best.right for fit in fits) - 1
+
+
+def changes(fit: Fit, turns: Sequence[Turn]) -> str:
+    """The words that pack the lanes as they are wanted, each of which is of one bit order."""
+    order = [fit.order.index(lane) for lane in range(3)]
+    words = ["--order " + ",".join(map(str, order))] if order != [0, 1, 2] else []
+    if fit.inverts:
+        words.append("--invert " + ",".join(map(str, sorted(order[lane] for lane in fit.inverts))))
+    units = {turn.unit for turn in turns}
+    if units == {TEN}:
+        words.append("--words 16")
+    if units in ({TEN}, {BYTES.unit}):
+        words.append("--msb")
+    return " ".join(words)
+
+
+def commands(tool: str, path: str, words: str, turns: Sequence[Turn], counts: Sequence[int]) -> str:
+    """The commands that pack a capture anew, to be pasted, by the tool as it was called."""
+    tool = shlex.quote(tool)
+    stem = Path(path).with_suffix("")
+    files = " ".join(shlex.quote(f"{stem}.lane{lane}") for lane in range(3))
+    unit = turns[0].unit
+    bits = ",".join(str((count - turn.start) // unit * unit) for count, turn in zip(counts, turns))
+    kind, source = " --words 16" if unit == TEN else "", f" < {shlex.quote(path)}"
+    unpack = f"{tool} unpack{kind} {files}"
+    if any(turn.start for turn in turns):
+        starts = ",".join(str(turn.start) for turn in turns)
+        unpack, source = f"{tool} cut {shlex.quote(path)} --from {starts} | {unpack}", ""
+    again = shlex.quote(f"{stem}.again.tmc")
+    return f"{unpack}{source} && {tool} pack {words} --bits {bits} {files} > {again}"
+
+
+def judged(tool: str, path: str, lanes: Sequence[bytes | bytearray], counts: Sequence[int]) -> tuple[list[str], bool]:
+    """The lines that say what was found of the lanes of the capture in a file, and whether it is right as it is; `tool` is
+    how `lanes` was called."""
+    each = []
+    for lane, count in zip(tqdm(lanes, unit="lane", disable=None), counts):
+        each.append(looked(np.unpackbits(np.frombuffer(lane, np.uint8), bitorder="little")[:count]))
+    lines = [lane_line(number, *pair) for number, pair in enumerate(zip(counts, each))]
+    found = [it for it in each if it is not None]
+    if len(found) < len(each):
+        return lines + ["no alignment: not all lanes lock"], False
+    turns = [turn for turn, _ in found]
+    rows = openings([ends for _, ends in found])
+    if not rows.shape[1]:
+        return lines + [f"no alignment: no control periods of the three lanes end within {MOST_SKEW} bits"], False
+    fit, others = fit_of(rows)
+    if not fit.right:
+        text = "no guards: order and polarity cannot be told (DVI has none), or a wire of another lane is here"
+        return lines + [text], False
+    words, share, units = changes(fit, turns), f"{fit.right} of {rows.shape[1]} openings", {turn.unit for turn in turns}
+    if not words and units == {AS_IT_IS.unit}:
+        return lines + [f"right as it is: {share}"], True
+    if units == {TEN}:
+        doubt = "" if any(turn.start for turn in turns) else ", or its words were packed without --msb"
+        lines.append(f"the serialiser sends the highest bit first{doubt}")
+    turned = [f"lane {number} {turn}" for number, turn in enumerate(turns) if turn != AS_IT_IS]
+    besides = f" and {', '.join(turned)}" if len(units) > 1 else ""
+    doubt = f"; so they are with {others} other orders and polarities" if others else ""
+    lines.append(f"with `{' '.join(['lanes pack', words]).strip()}`{besides}: {share} are right{doubt}")
+    if not besides:
+        lines.append(f"to be pasted: {commands(tool, path, words, turns, counts)}")
+    return lines, False

@@ -1,0 +1,81 @@
+"""Sound for the tools: WAV files as samples of 24 bits a side, and the channel status that goes with them."""
+
+import io
+from pathlib import Path
+from typing import NamedTuple
+
+import numpy as np
+import numpy.typing as npt
+import soundfile
+
+from vabgrot.errors import Refused
+from vabgrot.formats.audio import BLOCK, RATES, WORD_LENGTHS
+
+WAVES = ("WAV", "WAVEX")  # the formats of libsndfile that are read
+USED_BITS = {"PCM_U8": 16, "PCM_16": 16, "PCM_24": 24, "PCM_32": 24}  # by its subtypes
+
+
+class Sound(NamedTuple):
+    """Samples of two sides, each of three bytes, high byte first; `bits` of the 24 are used."""
+
+    rate: int
+    bits: int
+    left: bytes
+    right: bytes
+
+    @property
+    def samples(self) -> int:
+        return len(self.left) // 3
+
+
+def side(values: npt.NDArray[np.int32]) -> bytes:
+    """The upper three bytes of each number, the highest first."""
+    return values.astype(">i4").view(np.uint8).reshape(-1, 4)[:, :3].tobytes()
+
+
+def read(path: str | Path) -> Sound:
+    """The sound of a WAV file of one or two channels; short samples get zeros, and those of more than 24 bits are cut. Raises OSError
+    where it cannot be read, and Refused where it is none."""
+    with open(path, "rb") as source:
+        try:
+            with soundfile.SoundFile(source) as file:
+                kind, subtype, channels, rate = file.format, file.subtype, file.channels, file.samplerate
+                values = file.read(dtype="int32", always_2d=True)
+        except soundfile.SoundFileError as why:
+            raise Refused(f"{path}: no WAV file of linear PCM ({why})") from None
+    if kind not in WAVES or subtype not in USED_BITS:
+        raise Refused(f"{path}: no WAV file of linear PCM (it is {kind}, {subtype})")
+    if channels > 2:
+        raise Refused(f"{path}: it has {channels} channels, and one or two are wanted")
+    if rate not in RATES:
+        raise Refused(f"{path}: its rate is {rate} Hz; a link carries {', '.join(map(str, RATES))}")
+    return Sound(rate, USED_BITS[subtype], side(values[:, 0]), side(values[:, -1]))
+
+
+def wav(sound: Sound) -> bytes:
+    """The bytes of a WAV file of two channels, with the sound's bits a sample."""
+    values = np.zeros((sound.samples, 2, 4), np.uint8)
+    for channel, taken in enumerate((sound.left, sound.right)):
+        values[:, channel, :3] = np.frombuffer(taken, np.uint8).reshape(-1, 3)
+    out = io.BytesIO()
+    soundfile.write(out, values.view(">i4")[:, :, 0].astype(np.int32), sound.rate, f"PCM_{sound.bits}", format="WAV")
+    return out.getvalue()
+
+
+def rate_of(n: int, cycles: int, clock: float) -> int:
+    """The sampling rate by a clock packet and the pixel clock (HDMI 1.4, section 7.2); one within 0.2 percent of a
+    usual rate is that rate."""
+    rate = clock * n / (128 * cycles)
+    return next((usual for usual in RATES if abs(rate - usual) <= usual / 500), round(rate))
+
+
+def rate_in(status: bytes) -> int | None:
+    """The sampling rate that the 24 bytes of a channel's status name, None where they name no usual one."""
+    return next((usual.hertz for usual in RATES.values() if usual.code == status[3] & 15), None)
+
+
+def channel_status(sound: Sound, channel: int) -> list[int]:
+    """The 192 bits of a channel's status (IEC 60958-3): consumer use, linear PCM, no copyright, the channel's number,
+    the rate, and the bits of a sample."""
+    status = 1 << 2 | channel << 20 | RATES[sound.rate].code << 24 | WORD_LENGTHS[sound.bits] << 32
+    return [status >> place & 1 for place in range(BLOCK)]

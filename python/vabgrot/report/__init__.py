@@ -1,0 +1,1 @@
+"""What a page on a capture is made of."""

@@ -1,0 +1,265 @@
+"use strict";
+
+/* A table or list that shows a page of its rows at a time. */
+class Paged {
+  constructor(place, name, size, draw) {
+    this.size = size;
+    this.draw = draw;
+    this.page = 0;
+    this.rows = [];
+    this.bar = made("div", { className: "bar", role: "group" });
+    this.bar.setAttribute("aria-label", `Pages of ${name}`);
+    this.back = made("button", { type: "button", onclick: () => this.go(this.page - 1) }, "← Earlier");
+    this.on = made("button", { type: "button", onclick: () => this.go(this.page + 1) }, "Later →");
+    this.says = made("span");
+    this.says.setAttribute("aria-live", "polite");
+    this.bar.append(this.back, this.on, this.says);
+    this.body = made("div", { className: "scroll", tabIndex: 0, role: "region" });
+    this.body.setAttribute("aria-label", name);
+    place.append(this.bar, this.body);
+  }
+
+  set(rows) {
+    this.rows = rows;
+    this.go(0);
+  }
+
+  /* A field for a text that the rows are to have, and a button that saves these rows: `lines` gives those of one. */
+  addSearch(change) {
+    const input = made("input", { type: "search", oninput: () => change(input.value.trim().toLowerCase()) });
+    this.bar.prepend(made("label", {}, "text ", input));
+  }
+
+  addSave(name, heads, lines) {
+    const write = () => save(`${data.name}-${name}.csv`, csvOf([heads, ...this.rows.flatMap(lines)]));
+    this.bar.append(made("button", { type: "button", className: "save", onclick: write }, "Save as CSV"));
+  }
+
+  go(page) {
+    const pages = Math.max(1, Math.ceil(this.rows.length / this.size));
+    this.page = clamp(page, 0, pages - 1);
+    const first = this.page * this.size;
+    const shown = this.rows.slice(first, first + this.size);
+    this.back.disabled = this.page === 0;
+    this.on.disabled = this.page === pages - 1;
+    this.says.textContent = shown.length
+      ? `${count(first + 1)} to ${count(first + shown.length)} of ${count(this.rows.length)}`
+      : "nothing of this kind";
+    this.body.replaceChildren(this.draw(shown));
+  }
+}
+
+function table(caption, heads, rows) {
+  const cells = (row) => row.map((cell) => (cell instanceof Node && cell.nodeName === "TD" ? cell : made("td", {}, cell)));
+  return made(
+    "table", {},
+    made("caption", {}, caption),
+    made("thead", {}, made("tr", {}, ...heads.map((head) => made("th", { scope: "col" }, head)))),
+    made("tbody", {}, ...rows.map((row) => made("tr", {}, ...cells(row)))),
+  );
+}
+
+function choice(name, options, change) {
+  const select = made("select", { onchange: () => change(select.value) });
+  select.append(...options.map(([value, text]) => made("option", { value }, text)));
+  return [made("label", {}, `${name} `, select), select];
+}
+
+/* The text of a file of comma-separated values (RFC 4180). */
+function csvOf(rows) {
+  const field = (value) => (/[",\r\n]/.test(value) ? `"${String(value).replaceAll('"', '""')}"` : String(value));
+  return rows.map((row) => `${row.map(field).join(",")}\r\n`).join("");
+}
+
+function save(name, text) {
+  const url = URL.createObjectURL(new Blob([text], { type: "text/csv" }));
+  made("a", { href: url, download: name }).click();
+  setTimeout(() => URL.revokeObjectURL(url), 60_000);
+}
+
+function faultText(fault) {
+  const [kind, lane, more] = [data.faults.kind[fault], data.faults.lane[fault], data.faults.more[fault]];
+  if (kind === "slip") {
+    const isAligned = data.alignments[data.faults.epoch[fault] + 1];
+    return `slip of ${LANES[lane]}, found at bit ${count(more[0])} of it, ${isAligned ? "aligned anew" : "not aligned anew"}`;
+  }
+  if (kind === "symbols") return `symbols: ${more[0]} of 96 characters`;
+  if (kind === "mended") return `mended: ${data.blocks[more[0]]}, bit ${more[1]}`;
+  if (kind === "lost") return `lost: ${data.blocks[more[0]]}`;
+  return lane >= 0 ? `${kind} on ${LANES[lane]}` : kind;
+}
+
+function placeText(fault) {
+  const [frame, x, y] = [data.faults.frame[fault], data.faults.x[fault], data.faults.y[fault]];
+  if (data.faults.kind[fault] !== "code" || frame < 0) return "";
+  const name = frameName(data.frames[frame]);
+  return x < 0 ? `${name}, row ${y}` : `${name}, row ${y}, pixel ${x}`;
+}
+
+const FAULT_HEADS = ["line", "fault", "lane", "alignment", "column", "text", "block", "bit", "characters", "place", "frame", "row", "pixel"];
+
+function faultFields(fault) {
+  const [kind, lane, more] = [data.faults.kind[fault], data.faults.lane[fault], data.faults.more[fault]];
+  const [frame, x, y] = [data.faults.frame[fault], data.faults.x[fault], data.faults.y[fault]];
+  const isPixel = kind === "code" && frame >= 0;
+  const hasBlock = kind === "mended" || kind === "lost";
+  return [
+    data.faults.line[fault], kind, lane < 0 ? "" : lane, data.alignments[data.faults.epoch[fault]], data.faults.column[fault], faultText(fault),
+    hasBlock ? data.blocks[more[0]] : "", kind === "mended" ? more[1] : "", kind === "symbols" ? more[0] : "", kind === "slip" ? more[0] : "",
+    isPixel && data.frames[frame].whole ? data.frames[frame].number : "", isPixel ? y : "", isPixel && x >= 0 ? x : "",
+  ];
+}
+
+function faultPlace(fault) {
+  const [frame, x, y] = [data.faults.frame[fault], data.faults.x[fault], data.faults.y[fault]];
+  const text = placeText(fault);
+  if (!text || x < 0) return text;
+  const show = async () => { await showFrame(frame, x, y); by("pictures").scrollIntoView(); by("picture").focus({ preventScroll: true }); };
+  return made("button", { type: "button", className: "count", onclick: show }, text);
+}
+
+/* The faults, with each burst in place of its first fault and of all its others. */
+function foldedFaults() {
+  const burstOf = new Map(data.bursts.flatMap((burst) => burst.faults.map((fault) => [fault, burst])));
+  return data.faults.kind.flatMap((_, fault) => {
+    const burst = burstOf.get(fault);
+    return burst ? (burst.faults[0] === fault ? [burst] : []) : [fault];
+  });
+}
+
+function faultTable(caption, rows) {
+  return table(caption, ["fault", "column", "picture", "listing", "characters"], rows.map((row) => (row.faults ? burstCells(row) : faultCells(row))));
+}
+
+function columnButton(at) {
+  const to = () => { pointTo(at); by("timeline").scrollIntoView(); by("time").focus({ preventScroll: true }); };
+  return made("button", { type: "button", className: "count", onclick: to }, columnText(at));
+}
+
+function faultCells(fault) {
+  const characters = made("td", { className: "digits" }, data.faults.characters[fault]);
+  return [faultText(fault), columnButton(data.faults.at[fault]), faultPlace(fault), lineLink(data.faults.line[fault]), characters];
+}
+
+/* A burst in a row, under which its faults are folded; they are drawn when they are first opened. */
+function burstCells(burst) {
+  const says = `a burst of ${count(burst.columns)} columns at ${columnText(burst.at)}: ${count(burst.faults.length)} faults`;
+  const details = made("details", {}, made("summary", {}, says));
+  details.addEventListener("toggle", () => {
+    const paged = new Paged(details, "the burst", 20, (faults) => faultTable("The faults of the burst", faults));
+    paged.set(burst.faults);
+  }, { once: true });
+  return [made("td", {}, details), columnButton(burst.at), "", lineLink(data.faults.line[burst.faults[0]]), ""];
+}
+
+/* The rules: those of a verdict, or with a text, and the columns as places of the timeline. */
+function startRules() {
+  const place = by("rule-table");
+  if (!place) return;
+  const rows = [...place.querySelectorAll("tbody tr")];
+  const wanted = { verdict: "", text: "" };
+  const fill = () => {
+    for (const row of rows) {
+      const isWanted = (!wanted.verdict || row.dataset.verdict === wanted.verdict) && row.textContent.toLowerCase().includes(wanted.text);
+      row.hidden = !isWanted;
+    }
+  };
+  const verdicts = [["", "all"], ...["fail", "not judged", "pass"].map((one) => [one, one])];
+  const [label] = choice("verdict", verdicts, (value) => { wanted.verdict = value; fill(); });
+  const input = made("input", { type: "search", oninput: () => { wanted.text = input.value.trim().toLowerCase(); fill(); } });
+  const bar = made("div", { className: "bar", role: "group" }, label, made("label", {}, "text ", input));
+  bar.setAttribute("aria-label", "Which rules");
+  place.prepend(bar);
+  for (const button of place.querySelectorAll("button[data-column]")) {
+    button.onclick = () => { pointTo(Number(button.dataset.column)); by("timeline").scrollIntoView(); by("time").focus({ preventScroll: true }); };
+  }
+}
+
+function startFaults() {
+  const place = by("fault-table");
+  if (!place) return;
+  const wanted = { kind: "", lane: "", text: "" };
+  const paged = new Paged(place, "faults", 20, (rows) => faultTable("The faults in the order of the listing", rows));
+  const textOf = (fault) => `${faultText(fault)} ${columnText(data.faults.at[fault])} ${placeText(fault)} line ${data.faults.line[fault]}`.toLowerCase();
+  const isWanted = (fault) =>
+    (!wanted.kind || data.faults.kind[fault] === wanted.kind) && (wanted.lane === "" || data.faults.lane[fault] === Number(wanted.lane))
+    && (!wanted.text || textOf(fault).includes(wanted.text));
+  const isAll = () => !wanted.kind && wanted.lane === "" && !wanted.text;
+  const fill = () => paged.set(isAll() ? foldedFaults() : data.faults.kind.map((_, fault) => fault).filter(isWanted));
+  paged.addSearch((text) => { wanted.text = text; fill(); });
+  paged.addSave("faults", FAULT_HEADS, (row) => (row.faults || [row]).map(faultFields));
+  const kinds = [...new Set(data.faults.kind)];
+  const [kindLabel, kind] = choice("kind", [["", "all"], ...kinds.map((one) => [one, one])], (value) => { wanted.kind = value; fill(); });
+  const [laneLabel, lane] = choice("lane", [["", "all"], ...LANES.map((one, number) => [String(number), one]), ["-1", "of no lane"]], (value) => { wanted.lane = value; fill(); });
+  paged.bar.prepend(kindLabel, laneLabel);
+  for (const button of document.querySelectorAll(".count[data-kind]")) {
+    button.onclick = () => {
+      kind.value = wanted.kind = button.dataset.kind;
+      lane.value = wanted.lane = button.dataset.lane;
+      fill();
+      place.scrollIntoView();
+      paged.says.focus();
+    };
+  }
+  fill();
+}
+
+/* The header and the four bodies of a packet, hexadecimal digits, from its line of the listing. */
+function packetBytes(number) {
+  return data.lines[data.packets.line[number] - 1].split(" ").slice(1, 6);
+}
+
+const PACKET_HEADS = () => [
+  "line", "packet", "alignment", "column", "text", "faults", "header", ...data.blocks.slice(0, 4), ...data.blocks.map((block) => `${block} is`), "characters",
+];
+
+function packetFields(number) {
+  const packets = data.packets;
+  const epoch = epochOf(packets.at[number]);
+  return [
+    packets.line[number], packets.names[number], data.alignments[epoch], packets.at[number] - data.epochs[epoch], data.words[packets.words[number]],
+    packets.faults[number].join("; "), ...packetBytes(number), ...packets.verdicts[number], packets.symbols[number],
+  ];
+}
+
+function startPackets() {
+  const place = by("packet-table");
+  if (!place) return;
+  const packets = data.packets;
+  const verdict = (number) => {
+    const told = packets.verdicts[number];
+    const bad = data.blocks.map((block, one) => [block, told[one]]).filter(([, says]) => says !== "clean");
+    const parts = bad.map(([block, says]) => made("div", { className: says === "lost" ? "bad" : "" }, `${block}: ${says}`));
+    if (packets.symbols[number]) parts.push(made("div", {}, `${packets.symbols[number]} foreign characters`));
+    return made("td", {}, ...(parts.length ? parts : ["all clean"]));
+  };
+  const bytes = (number) => made("td", { className: "digits" }, ...packetBytes(number).map((part, one) => {
+    const isLost = packets.verdicts[number][(one + 4) % 5] === "lost";
+    return made("div", { className: isLost ? "bad" : "" }, part.replace(/..(?=.)/g, "$& "));
+  }));
+  const paged = new Paged(place, "packets", 20, (numbers) => table("The packets in the order of the listing", ["packet", "column", "what it says", "header and bodies", "blocks", "listing"], numbers.map((number) => {
+    const to = () => { pointTo(packets.at[number]); by("timeline").scrollIntoView(); by("time").focus({ preventScroll: true }); };
+    const words = made("td", {}, data.words[packets.words[number]]);
+    for (const fault of packets.faults[number]) words.append(made("div", { className: "bad" }, fault));
+    return [packets.names[number], made("button", { type: "button", className: "count", onclick: to }, columnText(packets.at[number])), words, bytes(number), verdict(number), lineLink(packets.line[number])];
+  })));
+  const isHurt = (number) => packets.symbols[number] || packets.faults[number].length || packets.verdicts[number].some((one) => one !== "clean");
+  const wanted = { name: "", hurt: "", text: "", digits: "" };
+  const hasText = (number) => {
+    const faults = packets.faults[number].join(" ");
+    const text = `${packets.names[number]} ${columnText(packets.at[number])} ${data.words[packets.words[number]]} ${faults} line ${packets.line[number]}`;
+    return text.toLowerCase().includes(wanted.text) || (wanted.digits && packetBytes(number).some((part) => part.includes(wanted.digits)));
+  };
+  const fill = () => paged.set(packets.at.map((_, number) => number).filter((number) =>
+    (!wanted.name || packets.names[number] === wanted.name) && (!wanted.hurt || isHurt(number)) && (!wanted.text || hasText(number))));
+  paged.addSearch((text) => {
+    wanted.text = text;
+    wanted.digits = /^[0-9a-f ]+$/.test(text) ? text.replaceAll(" ", "") : "";
+    fill();
+  });
+  paged.addSave("packets", PACKET_HEADS(), (number) => [packetFields(number)]);
+  const [kind] = choice("kind", [["", "all"], ...[...new Set(packets.names)].map((one) => [one, one])], (value) => { wanted.name = value; fill(); });
+  const [state] = choice("blocks", [["", "all"], ["hurt", "not all clean"]], (value) => { wanted.hurt = value; fill(); });
+  paged.bar.prepend(kind, state);
+  fill();
+}

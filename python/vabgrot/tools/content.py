@@ -1,0 +1,297 @@
+"""Images and a WAV file into a content listing."""
+
+import sys
+from argparse import ArgumentParser, ArgumentTypeError, Namespace
+from collections.abc import Iterator
+from dataclasses import dataclass
+
+from tqdm import tqdm
+
+from vabgrot import channels, command, listing, making, pcm
+from vabgrot.channels import Wide
+from vabgrot.errors import Refused
+from vabgrot.formats import speakers
+from vabgrot.formats.audio import BLOCK, RATES
+from vabgrot.formats.modes import CUSTOM_CLOCK, VICS, Mode, Timing
+from vabgrot.pcm import Sound
+from vabgrot.video import patterns
+from vabgrot.video.colours import BT601, BT709, MATRICES, Encoding, Signal
+from vabgrot.video.signals import HD
+from vabgrot.video.sources import CODES, ENCODINGS, RANGES, Sender, size_of
+
+TEXT = """Writes the content listing of one frame an image to standard output, for `vabgrot make content`. Each frame
+has its AVI InfoFrame; with a sound it has the audio InfoFrame, a clock packet and as many samples as the rate asks
+for, with their channel status. A capture that begins within a frame shows the pictures from the next one on: give an
+image twice to see it come back. In place of files test patterns and a tone may be given.
+
+Pixels are RGB of full range and 24 bits. --encoding, --matrix, --range, --depth and --repeat send others, which the AVI InfoFrame and
+a general control packet tell; a PNG file of 16 bits a component keeps as many of them as are sent. A sound of more than two
+channels is sent in layout 1, its speakers by the channel allocation of the audio InfoFrame. --packet adds InfoFrames and other
+packets to each frame: the names of their fields are those of CTA-861 and HDMI 1.4."""
+EXAMPLES = """tools/content examples/sent.png examples/sent.png > sent.content
+./vabgrot make content < sent.content > sent.tmc
+tools/content pattern:bars pattern:moving*2 --vic 1 --sound tone:1000 | ./vabgrot make content > bars.tmc
+tools/content examples/sent.png --encoding ycbcr422 --depth 30 --packet dynamic:EOTF=2,max=1000 > deep.content"""
+ASPECTS = {"4:3": 1, "16:9": 2, "": 0}
+LEAST, MOST_LENGTH = {3: 14}, 4096  # of the numbers of a mode; the back porch across has a data island in it
+AVI_LINE = "S B A Y R M C SC Q EC ITC VIC PR top bottom left right".split()  # of an `avi` line
+
+
+def mode_of(text: str) -> Mode:
+    """The value of --mode."""
+    numbers = command.numbers(text, 65_535)
+    if len(numbers) != 9 or numbers[8] > 1:
+        raise ArgumentTypeError("nine numbers with commas between them are wanted, the last 0 or 1")
+    for at, number in enumerate(numbers[:8]):
+        if not LEAST.get(at, 1) <= number <= MOST_LENGTH:
+            raise ArgumentTypeError(f"number {at + 1}, {number}, is not {LEAST.get(at, 1)} to {MOST_LENGTH}")
+    return Mode(*numbers)
+
+
+def timing_of(args: Namespace, size: tuple[int, int]) -> tuple[int, Timing, int]:
+    """The identification code (0 for a mode of one's own), the mode with its rate and aspect, and the pixel clock."""
+    if args.mode:
+        return 0, Timing(args.mode, 0, ""), args.clock or CUSTOM_CLOCK
+    vic = args.vic or next((vic for vic in sorted(VICS) if VICS[vic].mode.size == size), None)
+    if vic is None:
+        raise Refused(f"no video identification code has {size[0]} x {size[1]} pixels: give --vic V and --fit scale")
+    return vic, VICS[vic], args.clock or VICS[vic].clock
+
+
+def signal_of(args: Namespace, vic: int, mode: Mode) -> tuple[Signal, int]:
+    """How pixels are sent, and the bits of a component that the source has."""
+    encoding = ENCODINGS[args.encoding]
+    size = args.depth // 3
+    if encoding == Encoding.YCC422 and args.depth > 36:
+        raise Refused("YCbCr 4:2:2 has 24, 30 or 36 bits")
+    bits = 24 if encoding == Encoding.YCC422 else args.depth
+    if encoding == Encoding.RGB:
+        return Signal(encoding, None, args.range != "limited", bits, args.repeat), size
+    width = mode.active_across // args.repeat
+    matrix = MATRICES[args.matrix] if args.matrix else BT709 if width >= HD else BT601
+    return Signal(encoding, matrix, args.range == "full", bits, args.repeat), size
+
+
+def refuse_unfit(paths: list[str], size: tuple[int, int]) -> None:
+    """Refuses images of another size than the mode's, before anything is written."""
+    for path in paths:
+        width, height = size_of(path)
+        if (width, height) != size:
+            wanted = f"the mode {size[0]} x {size[1]}; --fit scale makes it fit"
+            raise Refused(f"{path}: it has {width} x {height} pixels, and {wanted}")
+
+
+def refuse_crowded(mode: Mode, clock: int, sound: Sound | Wide | None, others: int) -> None:
+    """Refuses a mode whose frames have no room for their packets: InfoFrames, clock, and four samples a packet or, of more than
+    two channels, one."""
+    wanted = others
+    if sound:
+        samples = min(sound.samples, -(-sound.rate * mode.columns // clock))
+        wanted += 2 + (samples if isinstance(sound, Wide) else -(-samples // 4))
+    if wanted > mode.room:
+        raise Refused(f"a frame of the mode has room for {mode.room} packets, and {wanted} are wanted")
+
+
+def avi_line(vic: int, aspect: str, sender: Sender, told: tuple[str, dict[str, int]]) -> str:
+    """The AVI InfoFrame: the picture as large as the frame, for a display that shows all of it. `told` are the kind and the numbers
+    of one that --packet gives, which go before. Where an `avi` line cannot say it, it is another line."""
+    numbers = sender.avi({"S": 2, "A": 1, "R": 8, "M": ASPECTS[aspect], "VIC": vic}) | told[1]
+    made = making.packet(told[0], numbers)
+    if told[0] != "avi" or numbers.get("YQ") or numbers.get("CN"):
+        return making.line(made)
+    return f"avi {' '.join(str(numbers.get(name, 0)) for name in AVI_LINE)}\n"
+
+
+def sound_lines(sound: Sound | Wide, clock: int) -> list[str]:
+    """The clock packet and the audio InfoFrame of each frame."""
+    rate = RATES[sound.rate]
+    cycles = round(clock * rate.n / (128 * rate.hertz))
+    if not 1 <= cycles < 1 << 20:
+        raise Refused(f"a pixel clock of {clock} Hz and a rate of {rate.hertz} Hz have no clock packet")
+    told = (sound.used - 1, sound.allocation) if isinstance(sound, Wide) else (1, 0)
+    return [f"acr {rate.n} {cycles}\n", f"audio {told[0]} 0 0 0 {told[1]} 0 0\n"]
+
+
+def read_sound(path: str, allocation: int | None) -> Sound | Wide:
+    """The sound of a WAV file: of one or two channels in layout 0, of more in layout 1."""
+    if allocation is None and channels.channels_in(path) <= 2:
+        return pcm.read(path)
+    wide = channels.read(path, allocation)
+    if wide.used < 3:
+        return pcm.read(path)
+    return wide
+
+
+class Samples:
+    """The lines of a sound's samples, frame after frame."""
+
+    def __init__(self, sound: Sound) -> None:
+        self.sound = sound
+        self.left, self.right = sound.left.hex(), sound.right.hex()
+        status = zip(pcm.channel_status(sound, 1), pcm.channel_status(sound, 2))
+        self.flags = [f"{4 * left} {4 * right} {int(place == 0)} 0\n" for place, (left, right) in enumerate(status)]
+
+    def line(self, k: int) -> str:
+        """That of one sample."""
+        at = slice(6 * k, 6 * k + 6)
+        return f"s {self.left[at]} {self.right[at]} {self.flags[k % BLOCK]}"
+
+    def lines(self, first: int, behind: int) -> Iterator[str]:
+        """Those of some samples."""
+        return map(self.line, range(first, min(behind, self.sound.samples)))
+
+
+@dataclass
+class Sent:
+    """What is sent beside the pictures: the packets of each frame, and the sound with the clock of the columns."""
+
+    packets: list[str]
+    sound: Sound | Wide | None
+    clock: int
+
+    def samples(self, first: int, behind: int) -> Iterator[str]:
+        """The lines of some samples."""
+        if isinstance(self.sound, Wide):
+            return channels.packet_lines(self.sound, first, behind)
+        return Samples(self.sound).lines(first, behind) if self.sound else iter(())
+
+
+def write_frames(paths: list[str], sender: Sender, sent: Sent) -> int:
+    """The frames; answers how many samples they have room for in time."""
+    behind, mode, rate = 0, sender.columns, sent.sound.rate if sent.sound else 0
+    for number, path in enumerate(tqdm(paths, unit="frame", disable=None)):
+        rows = sender.rows(path)
+        sys.stdout.writelines(sent.packets)
+        first, behind = behind, (number + 1) * rate * mode.columns // sent.clock
+        sys.stdout.writelines(sent.samples(first, behind))
+        sys.stdout.writelines(rows)
+        print("frame", *mode.size)
+    return behind
+
+
+def frame_packets(args: Namespace, vic: int, aspect: str, sender: Sender) -> list[str]:
+    """The lines of the packets of each frame, but for those of the sound."""
+    avi: tuple[str, dict[str, int]] = ("avi", {})
+    others = []
+    for word in args.packet:
+        kind, numbers, text = making.parts(word)
+        if kind.startswith("avi"):
+            avi = kind, numbers
+        else:
+            others.append(making.line(making.packet(kind, numbers, text)))
+    control = sender.control()
+    first = [making.line(control)] if control else []
+    return [*first, avi_line(vic, aspect, sender, avi), *others]
+
+
+def signal_words(parser: ArgumentParser) -> None:
+    """The words that say how pixels are sent, and which packets are."""
+    text = "the encoding of pixels: %(choices)s; if left out, rgb"
+    parser.add_argument("--encoding", choices=list(ENCODINGS), default="rgb", help=text)
+    text = "of YCbCr: BT.%(choices)s; if left out, 709 from 1,280 pixels a row on, and else 601"
+    parser.add_argument("--matrix", choices=list(MATRICES), help=text)
+    text = "the range of pixels: %(choices)s; if left out, full of RGB and limited of YCbCr"
+    parser.add_argument("--range", choices=RANGES, help=text)
+    text = (
+        "the bits of a pixel: %(choices)s; if left out, 24. A component has a third of them; a PNG file of 16 bits keeps them"
+    )
+    parser.add_argument("--depth", type=int, choices=sorted(CODES), default=24, help=text)
+    text = "send each pixel N times, 1 to 10: the images have so many fewer pixels a row than the mode"
+    parser.add_argument("--repeat", type=int, choices=range(1, 11), default=1, metavar="N", help=text)
+    text = f"a packet of each frame: one of {', '.join(making.LAYOUTS)}, and the numbers of its fields; `text` is that of ISRC packets"
+    parser.add_argument("--packet", action="append", default=[], metavar="KIND:FIELD=N,..", help=text)
+
+
+def words() -> ArgumentParser:
+    """The tool's words."""
+    parser = command.parser("content", TEXT, examples=EXAMPLES)
+    text = f"a picture file, one a frame; or pattern:NAME[*N], N frames of a test pattern: {', '.join(patterns.PATTERNS)}"
+    parser.add_argument("images", nargs="+", metavar="IMAGE", help=text)
+    mode = parser.add_mutually_exclusive_group()
+    text = "a video identification code: %(choices)s; if left out, the first of the first image's size"
+    mode.add_argument("--vic", type=int, choices=sorted(VICS), metavar="V", help=text)
+    text = "a mode of your own: active, front, sync and back, across and down, and 1 for positive sync pulses"
+    mode.add_argument("--mode", type=mode_of, metavar="HA,HF,HS,HB,VA,VF,VS,VB,P", help=text)
+    text = f"the pixel clock; if left out, the code's at 60 or 50 frames a second, and {CUSTOM_CLOCK} with --mode"
+    parser.add_argument("--clock", type=int, metavar="HZ", help=text)
+    text = "what is done with an image of another size than the mode's; if left out, it is refused"
+    parser.add_argument("--fit", choices=["refuse", "scale"], default="refuse", help=text)
+    text = "the sound: one to eight channels of linear PCM; or tone:HZ[@RATE], a sine"
+    parser.add_argument("--sound", metavar="FILE.wav", help=text)
+    text = "the channel allocation of the sound, a number of CTA-861; if left out, the one with the file's speakers"
+    parser.add_argument("--allocation", type=int, choices=range(len(speakers.ALLOCATIONS)), metavar="CA", help=text)
+    signal_words(parser)
+    return parser
+
+
+def work(argv: list[str] | None) -> int:
+    """The tool's work: its status."""
+    parser = words()
+    args = parser.parse_args(argv)
+    if args.clock is not None and args.clock < 1:
+        parser.error("--clock is at least 1")
+    if args.allocation is not None and not args.sound:
+        parser.error("--allocation is of use with --sound alone")
+    with patterns.as_files(args.images, pattern_size(args)) as args.images:
+        return write(args)
+
+
+def pattern_size(args: Namespace) -> tuple[int, int]:
+    """The width and height of patterns: those of the mode that is given, or of the first image that is a file."""
+    if args.mode or args.vic:
+        mode = args.mode or VICS[args.vic].mode
+        return max(1, mode.active_across // args.repeat), mode.active_down
+    files = [word for word in args.images if not patterns.wanted_of(word)]
+    if not files:
+        raise Refused(f"{args.images[0]}: --vic or --mode tells the size of a pattern")
+    return size_of(files[0])
+
+
+def sound_of(args: Namespace, seconds: float) -> Sound | Wide | None:
+    """The sound of a file, or a tone of so many seconds; None where there is none."""
+    with patterns.sound_file(args.sound, seconds) as path:
+        return read_sound(path, args.allocation) if path else None
+
+
+def write(args: Namespace) -> int:
+    """Writes the listing of images and sound."""
+    width, height = size_of(args.images[0])
+    vic, timing, clock = timing_of(args, (width * args.repeat, height))
+    sender = Sender(*signal_of(args, vic, timing.mode), timing.mode)
+    refuse_long(args, sender)
+    sound = sound_of(args, len(args.images) * timing.mode.columns / clock)
+    sent = Sent(frame_packets(args, vic, timing.aspect, sender), sound, sender.clock(clock))
+    refuse_crowded(sender.columns, sent.clock, sound, len(sent.packets))
+    if sound:
+        sent.packets += sound_lines(sound, sent.clock)
+    print(f"vic {vic}" if vic and sender.columns == timing.mode else f"mode {' '.join(map(str, sender.columns))}")
+    room = write_frames(args.images, sender, sent)
+    print("end")
+    if sound and sound.samples > room and not args.sound.startswith(patterns.TONE):
+        left = f"{sound.samples - room} of {sound.samples} samples are left out"
+        print(f"content: {left}, since the frames end before", file=sys.stderr)
+    if not sender.is_exact:
+        wanted = float(sender.mode.across * sender.signal.packed / 8)
+        print(f"content: lines have {sender.columns.across} columns, since {wanted} are no whole number", file=sys.stderr)
+    return command.DONE
+
+
+def refuse_long(args: Namespace, sender: Sender) -> None:
+    """Refuses images that do not fit the mode, and more columns than a row or a listing has."""
+    if sender.mode.active_across % args.repeat:
+        raise Refused(
+            f"the {sender.mode.active_across} pixels of a row are no whole number of pixels that are sent {args.repeat} times"
+        )
+    if args.fit == "refuse":
+        refuse_unfit(args.images, sender.picture)
+    if sender.columns.active_across > MOST_LENGTH:
+        raise Refused(f"a row has {sender.columns.active_across} columns, and a listing's has at most {MOST_LENGTH}")
+    columns = len(args.images) * sender.columns.columns + 32
+    if columns > listing.MOST_COLUMNS:
+        most = f"a listing has at most {listing.MOST_COLUMNS}"
+        raise Refused(f"{len(args.images)} frames have {columns} columns, and {most}")
+
+
+def main(argv: list[str] | None = None) -> int:
+    """Runs the tool over its words, those of the command line if none are given; answers its status."""
+    return command.run("content", lambda: work(argv))

@@ -1,0 +1,580 @@
+"""What a capture carried, and what is wrong with it, as one page to look at."""
+
+import json
+import shlex
+import sys
+import zlib
+from base64 import b64encode
+from collections import Counter
+from collections.abc import Sequence
+from concurrent.futures import ThreadPoolExecutor
+from itertools import accumulate
+from pathlib import Path
+from typing import Any, NamedTuple, TypedDict
+
+import jinja2
+from markupsafe import Markup
+from tqdm import tqdm
+
+from vabgrot import command, listing, packets, pcm, place, program
+from vabgrot.errors import Refused
+from vabgrot.formats.faults import BY_ROW, CONTENT, OF_SKEW
+from vabgrot.formats.modes import VICS
+from vabgrot.infoframes import Row, mode_name
+from vabgrot.lanes import openings
+from vabgrot.judging.verdicts import total_of
+from vabgrot.link import Frame
+from vabgrot.replacing import replacing
+from vabgrot.report import bursts, judged
+from vabgrot.report.album import Album
+from vabgrot.report.findings import Findings, Sound
+from vabgrot.video.colours import DEPTHS, Signal
+from vabgrot.video.matching import SIZES, Rate, change_note, timings
+from vabgrot.video.timings import PARTS
+
+TEXT = """Writes a page that shows what a capture carried: the verdict, the video timing as `tools/timing` has it, each
+frame with its damaged pixels marked, a timeline, the packets in words, the sound, each fault (those of a burst in one
+row) and the listing. The verdict is clean, faulty, or that the link is clean and its contents are not (a checksum or a
+parity is wrong, or a frame has another size than its InfoFrame says). It is one file that needs no network. Bit slips
+are followed where the program has `recover track`."""
+PAGE = Path(bursts.__file__).resolve().parent / "page"
+SCRIPTS = ("tables.js", "report.js")
+PLACES = ("on lane 0 (blue)", "on lane 1 (green)", "on lane 2 (red)", "of no lane")
+BLOCKS = ("body 0", "body 1", "body 2", "body 3", "header")
+ENDS = {"vsync": "whole", "slip": "broken off by a slip", "end": "broken off by the end of the capture"}
+EXAMPLES = """./vabgrot make content < examples/bars.content > bars.tmc
+tools/report bars.tmc -o bars.html"""
+ADVICE = (
+    "Are the three files the three data lanes, and none of them the clock? A lane without control characters has no lock.",
+    "Is a lane inverted (its pair swapped), or in the other bit order within bytes? “tools/lanes look” tries them.",
+    "Are the lanes in the order blue, green, red? Lanes that are swapped lock, but what they carry is noise.",
+    "Are the lanes more than 70 bits (seven characters) apart? “tools/lanes cut” cuts those that are late at their beginning.",
+    "Is it long enough? Each lane must have twelve control characters in a row, which come once a row of pixels.",
+    "Is the link scrambled (HDMI 2.0 above 340 MHz), or encrypted? The first is not read, of the other pixels are noise.",
+)
+DVI_ADVICE = """No control period ends in the guard bands of HDMI, at any skew of the lanes: a DVI source has none.
+“tools/report --dvi” reads it, where the program has “recover dvi”."""
+WRONG = """The first alignment was likely wrong: a damaged control character before it sets a wrong skew for all that follows.
+At the skew that was found ({found}) no opening has its preamble and its guard bands, at {best} {openings} have."""
+FAR = """At the skew {best} {openings} openings have their preamble and their guard bands, but lanes more than 70 bits apart are
+not aligned."""
+LATER = """A lane likely lost or repeated whole characters between the places {last} and {first} of lane 0, which “recover track”
+cannot see: openings fit at the skew {found} before, and at {later} behind."""
+CUT = "“tools/lanes cut {name} --from {cut} > cut.tmc” begins where they fit; make the report of that."
+MOST_PEAKS, WAVE = 1200, 1200
+
+
+def header_of(path: Path) -> list[int]:
+    """The bits of each lane of a capture; the program judges all else of it."""
+    with open(path, "rb") as file:
+        head = file.read(16)
+    count = 3 if head[3:4] == b"2" else 1
+    bits = [int.from_bytes(head[at : at + 4], "big") for at in range(4, 4 + 4 * count, 4)]
+    return bits * (3 // count)
+
+
+# What the page has of a frame.
+Shown = TypedDict(
+    "Shown",
+    {
+        "picture": int,
+        "width": int,
+        "height": int,
+        "whole": bool,
+        "number": int,
+        "faults": dict[str, int],
+        "says": str,
+        "line": int,
+        "lines": list[int],
+        "from": int,
+        "to": int,
+        "kind": str,
+    },
+)
+Found = Findings[Shown]
+
+
+class Info(TypedDict):
+    """What the page has of an InfoFrame, a clock or a general control packet that came so many times."""
+
+    name: str
+    rows: tuple[Row, ...]
+    line: int
+    times: int
+
+
+class Show:
+    """Turns each frame that ends into what the page has of it."""
+
+    def __init__(self, columns: int) -> None:
+        self.album, self.columns, self.frames, self.whole = Album(), columns, 0, 0
+
+    def __call__(self, frame: Frame, at: int, ragged: int, vic: int | None, signal: Signal) -> Shown:
+        self.frames += 1
+        self.whole += frame.is_whole
+        left = max(0, round((self.columns - at) * self.frames / max(at, 1)))
+        picture, _ = self.album.add(frame, left, signal)
+        says = ENDS[frame.ended] if frame.is_whole or frame.ended != "vsync" else "begun before the capture"
+        if ragged:
+            says += f", {ragged} rows of another width"
+        if vic:
+            says += f", though its AVI InfoFrame says {mode_name(vic)}"
+        faults = {kind: times for kind, times in sorted(frame.faults.items())}
+        return {
+            "picture": picture,
+            "width": signal.pixels(frame.width),
+            "height": len(frame.rows),
+            "whole": frame.is_whole,
+            "number": self.whole - 1,
+            "faults": faults,
+            "says": says,
+            "line": frame.lines[0],
+            "lines": frame.lines,
+            "from": frame.at,
+            "to": at,
+            "kind": self.album.pictures[picture].kind.split("/")[1],
+        }
+
+
+def check_end(run: program.Run, words: list[str], path: Path) -> None:
+    """Refused where the program ended otherwise than after a capture, or after what is none."""
+    if run.status not in (0, 1, program.NO_CAPTURE, program.NO_ALIGNMENT):
+        raise Refused(f"`{' '.join(words)}` of {path}: {run.note or f'status {run.status}'}")
+
+
+def contents_of(path: Path) -> Counter[str]:
+    """How many fault lines of each kind `recover content` writes of what a capture's link carried."""
+    words = ["recover", "content"]
+    counts: Counter[str] = Counter()
+    with program.Run(words, path) as run:
+        for line in run.output:
+            if line.startswith(b"! "):
+                counts[line.split()[1].decode("ascii", "replace")] += 1
+    check_end(run, words, path)
+    return Counter({kind: counts[kind] for kind in CONTENT if counts[kind]})
+
+
+def gather(words: list[str], path: Path, bits: int) -> tuple[Found, Album, program.Run]:
+    """What the program tells of a capture, its status and its note. Of a capture without slips the faults of its contents
+    are those of `recover content`, which knows of no slips and reads HDMI alone."""
+    with ThreadPoolExecutor(1) as beside:
+        contents = beside.submit(contents_of, path) if words[1] != "dvi" else None
+        found, album, run = heard(words, path, bits)
+        if contents and len(found.epochs) == 1:
+            found.content_counts = contents.result()
+    return found, album, run
+
+
+def heard(words: list[str], path: Path, bits: int) -> tuple[Found, Album, program.Run]:
+    """What a link listing of a capture tells, the pictures, and the run that wrote it; `bits` are those of the longest lane."""
+    show = Show(bits // 10)
+    found = Findings(show, is_dvi=words[1] == "dvi")
+    with program.Run(words, path) as run:
+        for line in tqdm(listing.lines(run.output, listing.LINK, is_whole=False), unit="line", disable=None):
+            found.take(*line)
+    check_end(run, words, path)
+    found.finish(run.status in (0, 1), bits)
+    return found, show.album, run
+
+
+def places_of(found: Found) -> list[str]:
+    """How many faults each lane has, and how many are of none."""
+    counts: Counter[int] = Counter()
+    for (_, lane), times in found.counts.items():
+        counts[3 if lane is None else lane] += times
+    return [f"{count:,} {PLACES[place]}" for place, count in sorted(counts.items())]
+
+
+def bits_of(bits: list[int]) -> str:
+    """How many bits the lanes have, in words."""
+    return f"{bits[0]:,} bits a lane" if len(set(bits)) == 1 else "{:,}, {:,} and {:,} bits of the lanes".format(*bits)
+
+
+class Slips(NamedTuple):
+    """What became of the slips, in words: how many were aligned anew, and from which place on none; and what is not shown."""
+
+    number: int
+    aligned: str
+    hidden: str
+
+    def __str__(self) -> str:
+        says = f"{self.number:,} slip{'s' * (self.number > 1)}, {self.aligned}"
+        return f"{says}: {self.hidden} not shown" if self.hidden else says
+
+
+def slips_of(found: Found, bits: list[int]) -> Slips | None:
+    """What became of the slips; None where there are none."""
+    epochs = found.epochs[1:]
+    if not epochs:
+        return None
+    aligned, hidden = [f"{sum(epoch.is_aligned for epoch in epochs):,} aligned anew"], []
+    last = len(epochs)
+    while last and not epochs[last - 1].is_aligned:
+        last -= 1
+    between = sum(epoch.hidden for epoch in epochs[:last])
+    if between:
+        hidden.append(f"{between:,} bits a lane between slips")
+    if last < len(epochs):
+        start = epochs[last].place
+        aligned.append(f"none from place {start:,} on")
+        hidden.append(bits_of([max(0, count - start) for count in bits]))
+    return Slips(len(epochs), ", ".join(aligned), f"{' and '.join(hidden)} are" if hidden else "")
+
+
+def verdict_of(found: Found, run: program.Run, slips: Slips | None) -> dict[str, str]:
+    """The word at the top, and a sentence on it."""
+    total = sum(found.counts.values())
+    faults = f"{total:,} fault line{'s' * (total != 1)}"
+    if run.status == program.NO_ALIGNMENT:
+        word, sign, kind = "No alignment", "?", "faulty"
+        says = "The capture is well formed, but its three lanes have no place at which a control period ends on all of them."
+    elif run.status == program.NO_CAPTURE:
+        word, sign, kind = "Broken file", "✗", "faulty"
+        says = f"The program refuses the file: {program.explained(run.note)}. What it wrote before that place is shown: {faults}."
+    elif total:
+        word, sign, kind = "Faulty", "✗", "faulty"
+        says = f"The listing tells {faults}: {', '.join(places_of(found))}."
+        says += f" {slips}." if slips else ""
+    elif found.content_counts.total():
+        word, sign, kind = "Contents wrong", "!", "contents"
+        says = f"The link is clean, its contents are not: {', '.join(contents_in_words(found))}."
+    else:
+        word, sign, kind = "Clean", "✓", "clean"
+        says = "No fault was found: a conforming source could have sent what was received."
+    return {"word": word, "sign": sign, "kind": kind, "says": says}
+
+
+def contents_in_words(found: Found) -> list[str]:
+    """How many faults of each kind the contents have."""
+    return [f"{found.content_counts[kind]:,} {kind}" for kind in CONTENT if found.content_counts[kind]]
+
+
+def matrix_of(found: Found) -> list[dict[str, object]]:
+    """The fault counts, by kind and lane."""
+    rows: list[dict[str, object]] = []
+    for fault in BY_ROW:
+        kind = fault.kind
+        counts = [(lane, found.counts[kind, None if lane < 0 else lane]) for lane in (0, 1, 2, -1)]
+        if any(count for _, count in counts):
+            rows.append({"kind": kind, "counts": counts, "says": fault.says})
+    return rows
+
+
+def infos_of(found: Found) -> list[Info]:
+    """Each unlike InfoFrame, clock and general control packet, how often it came, and where first."""
+    infos: dict[tuple[str, tuple[Row, ...]], Info] = {}
+    for one in found.packets:
+        if one.content and one.content.rows:
+            key = one.packet.name, tuple(one.content.rows)
+            infos.setdefault(key, {"name": key[0], "rows": key[1], "line": one.line, "times": 0})["times"] += 1
+
+    def order(info: Info) -> int:
+        return -info["times"]
+
+    return sorted(infos.values(), key=order)[:24]
+
+
+def rate_of(sound: Sound, clock: int | None, depth: int) -> tuple[int, bool]:
+    """The sampling rate by the clock packet, and whether it is not only supposed. The clock is that of columns, which come the more
+    often the more bits a pixel has."""
+    clock = clock or (VICS[sound.vic].clock * depth // 24 if sound.vic in VICS else None)
+    if not sound.clock or not all(sound.clock) or not clock:
+        return 48000, False
+    n, cycles = sound.clock
+    return pcm.rate_of(n, cycles, clock), True
+
+
+def paths_of(data: bytearray, middle: int, size: int) -> str:
+    """The outline of one side's samples, as an SVG path: the greatest of each step, and back the least."""
+    steps = min(MOST_PEAKS, size)
+    above, below = [], []
+    for step in range(steps):
+        first, behind = step * size // steps, (step + 1) * size // steps
+        places = range(3 * first, 3 * behind, 3 * max(1, (behind - first) // 256))
+        values = [int.from_bytes(data[at : at + 2], "big", signed=True) for at in places]
+        x = (step + 0.5) * WAVE / steps
+        above.append(f"{x:.1f} {middle - max(values) * 46 / 32768:.1f}")
+        below.append(f"{x:.1f} {middle - min(values) * 46 / 32768:.1f}")
+    return f"M{'L'.join(above + below[::-1])}Z"
+
+
+def sound_of(found: Found, clock: int | None) -> dict[str, object] | None:
+    """What the page has of the sound."""
+    sound = found.sound
+    if not sound.samples:
+        return None
+    rate, is_told = rate_of(sound, clock, DEPTHS.get(found.signals.depth or 4, 24))
+    bits = 24 if any(sound.left[2::3]) or any(sound.right[2::3]) else 16
+    data = pcm.wav(pcm.Sound(rate, bits, bytes(sound.left), bytes(sound.right)))
+    seconds = sound.samples / rate
+    told = (
+        "by the clock packets"
+        if is_told
+        else "which is supposed, since no clock packet with a known pixel clock was received"
+    )
+    says = f"{sound.samples:,} samples of {bits} bits at {rate:,} Hz, {told}: {seconds:.3f} s."
+    if sound.is_wide:
+        says += " These are the first two of more channels; “tools/sound” writes all."
+    if sound.gaps:
+        says += f" {len(sound.gaps)} packets of samples were lost."
+    status = [
+        {
+            "times": times,
+            "rows": [(name, one, other) for (name, one), (_, other) in zip(*map(packets.channel_status, both))],
+        }
+        for both, times in sound.blocks.found.most_common(4)
+    ]
+    return {
+        "says": says,
+        "label": f"Waveform of {sound.samples} samples, left and right",
+        "left": paths_of(sound.left, 50, sound.samples),
+        "right": paths_of(sound.right, 150, sound.samples),
+        "gaps": [f"{gap * WAVE / sound.samples:.1f}" for gap in sound.gaps[:500]],
+        "width": WAVE,
+        "seconds": f"{seconds:.3f} s",
+        "status": status,
+        "file": b64encode(data).decode(),
+    }
+
+
+def data_of(name: str, found: Found, album: Album, characters: list[str]) -> str:
+    """What the page's script reads: lists by column, packed; `characters` are in words those at each fault."""
+    words: dict[str, int] = {}
+    table = {
+        "names": [one.packet.name for one in found.packets],
+        "at": [one.at for one in found.packets],
+        "words": [words.setdefault(one.words, len(words)) for one in found.packets],
+        "faults": [one.content.faults if one.content else [] for one in found.packets],
+        "verdicts": [one.verdicts for one in found.packets],
+        "symbols": [one.symbols for one in found.packets],
+        "line": [one.line for one in found.packets],
+    }
+    alignments = accumulate(epoch.is_aligned for epoch in found.epochs)
+    data: dict[str, object] = {
+        "name": name,
+        "columns": found.columns,
+        "epochs": [epoch.at for epoch in found.epochs],
+        "places": [epoch.place for epoch in found.epochs],
+        "hidden": [epoch.hidden for epoch in found.epochs],
+        "alignments": [number * epoch.is_aligned for number, epoch in zip(alignments, found.epochs)],
+        "periods": found.periods,
+        "faults": found.faults | {"characters": characters},
+        "bursts": [burst._asdict() for burst in bursts.bursts_of(found.faults, found.periods)],
+        "kinds": {fault.kind: (fault.row, fault.says) for fault in BY_ROW},
+        "frames": found.frames,
+        "thumbs": [small for _, small in sorted(album.numbers.values())],
+        "packets": table,
+        "packetNames": packets.NAMES,
+        "words": list(words),
+        "blocks": BLOCKS,
+        "lines": found.text.lines,
+    }
+    return b64encode(zlib.compress(json.dumps(data, separators=(",", ":")).encode(), 6)).decode()
+
+
+def counts_of(found: Found, bits: list[int], size: int, slips: Slips | None) -> list[tuple[str, str, str]]:
+    """The numbers at the top."""
+    whole = sum(frame["whole"] for frame in found.frames)
+    parts = len(found.frames) - whole
+    hurt = sum(one.symbols > 0 or one.verdicts.count("clean") < 5 for one in found.packets)
+    counts = [
+        ("faults", f"{sum(found.counts.values()):,}", "lines of the listing"),
+        ("columns", f"{found.aligned_columns:,}", "" if found.is_certain else "about, since some could not be counted"),
+        ("frames", f"{whole:,}", f"and {parts} not whole" if parts else "whole"),
+        ("rows", f"{found.rows:,}", "of pixels"),
+        ("packets", f"{len(found.packets):,}", f"{hurt:,} damaged" if hurt else "none damaged"),
+        ("samples", f"{found.sound.samples:,}", "of two channels"),
+        ("capture", f"{size / 1e6:,.1f} MB" if size >= 1e6 else f"{size:,} bytes", bits_of(bits)),
+    ]
+    if slips:
+        counts.insert(1, ("slips", f"{slips.number:,}", slips.aligned))
+    if found.content_counts.total():
+        counts.insert(1, ("contents", f"{found.content_counts.total():,}", "faults of what was carried"))
+    return counts
+
+
+def notes_of(found: Found, words: list[str], album: Album) -> list[str]:
+    """What is to be known of the page: what is not shown, or otherwise than it was."""
+    notes = []
+    if found.cut:
+        notes.append(
+            f"The capture ends within a row, an island or an opening, at column {found.cut.column:,} (“cut”, line {found.cut.line})."
+        )
+    if words[1] == "link":
+        notes.append(
+            "The program has no “recover track”, so a lane that loses bits is not followed: what comes behind it is noise."
+        )
+    if any(picture.kind != "image/png" for picture in album.pictures):
+        notes.append(
+            "So that the page stays small some pictures are not exact; where they are enlarged, damaged pixels are."
+        )
+    notes.extend(f"Of the pictures: {note}." for note in found.colour_notes)
+    return notes
+
+
+def fits_of(path: Path, words: list[str], found: Found, run: program.Run) -> openings.Fits | None:
+    """At which skews openings of HDMI fit; None where nothing speaks against the one that was found, or a lane has no control
+    period among the bits that are looked at."""
+    is_suspect = run.status == program.NO_ALIGNMENT or any(kind in OF_SKEW for kind, _ in found.counts)
+    return openings.fits(openings.beginnings(path)) if is_suspect and words[1] != "dvi" else None
+
+
+def opening_advice(path: Path, found: Found, fits: openings.Fits) -> str | None:
+    """What to do where openings fit at another skew than that of the first alignment; None where they do not."""
+    best, fit = fits.best, fits.best if fits.is_wrong else fits.later
+    if fit is None:
+        return None
+    if fits.is_wrong and fits.found:
+        says = WRONG.format(found=fits.found.made_words, best=best.made_words, openings=f"{best.openings:,}")
+    elif fits.is_wrong:
+        says = FAR.format(best=best.made_words, openings=f"{best.openings:,}")
+    elif fit.first and fits.found and fits.found.last and len(found.epochs) == 1:
+        last, first = f"{fits.found.last[0]:,}", f"{fit.first[0]:,}"
+        says = LATER.format(last=last, first=first, found=fits.found.made_words, later=fit.made_words)
+    else:
+        return None
+    return f"{says} {CUT.format(name=shlex.quote(path.name), cut=','.join(map(str, fit.cut)))}"
+
+
+def advice_of(path: Path, words: list[str], found: Found, run: program.Run) -> tuple[str, ...]:
+    """What to look at; first whether the lanes were aligned at the right skew, and then whether the source is one of DVI."""
+    fits = fits_of(path, words, found, run)
+    wrong = opening_advice(path, found, fits) if fits else None
+    if wrong:
+        return (wrong,)
+    if run.status == program.NO_ALIGNMENT:
+        return ADVICE
+    if found.rows or found.packets or not found.counts["noise", None]:
+        return ()
+    return (DVI_ADVICE, *ADVICE) if fits and not fits.best.guards else ADVICE
+
+
+def page_of(path: Path, words: list[str], found: Found, album: Album, run: program.Run, bits: list[int], clock: int | None) -> str:
+    """The page's text."""
+    template = jinja2.Environment(loader=jinja2.FileSystemLoader(PAGE), autoescape=True).get_template("report.html")
+    slips, measured = slips_of(found, bits), timings(found.meter, Rate(clock))
+    record = judged.record_of(found)
+    characters = judged.Characters(path, found, record)
+    rules = judged.rules_of(record, clock, measured) if words[1] != "dvi" and found.columns else []
+    advice = (*advice_of(path, words, found, run), *characters.causes())
+    return template.render(
+        name=path.name,
+        link="DVI" if words[1] == "dvi" else "HDMI",
+        verdict=verdict_of(found, run, slips),
+        counts=counts_of(found, bits, path.stat().st_size, slips),
+        parts=PARTS,
+        timings=measured[:SIZES],
+        change=change_note(measured),
+        notes=notes_of(found, words, album) if found.columns else [],
+        slips=slips,
+        made=f"{place.named('tools/report')} {path.name}",
+        style=Markup((PAGE / "report.css").read_text("utf-8")),
+        script=Markup("".join((PAGE / name).read_text("utf-8") for name in SCRIPTS)),
+        data=data_of(path.stem, found, album, characters.at_faults()),
+        pictures=album.pictures,
+        rules=rules,
+        rules_say=total_of(rules),
+        **sections_of(found, words, advice, sound_of(found, clock), bool(rules)),
+    )
+
+
+def plain_of(path: Path, words: list[str], found: Found, run: program.Run, bits: list[int], clock: int | None) -> dict[str, Any]:
+    """What the page says, for machines: no pictures, no sound and no listing."""
+    slips, record, measured = slips_of(found, bits), judged.record_of(found), timings(found.meter, Rate(clock))
+    verdict = verdict_of(found, run, slips)
+    rules = judged.rules_of(record, clock, measured) if words[1] != "dvi" and found.columns else []
+    characters = judged.Characters(path, found, record)
+    faults, says = found.faults, characters.at_faults()
+    return {
+        "capture": str(path),
+        "faulty": bool(run.status or contents_in_words(found)),
+        "verdict": verdict["word"],
+        "says": verdict["says"],
+        "columns": found.aligned_columns,
+        "rows": found.rows,
+        "samples": found.sound.samples,
+        "bits": bits,
+        "slips": str(slips) if slips else None,
+        "advice": [place.named(line) for line in (*advice_of(path, words, found, run), *characters.causes())],
+        "timing": [one.plain() for one in measured[:SIZES]],
+        "rules": [one.plain() for one in rules],
+        "frames": [
+            {"width": it["width"], "height": it["height"], "whole": it["whole"], "faults": it["faults"], "says": it["says"]}
+            for it in found.frames
+        ],
+        "faults": [
+            {"kind": kind, "lane": lane, "column": at, "line": line, "numbers": more, "characters": words}
+            for kind, lane, at, line, more, words in zip(
+                faults["kind"], faults["lane"], faults["at"], faults["line"], faults["more"], says
+            )
+        ],
+        "contents": dict(found.content_counts),
+        "packets": [{"name": it.packet.name, "column": it.at, "says": it.words, "blocks": it.verdicts} for it in found.packets],
+    }
+
+
+def sections_of(
+    found: Found, words: list[str], advice: tuple[str, ...], sound: dict[str, object] | None, has_rules: bool
+) -> dict[str, Any]:
+    """What the template has of the sections, and their names and titles."""
+    sections = [("timing", "Timing")] * bool(found.rows)
+    sections += [("pictures", "Pictures"), ("timeline", "Timeline"), ("faults", "Faults")]
+    sections += [("rules", "Rules")] * has_rules + [("packets", "Packets")]
+    sections += [("sound", "Sound")] * bool(sound) + [("listing", "Listing")]
+    contents = [(kind, found.content_counts[kind], fault.says) for kind, fault in CONTENT.items()]
+    whole = "whole" if found.text.is_whole else "with the first pixels of each row"
+    return {
+        "sections": ([("advice", "What to look at")] if advice else []) + (sections if found.columns else []),
+        "advice": [place.named(line) for line in advice],
+        "columns": found.columns,
+        "frames": found.frames,
+        "matrix": matrix_of(found),
+        "content_faults": [it for it in contents if it[1]],
+        "packets": found.packets,
+        "infos": infos_of(found),
+        "sound": sound,
+        "listing_says": f"What “{' '.join(words)}” wrote, {whole}: {len(found.text.lines):,} lines, {found.text.size:,} bytes.",
+    }
+
+
+def work(argv: Sequence[str] | None) -> int:
+    parser = command.parser("report", TEXT, "done, and the page shows a fault", EXAMPLES)
+    parser.add_argument(
+        "capture", metavar="CAPTURE", type=Path, help="the capture, as `make`, `damage` or `lanes pack` write it"
+    )
+    parser.add_argument(
+        "-o",
+        "--output",
+        metavar="FILE.html",
+        type=Path,
+        help="the page; if left out, report.html, or none with --json",
+    )
+    parser.add_argument("--json", action="store_true", help="write what the page says as JSON too, to standard output")
+    parser.add_argument("--dvi", action="store_true", help="the source is one of DVI, without guard bands and islands")
+    text = "the pixel clock, for the rate of the frames, and that of the sound where the AVI InfoFrame does not say it"
+    parser.add_argument("--clock", type=int, metavar="HZ", help=text)
+    args = parser.parse_args(argv)
+    if args.clock is not None and args.clock < 1:
+        parser.error("--clock is at least 1")
+    words = ["recover", "dvi" if args.dvi else "track" if program.has("recover", "track") else "link"]
+    if args.dvi and not program.has(*words):
+        raise Refused("the program has no `recover dvi`")
+    bits = header_of(args.capture)
+    found, album, run = gather(words, args.capture, max(bits))
+    if run.status == program.NO_CAPTURE and not found.columns:
+        raise Refused(f"{args.capture}: {program.explained(run.note)}")
+    if args.json:
+        print(json.dumps(plain_of(args.capture, words, found, run, bits, args.clock), indent=1))
+    output = args.output or (None if args.json else Path("report.html"))
+    if output:
+        with replacing(output, "w", encoding="utf-8", errors="surrogateescape") as page:
+            page.write(page_of(args.capture, words, found, album, run, bits, args.clock))
+    total, contents = found.counts.total(), contents_in_words(found)
+    told = f"{len(found.frames)} frames, {len(found.packets)} packets, {total} faults"
+    print(f"{output or args.capture}: {told}{', in the contents ' if contents else ''}{', '.join(contents)}", file=sys.stderr)
+    return command.FAULTY if run.status or contents else command.DONE
+
+
+def main(argv: Sequence[str] | None = None) -> int:
+    """Runs the tool over its words, those of the command line if none are given; answers its status."""
+    return command.run("report", lambda: work(argv))

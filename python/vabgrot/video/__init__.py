@@ -1,0 +1,1 @@
+"""The raster of a link listing, and the video format that it is."""

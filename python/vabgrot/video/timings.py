@@ -1,0 +1,533 @@
+"""The timing of a link listing: the parts of its lines and fields, the polarity of its sync pulses, and how steady they are."""
+
+from __future__ import annotations
+
+from array import array
+from dataclasses import dataclass, field
+from typing import Callable, Iterator, NamedTuple, Sequence
+
+import numpy as np
+import numpy.typing as npt
+
+from vabgrot import link, packets
+from vabgrot.formats.characters import HSYNC, PACKET, VSYNC
+from vabgrot.formats.faults import OF_PACKET, UNCOUNTED
+
+Ints = npt.NDArray[np.int64]
+PARTS = ("active", "front porch", "sync", "back porch", "total")
+AVI, CONTROL = "82", "03"  # the first two digits of the header: of an AVI InfoFrame, of general control
+BITS = {4: 24, 5: 30, 6: 36, 7: 48}  # of a pixel, by the depth that general control says (HDMI 1.4, section 6.5.3)
+DEPTH = 24  # bits of a pixel that takes one column
+LOST = 2  # in place of a level: what follows is not known to follow at once
+STABLE = 16  # neighbouring rows of one width and one level of both syncs, from which on the two hold
+ALIKE = ("0" * PACKET, "1" * PACKET, "2" * PACKET, "3" * PACKET)
+GLITCH = 2  # columns: the most of a change within a damaged packet that is no sync pulse
+
+
+class Place(NamedTuple):
+    """Where something is: the column of the listing, and the line of its field, from 1; None where it is not known."""
+
+    column: int
+    line: int | None
+
+
+@dataclass(frozen=True)
+class Figure:
+    """One number of a raster: the most frequent value, of how many lines or fields; and of how many it is another, the first
+    such value and its place. Columns across, lines down; whole numbers, or half ones down."""
+
+    value: float
+    times: int
+    others: int = 0
+    other: float | None = None
+    place: Place | None = None
+
+
+@dataclass(frozen=True)
+class Raster:
+    """What the fields of one size have in common. `size` is the pixels of a row and the rows of a field, None where no field
+    is whole. `down` has one item, or where the fields are interlaced two: of those that begin with HSYNC, and of those that
+    begin half a line later. What was not seen is missing. `late` says how many columns after an edge of HSYNC, or the middle
+    between two, VSYNC changes; `wide` and `tall` whether HSYNC and VSYNC are positive, None where they do not change; `absent`
+    names the one that should have, since there are rows, or blank lines between rows. `bits` are those of a pixel: where they are
+    more than 24, `size`, `across` and `columns` are in pixels, and not in columns of the listing. `spans` are the first column
+    of each field and the one after its last."""
+
+    size: tuple[int, int | None]
+    fields: int
+    interlaced: bool | None
+    across: dict[str, Figure]
+    down: tuple[dict[str, Figure], ...]
+    wide: bool | None
+    tall: bool | None
+    late: Figure | None
+    absent: tuple[str, ...]
+    bits: int
+    spans: tuple[tuple[int, int], ...]
+
+    @property
+    def columns(self) -> float | None:
+        """The columns of a field, on the average of both where it is interlaced; None where they were not seen."""
+        totals = [part["total"].value for part in self.down if "total" in part]
+        if "total" not in self.across or not totals or len(totals) < len(self.down):
+            return None
+        return self.across["total"].value * sum(totals) / len(totals)
+
+
+class Avi(NamedTuple):
+    """What an AVI InfoFrame says: the video identification code, and the pixel repetition (0 where pixels are sent once)."""
+
+    vic: int
+    repetition: int
+
+
+@dataclass
+class Field:
+    """The columns from one leading edge of VSYNC to the next, or up to where what was seen breaks off."""
+
+    begin: int
+    stop: int
+    lead: int | None
+    trail: int | None
+    end: int | None
+    rows: slice = field(default_factory=lambda: slice(0, 0))
+
+    @property
+    def is_whole(self) -> bool:
+        """Whether all its rows were seen, and some are there."""
+        return self.trail is not None and self.end is not None and self.rows.stop > self.rows.start
+
+
+class Meter:
+    """Takes the things of a link listing (those of `link.Columns`), one after another, and keeps where HSYNC, VSYNC and rows
+    change. A change is kept as four times its column, and its level or LOST."""
+
+    def __init__(self) -> None:
+        self.hsync, self.vsync = array("q"), array("q")
+        self.firsts, self.widths, self.levels = array("q"), array("q"), array("b")
+        self.words, self.known = array("q"), array("q")  # damaged columns, and from where on the syncs are known again
+        self.damaged = array("q")  # packets with a fault, by their first columns
+        self.avis: list[tuple[int, Avi]] = []
+        self.depths: list[tuple[int, int]] = []  # columns, and the bits of a pixel from there on
+        self.next, self.value = 0, LOST
+        self.lose(0)
+
+    def lose(self, column: int) -> None:
+        """What begins with this column is not known to follow what was before it."""
+        self.hsync.append(column << 2 | LOST)
+        self.vsync.append(column << 2 | LOST)
+        self.next, self.value = column, -1
+
+    def take(self, thing: link.Thing) -> None:
+        """The next thing of the listing."""
+        kind, at = thing.kind, thing.at
+        if kind == "fault":
+            self.fault(thing)
+            return
+        if at != self.next:
+            self.lose(at)
+        self.next = at + thing.columns
+        if kind == "control":
+            if thing.value & 3 != self.value:
+                self.change(at, thing.value & 3)
+        elif kind == "video":
+            pixels = thing.pixels
+            if self.known and self.known[-1] == at:
+                self.known[-1] = self.next
+            self.firsts.append(self.next - pixels)
+            self.widths.append(pixels)
+            self.levels.append(self.value)
+        elif kind == "packet":
+            if thing.texts[5] != ALIKE[self.value]:
+                self.syncs(at, thing.texts[5])
+            if thing.digits.startswith(AVI):
+                self.avi(thing)
+            elif thing.digits.startswith(CONTROL):
+                self.depth(thing)
+        elif kind == "slip":
+            self.lose(at)
+        elif kind != "cut":
+            self.syncs(at, thing.digits)
+
+    def change(self, column: int, value: int) -> None:
+        """The syncs have another value from a column on."""
+        changed = value ^ self.value if self.value >= 0 else 3
+        if changed & HSYNC:
+            self.hsync.append(column << 2 | value & 1)
+        if changed & VSYNC:
+            self.vsync.append(column << 2 | value >> 1)
+        self.value = value
+
+    def syncs(self, column: int, digits: str) -> None:
+        """The syncs of an island's columns."""
+        for place, digit in enumerate(digits):
+            value = "0123".find(digit)
+            if value != self.value and value >= 0:
+                self.change(column + place, value)
+
+    def fault(self, thing: link.Thing) -> None:
+        """A fault: what it makes of the columns, and which changes it may have made."""
+        kind, columns = thing.fault, thing.columns
+        if kind == "guard" or kind == "word" and thing.numbers[0] == 0:
+            self.words.append(thing.at)
+            self.known.append(thing.at + 1)
+        elif kind in OF_PACKET:
+            self.damaged.append(thing.at)
+        if kind in UNCOUNTED:
+            self.lose(max(self.next, thing.at + columns))
+        elif columns:
+            self.next = thing.at + columns
+
+    def depth(self, thing: link.Thing) -> None:
+        """Keeps the depth of colour of a general control packet that says one."""
+        packet = packets.packet_of(thing.texts, thing.line)
+        depth = packet.bytes[1] & 15
+        if depth in BITS:
+            self.depths.append((thing.at, BITS[depth]))
+
+    def avi(self, thing: link.Thing) -> None:
+        """Keeps what an AVI InfoFrame says; one with a wrong checksum says nothing."""
+        packet = packets.packet_of(thing.texts, thing.line)
+        count, data = packet.header[2] & 31, packet.bytes
+        if (sum(packet.header) + sum(data[: count + 1])) & 255 or count < 5:
+            return
+        self.avis.append((thing.at, Avi(data[4] & (127 if packet.header[1] < 3 else 255), data[5] & 15)))
+
+
+class Edges(NamedTuple):
+    """The changes of one sync line: columns, levels (or LOST), whether each is a change that was seen, and whether damage may
+    have moved it. All of one length."""
+
+    columns: Ints
+    levels: Ints
+    seen: npt.NDArray[np.bool_]
+    doubtful: npt.NDArray[np.bool_]
+
+
+class Lines(NamedTuple):
+    """The leading edges of HSYNC (`leads`), and of the lines between two of which all was seen: their first columns, parts
+    (`sync`, `total`), which row they have (-1 where none), and whether the parts are certain."""
+
+    leads: Ints
+    start: Ints
+    trail: Ints
+    end: Ints
+    row: Ints
+    sure: npt.NDArray[np.bool_]
+
+
+def ints(values: array[int]) -> Ints:
+    """An array of 64-bit numbers, which is not copied."""
+    return np.frombuffer(values, np.int64) if values else np.zeros(0, np.int64)
+
+
+def spans(begins: Ints, ends: Ints) -> Ints:
+    """Where columns from each of `begins` on up to before each of `ends` lie, without overlaps: rows of the two, in order."""
+    if not len(begins):
+        return np.zeros((0, 2), np.int64)
+    order = np.argsort(begins, kind="stable")
+    begins, ends = begins[order], np.maximum.accumulate(ends[order])
+    first = np.flatnonzero(np.concatenate((np.array([True]), begins[1:] > ends[:-1])))
+    return np.column_stack([begins[first], ends[np.append(first[1:], len(begins)) - 1]])
+
+
+def within(columns: Ints, places: Ints) -> tuple[Ints, npt.NDArray[np.bool_]]:
+    """The span that begins last before each column, and whether the column is in it or just behind it."""
+    span = np.searchsorted(places[:, 0], columns, "right") - 1
+    return span, (span >= 0) & (columns <= places[np.maximum(span, 0), 1])
+
+
+def without_pulses(entries: Ints, places: Ints, most: int) -> Ints:
+    """Changes without those that damage made: back and forth within one of these spans, of at most so many columns."""
+    if not len(places) or len(entries) < 3:
+        return entries
+    columns, known = entries >> 2, entries & 3 != LOST
+    span, inside = within(columns, places)
+    short = (np.diff(columns) <= most) & inside[:-1] & inside[1:] & (span[:-1] == span[1:]) & known[:-1] & known[1:]
+    keep = np.ones(len(entries), bool)
+    for place in np.flatnonzero(short).tolist():
+        if place and known[place - 1] and keep[place]:
+            keep[place : place + 2] = False
+    kept: Ints = entries[keep]
+    return kept
+
+
+def edges(entries: Ints, words: Ints, damaged: Ints) -> Edges:
+    """The changes of a sync line, without those that damaged control characters and packets made."""
+    entries = without_pulses(entries, words, np.iinfo(np.int64).max)
+    entries = without_pulses(entries, damaged, GLITCH)
+    columns, levels = entries >> 2, entries & 3
+    known = levels != LOST
+    seen = known & np.concatenate(([False], known[:-1]))
+    doubtful = np.zeros(len(entries), bool)
+    for places in (words, damaged):
+        if len(places):
+            doubtful |= within(columns, places)[1]
+    return Edges(columns, levels, seen, doubtful)
+
+
+def lines_of(hsync: Edges, active: int, firsts: Ints) -> Lines:
+    """The lines of a raster whose HSYNC pulses have this level, and the first row of each."""
+    leads = np.flatnonzero(hsync.seen & (hsync.levels == active))
+    whole = leads[leads + 2 < len(hsync.columns)]
+    whole = whole[(hsync.levels[whole + 1] != LOST) & (hsync.levels[whole + 2] != LOST)]
+    start, trail, end = (hsync.columns[whole + step] for step in range(3))
+    sure = ~(hsync.doubtful[whole] | hsync.doubtful[whole + 1] | hsync.doubtful[whole + 2])
+    row = np.searchsorted(firsts, start)
+    has = row < len(firsts)
+    has[has] = firsts[row[has]] < end[has]
+    return Lines(hsync.columns[leads], start, trail, end, np.where(has, row, -1), sure)
+
+
+def fields_of(vsync: Edges, active: int, stop: int) -> list[Field]:
+    """The fields, up to the column `stop`, of a raster whose VSYNC pulses have this level."""
+    found: list[Field] = []
+    begin, lead, trail = int(vsync.columns[0]), None, None
+    for column, level, seen in zip(vsync.columns.tolist(), vsync.levels.tolist(), vsync.seen.tolist()):
+        if level == LOST:
+            found.append(Field(begin, column, lead, trail, None))
+            begin, lead, trail = column, None, None
+        elif seen and level == active:
+            found.append(Field(begin, column, lead, trail, column))
+            begin, lead, trail = column, column, None
+        elif seen:
+            trail = column
+    found.append(Field(begin, stop, lead, trail, None))
+    return [one for one in found if one.stop > one.begin]
+
+
+class Ruler:
+    """Tells of a column how many lines it is behind the first leading edge of HSYNC, to the next half. `total` is the columns
+    of a line, 0 where none was seen whole."""
+
+    def __init__(self, leads: Ints, total: float) -> None:
+        self.leads, self.total = leads, total
+
+    def line(self, column: int) -> int:
+        """The line that a column is in, -1 before the first one."""
+        return int(np.searchsorted(self.leads, column, "right")) - 1
+
+    def halves(self, column: int) -> tuple[float | None, int]:
+        """How many lines, None before the first one; and how many columns further the column is."""
+        line = self.line(column)
+        if line < 0 or not self.total:
+            return None, 0
+        behind = column - int(self.leads[line])
+        half = round(2 * behind / self.total)
+        late = behind - half * self.total / 2
+        return line + half / 2, int(late)
+
+
+def figure(values: npt.ArrayLike, places: Sequence[int] | Ints, place: Callable[[int], Place]) -> Figure | None:
+    """The number that most of these are, and where (`place` of its column) the first other one is; None where there are none."""
+    numbers = np.asarray(values, float)
+    if not len(numbers):
+        return None
+    found, counts = np.unique(numbers, return_counts=True)
+    value = float(found[np.argmax(counts)])
+    others = np.flatnonzero(numbers != value)
+    if not len(others):
+        return Figure(value, len(numbers))
+    first = int(others[0])
+    return Figure(value, int(counts.max()), len(others), float(numbers[first]), place(int(places[first])))
+
+
+def whole_place(column: int) -> Place:
+    """The place of a field, by its first column."""
+    return Place(column, None)
+
+
+@dataclass
+class Part:
+    """Columns of a listing in which rows have one width and the syncs one polarity, for the most part. `bits` are those of a
+    pixel: in deep colour 24 of them are sent a column (HDMI 1.4, section 6.5)."""
+
+    begin: int
+    stop: int
+    firsts: Ints
+    widths: Ints
+    level: int
+    bits: int
+
+    def pixels(self, columns: Ints) -> Ints:
+        """How many pixels take so many columns, to the nearest."""
+        if self.bits == DEPTH:
+            return columns
+        pixels: Ints = np.rint(columns * (DEPTH / self.bits)).astype(np.int64)
+        return pixels
+
+    def slice(self, entries: Ints) -> Ints:
+        """The changes in these columns, and before them the level at the first, where it is known."""
+        first, behind = np.searchsorted(entries >> 2, (self.begin, self.stop))
+        level = int(entries[first - 1]) & 3 if first else LOST
+        before = [self.begin << 2 | LOST] + [self.begin << 2 | level] * (level != LOST)
+        return np.concatenate((np.array(before), entries[first:behind]))
+
+
+def parts_of(meter: Meter) -> Iterator[Part]:
+    """The parts of what a meter took: a new one begins with a row from which on another width or polarity holds for STABLE
+    rows, and the one before ends with the row before."""
+    firsts, widths = ints(meter.firsts), ints(meter.widths)
+    levels = np.frombuffer(meter.levels, np.int8) if meter.levels else np.zeros(0, np.int8)
+    pairs = widths << 2 | levels & 3
+    begins = np.flatnonzero(np.diff(pairs, prepend=-1))
+    stable = begins[np.diff(begins, append=len(pairs)) >= STABLE]
+    starts = [0, *(int(at) for last, at in zip(stable, stable[1:]) if pairs[last] != pairs[at])]
+    for number, start in enumerate(starts):
+        behind = starts[number + 1] if number + 1 < len(starts) else len(firsts)
+        begin = 0 if not start else int(firsts[start])
+        stop = meter.next if behind == len(firsts) else int(firsts[behind - 1] + widths[behind - 1])
+        values, counts = np.unique(levels[start:behind], return_counts=True)
+        level = int(values[np.argmax(counts)]) if len(values) else 0
+        depths = [bits for column, bits in meter.depths if begin <= column < stop]
+        bits = max(set(depths), key=depths.count, default=DEPTH)
+        yield Part(begin, stop, firsts[start:behind], widths[start:behind], level, bits)
+
+
+def down_of(one: Field, ruler: Ruler, firsts: Ints) -> dict[str, float]:
+    """The parts of a field down, as far as they were seen."""
+    known = {name: ruler.halves(at)[0] for name, at in (("lead", one.lead), ("trail", one.trail), ("end", one.end)) if at is not None}
+    seen = {name: at for name, at in known.items() if at is not None}
+    found: dict[str, float] = {}
+    if one.is_whole:
+        found["active"] = one.rows.stop - one.rows.start
+    if one.rows.stop > one.rows.start:
+        if "end" in seen:
+            found["front porch"] = seen["end"] - ruler.line(int(firsts[one.rows.stop - 1])) - 1
+        if "trail" in seen:
+            found["back porch"] = ruler.line(int(firsts[one.rows.start])) - seen["trail"]
+    if "lead" in seen and "trail" in seen:
+        found["sync"] = seen["trail"] - seen["lead"]
+    if "lead" in seen and "end" in seen:
+        found["total"] = seen["end"] - seen["lead"]
+    return found
+
+
+def phase_of(one: Field, ruler: Ruler, interlaced: bool) -> int:
+    """0 where a field begins with HSYNC, 1 where it begins half a line later."""
+    for at in (one.lead, one.trail):
+        lines = ruler.halves(at)[0] if at is not None else None
+        if lines is not None:
+            return int(2 * lines) % 2
+    lines = ruler.halves(one.end)[0] if one.end is not None else None
+    return (int(2 * lines) + interlaced) % 2 if lines is not None else 0
+
+
+def sized(part: Part, found: list[Field]) -> list[tuple[int, int | None]]:
+    """The size of each field: pixels of a row, and rows. One that is not whole has that of its neighbour."""
+    sizes: list[tuple[int, int | None] | None] = []
+    for one in found:
+        widths, counts = np.unique(part.pixels(part.widths[one.rows]), return_counts=True)
+        sizes.append((int(widths[np.argmax(counts)]), one.rows.stop - one.rows.start) if one.is_whole else None)
+    every = [size for size in sizes if size is not None]
+    last = every[0] if every else (int(np.bincount(part.pixels(part.widths)).argmax()), None)
+    kept = []
+    for size in sizes:
+        last = size if size is not None else last
+        kept.append(last)
+    return kept
+
+
+def across_of(part: Part, lines: Lines, mask: npt.NDArray[np.bool_], ruler: Ruler, found: list[Field]) -> dict[str, Figure]:
+    """The parts of lines: of all `total` and `sync`, of those with a row the others."""
+    begins = np.array([one.lead if one.lead is not None else -1 for one in found], np.int64)
+    firsts_of = np.array([one.begin for one in found], np.int64)
+
+    def place(column: int) -> Place:
+        number = int(np.searchsorted(firsts_of, column, "right")) - 1
+        lead = int(begins[number]) if number >= 0 else -1
+        return Place(column, ruler.line(column) - ruler.line(lead) + 1 if lead >= 0 else None)
+
+    sure = mask & lines.sure
+    rows = sure & (lines.row >= 0)
+    row = lines.row[rows]
+    first, width = part.firsts[row], part.widths[row]
+    values = {
+        "active": (width, lines.start[rows]),
+        "front porch": (lines.end[rows] - first - width, lines.start[rows]),
+        "sync": ((lines.trail - lines.start)[sure], lines.start[sure]),
+        "back porch": (first - lines.trail[rows], lines.start[rows]),
+        "total": ((lines.end - lines.start)[sure], lines.start[sure]),
+    }
+    made = {name: figure(part.pixels(columns), starts, place) for name, (columns, starts) in values.items()}
+    return {name: one for name, one in made.items() if one is not None}
+
+
+def late_of(found: list[Field], vsync: Edges, ruler: Ruler) -> Figure | None:
+    """How many columns after an edge of HSYNC VSYNC changes."""
+    doubtful = set(vsync.columns[vsync.doubtful].tolist())
+    changes = [at for one in found for at in (one.lead, one.trail) if at is not None and at not in doubtful]
+    late = [(at, columns) for at in changes for lines, columns in [ruler.halves(at)] if lines is not None]
+    return figure([columns for _, columns in late], [at for at, _ in late], whole_place)
+
+
+def rasters_of(part: Part, hsync: Edges, vsync: Edges) -> Iterator[Raster]:
+    """The rasters of a part, one for each size of its fields, in the order in which they begin."""
+    wide, tall = part.level & 1, part.level >> 1
+    lines = lines_of(hsync, 1 - wide, part.firsts)
+    found = fields_of(vsync, 1 - tall, part.stop)
+    for one in found:
+        first, behind = np.searchsorted(part.firsts, (one.begin, one.stop))
+        one.rows = slice(int(first), int(behind))
+    totals = np.unique(lines.end[lines.sure] - lines.start[lines.sure], return_counts=True)
+    ruler = Ruler(lines.leads, float(totals[0][np.argmax(totals[1])]) if len(totals[0]) else 0.0)
+    number = np.searchsorted([one.begin for one in found], lines.start, "right") - 1
+    groups: dict[tuple[int, int | None], list[int]] = {}
+    for place, size in enumerate(sized(part, found)):
+        groups.setdefault(size, []).append(place)
+    for size, chosen in groups.items():
+        its = [found[at] for at in chosen]
+        interlaced = is_interlaced(its, ruler)
+        down = downs_of(its, ruler, part.firsts, bool(interlaced)) if ruler.total else ()
+        across = across_of(part, lines, np.isin(number, chosen), ruler, its)
+        late = late_of(its, vsync, ruler)
+        whole = sum(one.is_whole for one in its)
+        polarities = (bool(1 - wide) if hsync.seen.any() else None, bool(1 - tall) if vsync.seen.any() else None)
+        where = tuple((one.begin, one.stop) for one in its)
+        yield Raster(size, whole, interlaced, across, down, *polarities, late, absent_of(part, hsync, vsync), part.bits, where)
+
+
+def is_interlaced(its: list[Field], ruler: Ruler) -> bool | None:
+    """Whether VSYNC begins or ends in the middle of a line in some field. Where it does not, both ends of a field must have
+    been seen: of the fields of an interlaced raster every second one begins with HSYNC."""
+    ends = [(one.trail if one.lead is None else one.lead, one.end) for one in its]
+    lines = [[ruler.halves(at)[0] for at in pair if at is not None] for pair in ends]
+    seen = [[at for at in one if at is not None] for one in lines]
+    if any(at % 1 for one in seen for at in one):
+        return True
+    return False if any(len(one) == 2 for one in seen) else None
+
+
+def absent_of(part: Part, hsync: Edges, vsync: Edges) -> tuple[str, ...]:
+    """The syncs that never change though there are some rows, or rows with blank lines between."""
+    periods = np.diff(part.firsts)
+    has_blank = len(periods) > 1 and periods.max() > 2 * np.median(periods)
+    absent = (("HSYNC", hsync, len(periods) > 1), ("VSYNC", vsync, has_blank))
+    return tuple(name for name, sync, is_due in absent if is_due and not sync.seen.any())
+
+
+def downs_of(its: list[Field], ruler: Ruler, firsts: Ints, interlaced: bool) -> tuple[dict[str, Figure], ...]:
+    """The parts of fields down: one set of figures, or one for each of the two kinds of fields."""
+    values: tuple[dict[str, tuple[list[float], list[int]]], ...] = ({}, {})
+    for one in its:
+        phase = phase_of(one, ruler, interlaced) if interlaced else 0
+        for name, value in down_of(one, ruler, firsts).items():
+            numbers, places = values[phase].setdefault(name, ([], []))
+            numbers.append(value)
+            places.append(one.begin)
+    figures = []
+    for kind in values[: 1 + interlaced]:
+        made = {name: figure(*kind[name], whole_place) for name in PARTS if name in kind}
+        figures.append({name: one for name, one in made.items() if one is not None})
+    return tuple(figures)
+
+
+def rasters(meter: Meter) -> Iterator[Raster]:
+    """The rasters of all that a meter took, in the order in which they begin; none where there are no rows."""
+    if not meter.firsts:
+        return
+    words = spans(ints(meter.words), ints(meter.known))
+    damaged = spans(ints(meter.damaged), ints(meter.damaged) + PACKET)
+    for part in parts_of(meter):
+        sides = (edges(part.slice(ints(side)), words, damaged) for side in (meter.hsync, meter.vsync))
+        yield from rasters_of(part, *sides)

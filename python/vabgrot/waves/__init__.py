@@ -1,0 +1,1 @@
+"""Bits out of waveforms and of simulations' dumps."""

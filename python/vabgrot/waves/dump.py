@@ -1,0 +1,133 @@
+"""Value change dumps of simulations (IEEE 1364-2005, clause 18), and FST files by gtkwave's fst2vcd: their variables and changes."""
+
+import difflib
+import re
+import subprocess
+from collections.abc import Container, Iterable, Iterator
+from pathlib import Path
+from typing import NamedTuple
+
+from vabgrot.errors import Refused
+
+PREFIXES = {"": 1, "m": 1e-3, "u": 1e-6, "n": 1e-9, "p": 1e-12, "f": 1e-15}
+MOST_NAMES = 8  # that a refusal lists
+RANGE = re.compile(r"\[-?\d+:-?\d+\]$")  # of a vector's bits, which some simulators write without a space behind its name
+
+
+class Variable(NamedTuple):
+    """A variable of a dump: its scopes and its name with dots between them, the code of its changes, its bits."""
+
+    path: str
+    code: str
+    width: int
+
+    @property
+    def name(self) -> str:
+        return self.path.rpartition(".")[2]
+
+
+class Change(NamedTuple):
+    """A change at a time: of the variable with this code, to digits 0, 1, x and z with the highest bit first. A new time
+    is a change without a code."""
+
+    time: int
+    code: str | None
+    digits: str
+
+
+def lines_of(path: str | Path) -> Iterator[str]:
+    """The lines of a value change dump, or of one that `fst2vcd` makes of an FST file."""
+    with open(path, encoding="ascii", errors="replace") as file:
+        if Path(path).suffix.lower() != ".fst":
+            yield from file
+            return
+    words, nothing = ["fst2vcd", "-f", str(path)], subprocess.DEVNULL
+    try:
+        process = subprocess.Popen(words, stdout=subprocess.PIPE, stderr=nothing, encoding="ascii", errors="replace")
+    except FileNotFoundError:
+        raise Refused(f"{path}: `fst2vcd` of Debian's package gtkwave is wanted to read it, and is missing") from None
+    with process:
+        assert process.stdout
+        yield from process.stdout
+    if process.returncode:
+        raise Refused(f"{path}: fst2vcd ends with status {process.returncode}: it is no FST file, or a broken one")
+
+
+class Dump:
+    """A dump: its variables, and `scale`, the seconds of its unit of time (None where it does not say). The changes are
+    read once, in turn."""
+
+    def __init__(self, path: str | Path) -> None:
+        self.path, self.lines = path, lines_of(path)
+        self.variables: list[Variable] = []
+        self.scopes: list[str] = []
+        self.scale: float | None = None
+        self.read_header()
+
+    def read_header(self) -> None:
+        """Reads up to the changes; raises Refused where these do not come."""
+        words = (word for line in self.lines for word in line.split())
+        for word in words:
+            if word == "$enddefinitions":
+                return
+            if not word.startswith("$"):
+                continue
+            body = []
+            for part in words:
+                if part == "$end":
+                    break
+                body.append(part)
+            self.take(word, body)
+        raise Refused(f"{self.path}: no value change dump: it has no $enddefinitions")
+
+    def take(self, word: str, body: list[str]) -> None:
+        """Takes what stands between a keyword of the header and its $end."""
+        if word == "$timescale":
+            scale = re.fullmatch(r"(\d+)([munpf]?)s", "".join(body))
+            self.scale = int(scale[1]) * PREFIXES[scale[2]] if scale else None
+        elif word == "$scope":
+            self.scopes.append(body[-1] if body else "")
+        elif word == "$upscope" and self.scopes:
+            self.scopes.pop()
+        elif word == "$var" and len(body) >= 4 and body[1].isdecimal():
+            name = RANGE.sub("", body[3])
+            self.variables.append(Variable(".".join([*self.scopes, name]), body[2], int(body[1])))
+
+    def changes(self, codes: Container[str]) -> Iterator[Change]:
+        """Each new time, and the changes of the variables with these codes. A time that goes back is refused."""
+        now = 0
+        for line in self.lines:
+            head = line[0]
+            if head == "#":
+                if not line[1:].strip().isdecimal() or int(line[1:]) < now:
+                    raise Refused(f"{self.path}: `{line[:20].strip()}` is no time behind {now}")
+                now = int(line[1:])
+                yield Change(now, None, "")
+            elif head in "01xXzZ":
+                if (code := line[1:].strip()) in codes:
+                    yield Change(now, code, head)
+            elif head in "bB":
+                digits, _, code = line[1:].strip().partition(" ")
+                if (code := code.strip()) in codes:
+                    yield Change(now, code, digits)
+
+    def find(self, word: str) -> Variable:
+        """The variable that a word names: by its whole path, or by an ending of it that no other variable has. Raises Refused where
+        it names none, or more than one."""
+        same = {it.code: it for it in reversed(self.variables) if it.path == word}
+        found = same or {it.code: it for it in reversed(self.variables) if it.path.endswith(f".{word}")}
+        if len(found) == 1:
+            return found.popitem()[1]
+        if found:
+            raise Refused(f"{self.path}: `{word}` names {len(found)} variables: {some(sorted(it.path for it in found.values()))}")
+        dots = word.count(".") + 1
+        endings = {".".join(it.path.split(".")[-dots:]): it.path for it in reversed(self.variables)}
+        near = [endings[name] for name in difflib.get_close_matches(word, endings, MOST_NAMES, 0.5)]
+        names = f"; near it are {some(near)}" if near else f"; there are {some(it.path for it in self.variables)}"
+        raise Refused(f"{self.path}: there is no variable `{word}`{names}")
+
+
+def some(names: Iterable[str]) -> str:
+    """The first ones of some names, as text."""
+    each = list(dict.fromkeys(names))
+    return ", ".join(each[:MOST_NAMES]) + (" and others" if len(each) > MOST_NAMES else "")

@@ -1,0 +1,1 @@
+"""The tests of the repository, but for those of the crates."""

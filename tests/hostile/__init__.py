@@ -1,0 +1,1 @@
+"""The built program over inputs that are made to harm it."""

@@ -1,0 +1,1 @@
+"""Small models of docs/guide/FORMATS.md, with tables of their own."""

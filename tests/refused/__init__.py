@@ -1,0 +1,1 @@
+"""The built program where what it asks for is refused."""

@@ -1,0 +1,160 @@
+"""vabgrot.lanes.openings and what tools/report advises by it, and what `recover track` sees of lanes that lose bits."""
+
+import re
+import shlex
+from html import unescape
+
+import pytest
+
+
+ACROSS, LINES, FIRST, PIXELS = 80, 12, 48, 30  # columns of a line, lines, the column of the first guard, pixels of a row
+
+
+@pytest.fixture
+def sent(program):
+    """Makes a capture of some rows of unlike pixels, with 48 control columns before each."""
+
+    def make(*words, kind="link"):
+        rows = [f"v {(37 * row + 11) % 256:02x}{(11 * row + 3) % 256:02x}{(5 * row + 7) % 256:02x}" for row in range(LINES)]
+        text = "".join(f"c 00 40\nc {'04' if kind == 'link' else '00'} 8\n{row[:2]}{row[2:] * PIXELS}\n" for row in rows)
+        return program("make", kind, *words, source=f"{text}c 00 40\nend\n".encode())
+
+    return make
+
+
+def place(line, column):
+    """The place of a column of a line, counted from its first guard, in a lane without skew."""
+    return 10 * (ACROSS * line + FIRST + column)
+
+
+def bits_of(tool, capture, folder):
+    paths = [folder / name for name in "bgr"]
+    counts = tool("lanes", "unpack", *paths, source=capture).stdout.decode().split(",")
+    lanes = ["".join(f"{byte:08b}"[::-1] for byte in path.read_bytes()) for path in paths]
+    return [lane[: int(count)] for lane, count in zip(lanes, counts)], paths
+
+
+def packed(tool, lanes, paths):
+    for path, lane in zip(paths, lanes):
+        padded = lane + "0" * (-len(lane) % 8)
+        path.write_bytes(bytes(int(padded[at : at + 8][::-1], 2) for at in range(0, len(padded), 8)))
+    return tool("lanes", "pack", "--bits", ",".join(str(len(lane)) for lane in lanes), *paths).stdout
+
+
+@pytest.fixture
+def advice(tool, tmp_path):
+    """What the report of a capture advises, and the verdict."""
+
+    def read(capture, *words, status=1):
+        pytest.importorskip("jinja2", reason="Debian's package python3-jinja2 is missing")
+        (tmp_path / "a.tmc").write_bytes(capture)
+        tool("report", tmp_path / "a.tmc", "-o", tmp_path / "a.html", *words, status=status)
+        text = (tmp_path / "a.html").read_text()
+        section = re.search(r'<section id="advice".*?</section>', text, re.S)
+        lines = re.findall(r"<li>(.*?)</li>", section[0], re.S) if section else []
+        return [unescape(line).replace("\n", " ") for line in lines], re.search(r"<title>(.*?):", text)[1]
+
+    return read
+
+
+def cut(tool, capture, line, folder):
+    """The capture as the advice says."""
+    (folder / "a.tmc").write_bytes(capture)
+    name, *words, _, _ = shlex.split(re.search(r"“tools/(lanes cut a.tmc .* > cut.tmc)”", line)[1])
+    words[1] = folder / words[1]
+    return tool(name, *words).stdout
+
+
+@pytest.mark.parametrize("skew", [(0, 0, 0), (0, 70, 35), (20, 0, 11)])
+@pytest.mark.parametrize("lane", [0, 1, 2])
+@pytest.mark.parametrize("back", [1, 7])
+def test_a_damaged_control_character_before_the_first_edge(tool, program, sent, advice, tmp_path, skew, lane, back):
+    capture = sent("--offset", 7, "--skew", ",".join(map(str, skew)))
+    hurt = program("damage", f"{lane}:{place(0, -back) - 7 - skew[lane]}:300", source=capture)
+    early = [one + 10 * back * (number == lane) for number, one in enumerate(skew)]
+    if max(early) - min(early) > 70:  # the edge before the damage is of no alignment: the first is at the next row
+        assert advice(hurt, status=0) == ([], "Clean")
+        return
+    lines, verdict = advice(hurt)
+    assert verdict == "Faulty" and len(lines) == 1 and "first alignment was likely wrong" in lines[0]
+    found, right = (",".join(str(one - min(skews)) for one in skews) for skews in (early, skew))
+    assert f"that was found ({found}) " in lines[0] and f"at {right} {LINES - 1} have" in lines[0]
+    whole = cut(tool, hurt, lines[0], tmp_path)
+    assert program("recover", "link", source=whole).count(b"\nv ") == LINES - 1
+    assert advice(whole, status=0) == ([], "Clean")
+
+
+def test_lanes_that_are_too_far_apart(tool, program, sent, advice, tmp_path):
+    lines, verdict = advice(sent("--skew", "0,300,35"))
+    assert verdict == "No alignment" and len(lines) == 1
+    assert f"At the skew 0,300,35 {LINES} openings" in lines[0]
+    assert program("recover", "link", source=cut(tool, (tmp_path / "a.tmc").read_bytes(), lines[0], tmp_path)).count(b"\nv ") == LINES
+
+
+def test_advice_about_dvi_where_it_fits(tool, program, sent, advice):
+    """Where no control period ends in guards; not where they are those of HDMI, at another skew."""
+    lines, _ = advice(sent(kind="dvi"))
+    assert "--dvi" in lines[0] and len(lines) > 4
+    hurt = program("damage", f"1:{place(0, -3)}:133", source=sent())
+    assert not any("--dvi" in line for line in advice(hurt)[0])
+
+
+def test_an_alignment_behind_what_is_looked_at(tool, sent, advice, tmp_path):
+    lanes, paths = bits_of(tool, sent(kind="dvi"), tmp_path)
+    late = packed(tool, ["0" * (1 << 24) + lane for lane in lanes], paths)
+    lines, verdict = advice(late)
+    assert verdict == "Faulty" and len(lines) > 4 and not any("--dvi" in line for line in lines)
+
+
+def test_what_openings_are(sent, tmp_path):
+    pytest.importorskip("numpy", reason="Debian's package python3-numpy is missing")
+    from vabgrot.lanes import openings
+
+    (tmp_path / "a.tmc").write_bytes(sent("--offset", 3, "--skew", "0,70,35"))
+    fits = openings.fits(openings.beginnings(tmp_path / "a.tmc"))
+    places = tuple(place(0, 0) - 3 - late for late in (0, 70, 35))
+    assert fits.found == fits.best and fits.found.made_words == "0,70,35" and fits.later is None
+    assert (fits.found.openings, fits.found.first, fits.found.spread) == (LINES, places, 70)
+    assert fits.found.cut == tuple(at - 120 for at in places)
+    assert openings.fits(openings.beginnings(tmp_path / "a.tmc", 4096)).found.openings == 5
+    (tmp_path / "b.tmc").write_bytes(b"TMC1" + (4000).to_bytes(4, "big") + bytes(1500))
+    assert openings.fits(openings.beginnings(tmp_path / "b.tmc")) is None
+
+
+def slips(track):
+    return [line for line in track.decode().splitlines() if line.startswith("! slip ")]
+
+
+def test_whole_characters_that_are_lost_or_repeated_are_no_slip(tool, program, sent, advice, tmp_path):
+    """Ten bits at once, or in parts within a row. The report sees them by the openings behind."""
+    capture = sent()
+    (blue, green, red), paths = bits_of(tool, capture, tmp_path)
+    at = place(5, 9)
+    lost, again = (packed(tool, [blue, lane, red], paths) for lane in (green[:at] + green[at + 10 :], green[: at + 10] + green[at:]))
+    parts = program("slip", f"1:{place(5, 19)}:7", source=program("slip", f"1:{at}:3", source=capture))
+    for hurt, skew in ((lost, "0,10,0"), (again, "10,0,10"), (parts, "0,10,0")):
+        assert slips(program("recover", "track", source=hurt, status=1)) == []
+        lines, verdict = advice(hurt)
+        assert verdict == "Faulty" and len(lines) == 1
+        assert f"openings fit at the skew 0,0,0 before, and at {skew} behind" in lines[0]
+        assert advice(cut(tool, hurt, lines[0], tmp_path), status=0) == ([], "Clean")
+    rows = program("slip", f"1:{place(6, 9)}:7", source=program("slip", f"1:{at}:3", source=capture))
+    assert len(slips(program("recover", "track", source=rows, status=1))) == 2
+
+
+@pytest.mark.parametrize("lost, rows", [(7, LINES - 7), (8, 0)])
+def test_lost_bits_add_up_to_a_skew(program, sent, lost, rows):
+    """Nine bits in each of the first rows: after seven of them the lanes align anew, 63 bits apart, and not after eight."""
+    capture = sent()
+    for row in range(lost):
+        capture = program("slip", f"1:{place(row, 9) - 9 * row}:9", source=capture)
+    track = program("recover", "track", source=capture, status=1)
+    assert len(slips(track)) == lost and track.count(b"\nv ") == rows
+
+
+@pytest.mark.parametrize("before, rows", [(0, LINES - 1), (1, LINES - 1), (11, LINES - 1), (12, LINES), (20, LINES)])
+def test_a_slip_shortly_before_a_row_costs_it(program, sent, before, rows):
+    """So many whole characters of the lane stand between the slip and the row's guard."""
+    capture = program("slip", f"1:{place(5, -before) - 5}:3", source=sent())
+    track = program("recover", "track", source=capture, status=1)
+    assert len(slips(track)) == 1 and track.count(b"\nv ") == rows

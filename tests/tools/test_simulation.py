@@ -1,0 +1,71 @@
+"""The commands of docs/guide/SIMULATION.md, in a clone of this checkout, as they are printed."""
+
+import os
+import re
+import shutil
+import subprocess
+
+import pytest
+
+from tests.support import HANGS, TOP, built
+from tests.tools.test_installed import PARTS
+
+BLOCKS = re.findall(r"(?ms)^```\n(.*?)^```$", (TOP / "docs" / "guide" / "SIMULATION.md").read_text("utf-8"))
+
+
+@pytest.fixture(scope="module")
+def shell(tmp_path_factory):
+    """Runs a script of bash in a folder in which `vabgrot.git` is this checkout, with its built program; `apt-get` says yes."""
+    for name in ("git", "iverilog", "make"):
+        if not shutil.which(name):
+            pytest.skip(f"{name} of Debian's package {name} is missing")
+    if not built().is_file():
+        pytest.skip(f"there is no program {built()}: `./vabgrot` builds it, or VABGROT_PROGRAM names one")
+    folder = tmp_path_factory.mktemp("walk")
+    top, leave = folder / "vabgrot.git", shutil.ignore_patterns("out", "tests", "__pycache__")
+    top.mkdir()
+    for name in PARTS:
+        shutil.copytree(TOP / name, top / name, ignore=leave) if (TOP / name).is_dir() else shutil.copy(TOP / name, top)
+    (top / "crates" / "hdmi_cli" / "out").mkdir(parents=True)
+    shutil.copy(built(), top / "crates" / "hdmi_cli" / "out" / "hdmi_cli")
+    (folder / "bin").mkdir()
+    (folder / "bin" / "apt-get").write_text("#!/bin/sh\n")
+    (folder / "bin" / "apt-get").chmod(0o755)
+    name = ["-c", "user.name=test", "-c", "user.email=test@localhost"]
+    for words in (["init", "-q"], ["add", "-f", "."], ["commit", "-q", "-m", "all"]):
+        subprocess.run(["git", *name, *words], cwd=top, check=True)
+
+    def run(script, at=folder):
+        env = {"PATH": f"{folder / 'bin'}:/usr/bin:/bin", "HOME": str(folder), "LC_ALL": "C.UTF-8"}
+        words = ["bash", "-eu", "-c", script]
+        came = subprocess.run(words, cwd=at, env=env, capture_output=True, text=True, timeout=HANGS)
+        assert came.returncode == 0, came.stderr
+        return came
+
+    return folder, run
+
+
+def test_from_a_clone_to_a_report(shell):
+    """Five commands; then those of the sink."""
+    folder, run = shell
+    commands, sink = BLOCKS
+    assert len(commands.splitlines()) == 5
+    came = run(commands)
+    assert came.stdout.endswith("clean\n")
+    assert "core.html: 1 frames, 528 packets, 0 faults" in came.stdout + came.stderr
+    page = (folder / "vabgrot" / "core.html").read_text("utf-8")
+    assert "Clean" in page and "640" in page
+    came = run(sink, folder / "vabgrot")
+    assert "differ" not in came.stdout and "EOF" not in came.stderr
+    rows = (folder / "vabgrot" / "examples" / "verilog" / "out" / "rows").read_text()
+    assert rows.count("v ") == 24
+    assert not os.path.exists(folder / "vabgrot" / "crates" / "hdmi_cli" / "src")
+
+
+def test_each_bug_is_in_the_document():
+    text = (TOP / "docs" / "guide" / "SIMULATION.md").read_text("utf-8")
+    planted = set()
+    for path in (TOP / "examples" / "verilog").glob("*.v"):
+        planted |= set(re.findall(r"BUG_(\w+)", path.read_text()))
+    assert len(planted) == 8 and planted == set(re.findall(r"\| `([A-Z_]+)` \|", text))
+    assert planted == set(re.search(r"(?m)^BUGS = (.*)$", (TOP / "examples/verilog/Makefile").read_text())[1].split())

@@ -1,0 +1,1 @@
+"""The package vabgrot, module by module."""
