@@ -414,7 +414,10 @@ def test_contents_that_are_wrong(report, program):
     )
     assert dict(cells) == told and set(told) == {"checksum", "length", "parity", "uneven", "layout", "depth"}
     assert "Contents wrong" in page.text("verdict") and page.text("no-faults") == "No fault was found."
-    says = "The link is clean, its contents are not: 1 length, 1 checksum, 1 parity, 1 layout, 1 uneven, 1 depth."
+    says = (
+        "The link is clean, its contents are not: 1 length, 1 checksum, 1 parity, 1 uneven."
+        " The program does not read, and the page does: 1 layout, 1 depth."
+    )
     assert page.run("return document.querySelector('header .says').textContent") == says
     assert page.run("return document.querySelector('header').className") == "contents" and page.count("contents") == 6
 

@@ -29,10 +29,12 @@ class Fault:
 
 @dataclass(frozen=True)
 class ContentFault:
-    """A kind of fault of what a link carries, and what it says."""
+    """A kind of fault of what a link carries, and what it says. `is_limit`: it is no fault of the source but something that the
+    program does not read, and that the tools do."""
 
     kind: str
     says: str
+    is_limit: bool = False
     hurts_picture: bool = False
     hurts_sound: bool = False
 
@@ -87,9 +89,9 @@ CONTENT = {
         ContentFault("length", "an InfoFrame whose length is not that of its kind"),
         ContentFault("checksum", "an InfoFrame whose bytes do not sum to 0"),
         ContentFault("parity", "a side of a sample whose ones are not even", hurts_sound=True),
-        ContentFault("layout", "samples of more than two channels, which are not read", hurts_sound=True),
+        ContentFault("layout", "samples of more than two channels, which are not read", is_limit=True, hurts_sound=True),
         ContentFault("uneven", "a clock packet whose four copies are not alike", hurts_sound=True),
-        ContentFault("depth", "a depth of colour other than 24 bits"),
+        ContentFault("depth", "a depth of colour other than 24 bits", is_limit=True),
         ContentFault("ragged", "a row that is not as wide as the first of its frame", hurts_picture=True),
         ContentFault("vic", "a frame of another size than its AVI InfoFrame says"),
     )

@@ -156,12 +156,16 @@ def contents_of(path: Path) -> Counter[str]:
 
 def gather(words: list[str], path: Path, bits: int) -> tuple[Found, Album, program.Run]:
     """What the program tells of a capture, its status and its note. Of a capture without slips the faults of its contents
-    are those of `recover content`, which knows of no slips and reads HDMI alone."""
+    are those of `recover content`, which knows of no slips and reads HDMI alone; frames of deep colour, of which it counts the
+    columns, are compared with their InfoFrame by their pixels."""
     with ThreadPoolExecutor(1) as beside:
         contents = beside.submit(contents_of, path) if words[1] != "dvi" else None
         found, album, run = heard(words, path, bits)
         if contents and len(found.epochs) == 1:
+            sizes = found.content_counts["vic"]
             found.content_counts = contents.result()
+            if found.signals.depth:
+                found.content_counts["vic"] = sizes
     return found, album, run
 
 
@@ -235,18 +239,22 @@ def verdict_of(found: Found, run: program.Run, slips: Slips | None) -> dict[str,
         word, sign, kind = "Faulty", "✗", "faulty"
         says = f"The listing tells {faults}: {', '.join(places_of(found))}."
         says += f" {slips}." if slips else ""
-    elif found.content_counts.total():
+    elif wrong := contents_in_words(found, False):
         word, sign, kind = "Contents wrong", "!", "contents"
-        says = f"The link is clean, its contents are not: {', '.join(contents_in_words(found))}."
+        says = f"The link is clean, its contents are not: {', '.join(wrong)}."
     else:
         word, sign, kind = "Clean", "✓", "clean"
         says = "No fault was found: a conforming source could have sent what was received."
+    limits = contents_in_words(found, True)
+    if limits and kind in ("contents", "clean"):
+        says += f" The program does not read, and the page does: {', '.join(limits)}."
     return {"word": word, "sign": sign, "kind": kind, "says": says}
 
 
-def contents_in_words(found: Found) -> list[str]:
-    """How many faults of each kind the contents have."""
-    return [f"{found.content_counts[kind]:,} {kind}" for kind in CONTENT if found.content_counts[kind]]
+def contents_in_words(found: Found, are_limits: bool) -> list[str]:
+    """How many faults of each kind the contents have: those of what the program does not read, or the others."""
+    counts = found.content_counts
+    return [f"{counts[kind]:,} {kind}" for kind, it in CONTENT.items() if counts[kind] and it.is_limit == are_limits]
 
 
 def matrix_of(found: Found) -> list[dict[str, object]]:
