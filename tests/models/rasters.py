@@ -1,5 +1,5 @@
-"""A small model of docs/guide/FORMATS.md for the tests of the built program: the packets and the columns of a content listing that has no wrong
-line and whose packets have room."""
+"""A small model of docs/guide/FORMATS.md for the tests of the built program: the packets and the columns of a content listing that has no
+wrong line and whose packets have room."""
 from tests.models.hearing import packet_columns, pixels_of
 from tests.models.tables import ACTIVE, CONTROL, ISLAND_GUARD, MOST_PACKETS, PORCHES, TERC4, VIDEO_GUARD
 

@@ -117,7 +117,9 @@ vabgrot --version
 """
 
 
-@pytest.mark.skipif("VABGROT_DEBIAN" not in os.environ, reason="VABGROT_DEBIAN names no root that debootstrap made (docs/dev/DEVELOPING.md)")
+@pytest.mark.skipif(
+    "VABGROT_DEBIAN" not in os.environ, reason="VABGROT_DEBIAN names no root that debootstrap made (docs/dev/DEVELOPING.md)"
+)
 def test_in_a_clean_debian(tmp_path):
     """The package in a Debian with nothing else in it: what it depends on is installed with it, and a user without rights
     runs each tool's examples there. Eyes need matplotlib, which is recommended alone. Asks for root and for apt's sources."""

@@ -40,7 +40,7 @@ def test_frames_are_in_their_colours(tool, program, image, tmp_path, words):
     """Colours of two pixels each come back within a step of the limited range."""
     listing = tool("content", image, image, "--mode", MODE, *words).stdout
     capture = program("make", "content", source=listing)
-    text, data = page_of(tool, tmp_path, capture, 1 if "--depth" in words else 0)
+    text, data = page_of(tool, tmp_path, capture, 0)
     assert [(frame["width"], frame["height"]) for frame in data["frames"]] == [(8, 4)] * 2
     shown = [it for it in re.findall(r"data:image/png;base64,([A-Za-z0-9+/=]+)", json.dumps(data["thumbs"]))]
     found = [Image.open(io.BytesIO(base64.b64decode(it))).convert("RGB") for it in shown]

@@ -495,7 +495,7 @@ def plain_of(path: Path, words: list[str], found: Found, run: program.Run, bits:
     faults, says = found.faults, characters.at_faults()
     return {
         "capture": str(path),
-        "faulty": bool(run.status or contents_in_words(found)),
+        "faulty": bool(run.status or contents_in_words(found, False)),
         "verdict": verdict["word"],
         "says": verdict["says"],
         "columns": found.aligned_columns,
@@ -577,7 +577,7 @@ def work(argv: Sequence[str] | None) -> int:
     if output:
         with replacing(output, "w", encoding="utf-8", errors="surrogateescape") as page:
             page.write(page_of(args.capture, words, found, album, run, bits, args.clock))
-    total, contents = found.counts.total(), contents_in_words(found)
+    total, contents = found.counts.total(), contents_in_words(found, False)
     told = f"{len(found.frames)} frames, {len(found.packets)} packets, {total} faults"
     print(f"{output or args.capture}: {told}{', in the contents ' if contents else ''}{', '.join(contents)}", file=sys.stderr)
     return command.FAULTY if run.status or contents else command.DONE
