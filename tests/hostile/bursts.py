@@ -4,6 +4,7 @@ its own, after twelve control columns and before one, has its lines whatever was
     places      a small stream with a burst of each length up to forty columns, at each of its places, of each kind, on one to three lanes
     captures    random captures with bursts
     packets     2,000 packets of which up to three characters of lane 0 and three of lanes 1 and 2 are other TERC4 characters
+    unguarded   random captures with bursts of lines without guard bands
 
 Expected lines are those of the stream that was made, by the rule above; where a character of the period itself was damaged, what the models
 of docs/guide/FORMATS.md say of it."""
@@ -183,10 +184,10 @@ def row_of(it: Period, before: list[Column], received: tuple[Column, ...], first
     return lines
 
 
-def line_as_received(it: Period, received: tuple[Column, ...]) -> bytes:
+def line_as_received(it: Period, received: tuple[Column, ...], guards: int = 2) -> bytes:
     """Each byte as it was sent, but where its own character was damaged."""
     sent = bytes.fromhex(it.lines[0][2:].decode())
-    pairs = zip(sent, *([word for column in row[2:] for word in reversed(column)] for row in (it.columns, received)))
+    pairs = zip(sent, *([word for column in row[guards:] for word in reversed(column)] for row in (it.columns, received)))
     return b"v " + bytes(byte if one == other else model.decoded(other) for byte, one, other in pairs).hex().encode()
 
 
@@ -356,6 +357,9 @@ def captures(program: str, seed: int, count: int) -> Iterator[Case]:
         wanted = [listing, hearing.content_text(columns), hearing.check_text(listing[1]), (listing[0], again)]
         for words, answer in zip((*READERS[:3], FURTHER[3]), wanted):
             yield f"{words} of {name}", run(program, words, data)[:2], answer
+        if not any(end for _, end, _ in model.epochs(lanes)):  # no lane has a stray
+            counted["one epoch"] += 1
+            yield f"recover track of {name}", run(program, FURTHER[0], data)[:2], listing
         yield from compared(program, name, stream, tap, counted)
     print(f"captures: {dict(counted)}")
 
@@ -440,4 +444,43 @@ def change_few(rng: random.Random, stream: Stream, first: int) -> int:
     return len(hits)
 
 
-TABLES = (places, captures, packets)
+def unguarded_stream(rng: random.Random) -> Stream:
+    """A few lines without guard bands, and the control columns around them."""
+    stream = Stream()
+    for _ in range(rng.randrange(3, 9)):
+        text = b"v " + rng.randbytes(3 * rng.choice((3, 4, 20, 90))).hex().encode()
+        stream.add(control(rng.randrange(64), rng.choice((12, 12, 13, 30, 150))))
+        stream.add(Period((text,), tuple(hearing.sent_columns(text, guards=False))))
+    stream.add(control(rng.randrange(64), rng.choice((12, 24))))
+    return stream
+
+
+def unguarded(program: str, seed: int, count: int) -> Iterator[Case]:
+    """Of lines without guard bands those with at most one damaged character a column, after twelve control columns and before one,
+    have their lines; the models say what is written of the whole."""
+    counted = collections.Counter()
+    for case in range(count):
+        rng = random.Random(f"unguarded {seed} {case}")
+        name, stream = f"unguarded capture {case} of seed {seed}", unguarded_stream(rng)
+        tap = random_tap(rng, stream, 900)
+        start = tap.aligned_by(stream) - 12
+        damage(rng, stream, start + 12)
+        lanes, sent = tap.lanes(stream.received), stream.received
+        columns = model.aligned(lanes)
+        yield f"the first alignment of {name}", columns == sent[start : tap.end(len(sent))], True
+        answer = run(program, ["recover", "dvi"], model.capture_of(tap.version, lanes))[:2]
+        yield f"recover dvi of {name}", answer, model.dvi_text(columns)
+        found = Found(answer[1])
+        for it, first in zip(stream.periods, stream.firsts):
+            after = first + len(it.columns)
+            if it.kind == "control" or first - 12 < start or after >= start + len(columns):
+                continue
+            received = tuple(sent[first:after])
+            if all(map(is_control, [*sent[first - 12 : first], sent[after]])) and max(map(unlike, it.columns, received)) <= 1:
+                counted["damaged" if received != it.columns else "as sent"] += 1
+                row = [line_as_received(it, received, 0), *[*model.line_of(list(received), first - start)][1:]]
+                yield f"recover dvi, the line at column {first} of {name}", found.has(row) or row, True
+    print(f"unguarded: {dict(counted)}")
+
+
+TABLES = (places, captures, packets, unguarded)
