@@ -1,13 +1,12 @@
-#!/usr/bin/env python3
-"""The tables of crates/tmds_code, from the coding of tests/model.py: `tables.py NAME` prints one as it stands in the source, and
-`tables.py` compares each with the source, and ends with status 1 where one differs."""
+"""The tables of crates/tmds_code, from the coding of the model beside it: `python3 -m tests.models.coding NAME` prints one as it
+stands in the source, and without a name each is compared with the source; the status is 1 where one differs."""
 import pathlib
 import re
 import sys
 
-import model
+from tests.models import model
 
-SOURCE = pathlib.Path(__file__).resolve().parent.parent / "crates/tmds_code/src"
+SOURCE = pathlib.Path(__file__).resolve().parents[2] / "crates" / "tmds_code" / "src"
 WRONG = 9216
 
 
