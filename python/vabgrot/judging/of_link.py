@@ -96,7 +96,7 @@ def raster(case: Case) -> Verdict:
         return failed("format", "; ".join([*heads, *notes]), first.raster.spans[0][0], len(heads) + len(notes))
     if first.head.is_fault:
         near, wanted = [str(one) for one in first.matched.differences if " active" not in one.name], first.matched.wanted
-        words = f"no format of CTA-861 or VESA DMT has such frames: {first.size}"
+        words = f"no format of CTA-861 or VESA DMT has this raster: {first.size}"
         return unjudged("format", f"{words}; {'; '.join(near)} ({wanted.name})" if wanted and near else words)
     return passed("format", first.head.text) if is_seen(first) else unjudged("format", "no whole line and frame were seen")
 
