@@ -3,6 +3,7 @@ ghost use Rattle.std.specs.Prelude.{◌↔◌, IsTrue};
 ghost use Rattle.audio_out.specs.Subframes.{IsSound};
 
 use super::*;
+use crate::subframe::write_subframe;
 use audio_packets::Sample;
 use std::test::*;
 
