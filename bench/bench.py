@@ -7,7 +7,7 @@ PROGRAM is crates/hdmi_cli/out/hdmi_cli by default; ./vabgrot builds it. The par
 
     instructions  each command's instructions by valgrind's callgrind, a column: the difference of a large and a small input, so
                   that what the start takes is left out. Lines have 1,920 noisy pixels and 280 columns of control and no
-                  island, captures begin with bit 0; frames are of code 16 (1,920 by 1,080). Then what cannot be aligned, and
+                  island, captures begin with bit 0; frames are of code 16 (1,920 by 1,080). Then islands alone, what cannot be aligned, and
                   control columns, through recover link, and lanes that slip every 130 bits through recover track. The same
                   is told of `read biphase` a byte.
     times         each command over LINES lines (4,000 if not given, at least 3) of 5,000 columns, 20,000,000 in all. Lines
@@ -153,7 +153,17 @@ class Bench:
         self.each("recover content", ["recover", "content"], *captures, FRAME_COLUMNS)
         streams = [self.written(inputs.write_stream, f"{frames}.stream", frames) for frames in (192 * 50, 192 * 100)]
         self.each("read biphase", ["read", "biphase"], *streams, 16 * 192 * 50, "byte")
+        self.islands()
         self.unaligned()
+
+    def islands(self):
+        """Of data islands alone."""
+        more = (COUNTED[1] - COUNTED[0]) * (12 + 8 + 2 + 32 * inputs.MOST_PACKETS + 2)
+        listings = [self.written(inputs.write_islands, f"{islands}.islands", islands) for islands in COUNTED]
+        self.each("make link: islands of 18 packets", ["make", "link"], *listings, more)
+        captures = [self.made(["make", "link"], listing, f"{listing}.tmc") for listing in listings]
+        for words in (["recover", "link"], ["check"], ["recover", "content"]):
+            self.each(f"{' '.join(words)}: islands of 18 packets", words, *captures, more)
 
     def unaligned(self):
         """Where nothing aligns, where there are control columns alone, and where lanes slip."""

@@ -14,6 +14,7 @@ PIXELS = 1920
 KINDS = 64  # so many lines of pixels are unlike
 ISLAND = "c 00 12\nc 14 8\ni 00\np {}\ne 00\n"
 ISLAND_COLUMNS = 12 + 8 + 2 + 32 + 2
+MOST_PACKETS = 18
 CONTROL, OTHER = characters.CONTROL[0], 0x100  # a control character, and one that is none
 
 
@@ -34,6 +35,16 @@ def write_listing(path, lines, columns, islands=False):
             kind = line % KINDS
             out.write(f"{packets[kind]}c 00 {quiet}\nc 04 8\nv {pixels[kind]}\nc 00 12\n")
         out.write("end\n")
+
+
+def write_islands(path, islands):
+    """A link listing of data islands of eighteen packets each, with twenty columns of control between them."""
+    noise = random.Random(1)
+    packets = ["".join(f"p {packet(noise)}\n" for _ in range(MOST_PACKETS)) for _ in range(KINDS)]
+    with open(path, "w") as out:
+        for island in range(islands):
+            out.write(f"c 00 12\nc 14 8\ni 00\n{packets[island % KINDS]}e 00\n")
+        out.write("c 00 12\nend\n")
 
 
 def write_dvi(path, lines, columns):
