@@ -444,17 +444,20 @@ def opening_advice(path: Path, found: Found, fits: openings.Fits) -> str | None:
     return f"{says} {CUT.format(name=shlex.quote(path.name), cut=','.join(map(str, fit.cut)))}"
 
 
-def advice_of(path: Path, words: list[str], found: Found, run: program.Run) -> tuple[str, ...]:
-    """What to look at; first whether the lanes were aligned at the right skew, and then whether the source is one of DVI."""
+def advice_of(
+    path: Path, words: list[str], found: Found, run: program.Run, characters: judged.Characters
+) -> tuple[str, ...]:
+    """What to look at: that alone where the lanes were likely aligned at a wrong skew, and else whether the source is one of
+    DVI, and why faults are alike."""
     fits = fits_of(path, words, found, run)
     wrong = opening_advice(path, found, fits) if fits else None
     if wrong:
         return (wrong,)
-    if run.status == program.NO_ALIGNMENT:
-        return ADVICE
-    if found.rows or found.packets or not found.counts["noise", None]:
-        return ()
-    return (DVI_ADVICE, *ADVICE) if fits and not fits.best.guards else ADVICE
+    causes = tuple(characters.causes())
+    if run.status != program.NO_ALIGNMENT and (found.rows or found.packets or not found.counts["noise", None]):
+        return causes
+    is_dvi = run.status != program.NO_ALIGNMENT and fits and not fits.best.guards
+    return (*((DVI_ADVICE,) if is_dvi else ()), *ADVICE, *causes)
 
 
 def page_of(path: Path, words: list[str], found: Found, album: Album, run: program.Run, bits: list[int], clock: int | None) -> str:
@@ -464,7 +467,7 @@ def page_of(path: Path, words: list[str], found: Found, album: Album, run: progr
     record = judged.record_of(found)
     characters = judged.Characters(path, found, record)
     rules = judged.rules_of(record, clock, measured) if words[1] != "dvi" and found.columns else []
-    advice = (*advice_of(path, words, found, run), *characters.causes())
+    advice = advice_of(path, words, found, run, characters)
     return template.render(
         name=path.name,
         link="DVI" if words[1] == "dvi" else "HDMI",
@@ -503,7 +506,7 @@ def plain_of(path: Path, words: list[str], found: Found, run: program.Run, bits:
         "samples": found.sound.samples,
         "bits": bits,
         "slips": str(slips) if slips else None,
-        "advice": [place.named(line) for line in (*advice_of(path, words, found, run), *characters.causes())],
+        "advice": [place.named(line) for line in advice_of(path, words, found, run, characters)],
         "timing": [one.plain() for one in measured[:SIZES]],
         "rules": [one.plain() for one in rules],
         "frames": [

@@ -11,9 +11,10 @@ import time
 from collections import Counter
 from collections.abc import Callable, Iterable, Iterator, Sequence
 from concurrent.futures import ThreadPoolExecutor, as_completed
+from dataclasses import dataclass
 from html import escape
 from pathlib import Path
-from typing import IO, Any, NamedTuple
+from typing import IO, Any
 
 from tqdm import tqdm
 
@@ -45,7 +46,8 @@ KEPT = {*VERDICTS.values(), "contents"}
 Row = dict[str, str | int]  # of the table, by its columns
 
 
-class Asked(NamedTuple):
+@dataclass(frozen=True)
+class Asked:
     """What is asked of each capture beside its faults: whether it is one of DVI, the slips of its lanes, its video timing."""
 
     is_dvi: bool = False
@@ -96,13 +98,14 @@ def timing_of(path: str, words: list[str]) -> Row:
     """The video format of a capture in words, and how many notes on its timing are faults; nothing where numpy or the package is
     missing, as on a worker that does not have it."""
     try:
+        from vabgrot import errors
         from vabgrot.tools import timing
         from vabgrot.video.matching import Rate, timings
     except ImportError:
         return {}
     try:
         found = timings(timing.metered(words, Path(path))[0], Rate())
-    except Refused:
+    except errors.Refused:
         return {}
     notes = [note for one in found for note in (one.head, *one.notes) if note.is_fault]
     return {"format": found[0].head.text if found else "no rows", "timing": len(notes)}
@@ -263,6 +266,11 @@ def here(paths: list[str], program: str, asked: Asked) -> Iterator[Row]:
             raise
 
 
+def judged_there(path: str, program: str, flags: tuple[bool, bool, bool]) -> Row:
+    """The row of a capture on a worker, which is given nothing that this package declares."""
+    return judged(path, program, (), Asked(*flags))
+
+
 def elsewhere(paths: list[str], program: str, scheduler: str, asked: Asked) -> Iterator[Row]:
     """The rows of captures that the workers of a scheduler judge. Dask gives what a lost worker had to another one."""
     try:
@@ -276,7 +284,8 @@ def elsewhere(paths: list[str], program: str, scheduler: str, asked: Asked) -> I
         raise Refused(f"{scheduler}: no scheduler answers ({str(why).splitlines()[0]})") from None
     cloudpickle.register_pickle_by_value(sys.modules[__name__])  # the workers need not have this package
     with client:
-        waits = {client.submit(judged, path, program, (), asked, pure=False, retries=2): path for path in paths}
+        flags = (asked.is_dvi, asked.slips, asked.timing)
+        waits = {client.submit(judged_there, path, program, flags, pure=False, retries=2): path for path in paths}
         for wait in distributed.as_completed(waits):  # type: ignore[no-untyped-call]
             fault = wait.exception()
             if fault is None:
