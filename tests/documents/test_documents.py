@@ -45,7 +45,7 @@ def test_the_readme_names_each_document():
 def test_the_table_of_crates():
     """A row a crate, in the order of crates.txt."""
     crates = re.findall(r"(?m)^(\w+)[^:\n#]*:", (TOP / "crates.txt").read_text("utf-8"))
-    _, _, behind = (TOP / "docs/dev/ARCHITECTURE.md").read_text("utf-8").partition("\n## The crates\n")
+    _, _, behind = (TOP / "docs/proof/PROVED.md").read_text("utf-8").partition("\n## The crates\n")
     rows = re.findall(r"(?m)^\| `(\w+)` \|", behind.partition("\n##")[0])
     assert rows == [crate for crate in crates if not crate.endswith("_tests")]
 
