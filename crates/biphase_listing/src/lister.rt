@@ -6,7 +6,8 @@ ghost use Rattle.outside_io.specs.Causes.{HasCause};
 ghost use Rattle.audio_packets.specs.Samples.{IsSample, IsSamplePacket, packet_with, sample_at};
 ghost use Rattle.audio_packets.specs.declared.sample.Sample.{Sample as SampleType};
 ghost use Rattle.audio_out.specs.Frames.{IsEncoderAfter, biphase};
-ghost use Rattle.period_grammar.specs.Events.{Event, packet as packet_event};
+ghost use Rattle.period_grammar.specs.Events.{Event, packet as packet_event, event_of};
+ghost use Rattle.link_sink.specs.Ears.{both_alone};
 ghost use Rattle.biphase_listing.specs.StreamText.{Recalls, Lists, Breaks};
 
 use arrayvec::ArrayVec;
@@ -92,7 +93,7 @@ impl<'a, K: Sink> BiphaseLister<'a, K> {
     }
 
     /// Hears a packet: one of samples has frames, or has lost a block.
-    fn packet(&mut self, packet: PacketRef<'_>, column: u32) -> Result<(), Failed>
+    fn packet(&mut self, packet: PacketRef<'_>, column: u64) -> Result<(), Failed>
         ensures same { self.new.sink.ghost_name ≡ self.old.sink.ghost_name }
         ensures pair { self.new.pair ≡ self.old.pair }
         ensures ok { (reported : List Event) → Recalls self.old.encoder self.old.pair reported
@@ -110,7 +111,7 @@ impl<'a, K: Sink> BiphaseLister<'a, K> {
     }
 
     /// Writes the frames of a packet of samples, or counts that it has lost a block.
-    fn sound(&mut self, packet: PacketRef<'_>, column: u32) -> Result<(), Failed>
+    fn sound(&mut self, packet: PacketRef<'_>, column: u64) -> Result<(), Failed>
         requires { IsSamplePacket packet.packet.now }
         ensures same { self.new.sink.ghost_name ≡ self.old.sink.ghost_name }
         ensures pair { self.new.pair ≡ self.old.pair }
@@ -187,6 +188,12 @@ impl<'a, K: Sink> Ear for BiphaseLister<'a, K> {
         × (y.pair ≡ x.pair)
         × ((reported : List Event) → Recalls x.encoder x.pair reported → Lists x.pair reported events y.encoder x.faults y.faults (K.held x.sink.now) (K.held y.sink.now)) };
 
+    // The columns of events are made nothing of.
+    ghost took_at = { λ x y events.
+        (y.sink.ghost_name ≡ x.sink.ghost_name)
+        × (y.pair ≡ x.pair)
+        × ((reported : List Event) → Recalls x.encoder x.pair reported → Lists x.pair reported (map event_of events) y.encoder x.faults y.faults (K.held x.sink.now) (K.held y.sink.now)) };
+
     // The sink grew by a part of these bytes, not by all, and nothing was counted.
     ghost broke = { λ x y event.
         (y.sink.ghost_name ≡ x.sink.ghost_name)
@@ -194,7 +201,7 @@ impl<'a, K: Sink> Ear for BiphaseLister<'a, K> {
         × (y.faults ≡ x.faults)
         × ((reported : List Event) → Recalls x.encoder x.pair reported → Breaks x.pair reported event (K.held x.sink.now) (K.held y.sink.now)) };
 
-    fn hear(&mut self, event: EventRef<'_>) -> Result<(), Failed> {
+    fn hear(&mut self, _: u64, event: EventRef<'_>) -> Result<(), Failed> {
         match event {
             EventRef::Packet { packet, column } => self.packet(packet, column),
             EventRef::Run { value: _, count: _ }
@@ -213,4 +220,14 @@ impl<'a, K: Sink> Ear for BiphaseLister<'a, K> {
       then.1 ∙ first.1,
       lists_both x.pair y.pair first.1 x.encoder y.encoder z.encoder x.faults y.faults z.faults (K.held x.sink.now) (K.held y.sink.now) (K.held z.sink.now) h k first.2 then.2,
     ) };
+
+    ghost took_none_at = { λ x. (refl, refl, lists_none x.pair x.encoder x.faults (K.held x.sink.now)) };
+
+    ghost took_both_at = { λ x y z h k first then. both_alone (λ events. (z.sink.ghost_name ≡ x.sink.ghost_name) × (z.pair ≡ x.pair) × ((reported : List Event) → Recalls x.encoder x.pair reported → Lists x.pair reported events z.encoder x.faults z.faults (K.held x.sink.now) (K.held z.sink.now))) h k (
+      then.0 ∙ first.0,
+      then.1 ∙ first.1,
+      lists_both x.pair y.pair first.1 x.encoder y.encoder z.encoder x.faults y.faults z.faults (K.held x.sink.now) (K.held y.sink.now) (K.held z.sink.now) (map event_of h) (map event_of k) first.2 then.2,
+    ) };
+
+    ghost forgets = { λ x y events t. t };
 }

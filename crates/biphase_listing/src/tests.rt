@@ -200,7 +200,7 @@ fn tell(
         symbols: 0,
     };
     let packet = PacketRef::new(&packet, &verdicts);
-    lister.hear(EventRef::Packet { packet, column: 14 })
+    lister.hear(45, EventRef::Packet { packet, column: 14 })
 }
 
 #[test]

@@ -79,7 +79,7 @@ reported_more cs (d ∷ ds) =
           ∙ append_assoc (map event_of (dvi_so_far cs)) one rest.0,
     )
 
-nothing : map event_of (dvi_so_far []) ≡ []
+nothing : dvi_so_far [] ≡ []
 unfolding dvi_so_far so_far_by stretches
 nothing = refl
 
@@ -89,7 +89,7 @@ ended_by cs = end_law dvi_gaps cs (start_of cs) (starts cs)
 
 -- what is reported of columns in a stream without guard columns
 abbrev pub dvi_grammar : Grammar
-dvi_grammar = record { so_far = λ cs. map event_of (dvi_so_far cs); whole = dvi_heard }
+dvi_grammar = record { so_far_at = dvi_so_far; so_far = λ cs. map event_of (dvi_so_far cs); whole = dvi_heard }
 
 pub dvi_is_grammar : IsGrammar dvi_grammar
-dvi_is_grammar = record { none = nothing; more = reported_more; ended = λ cs. (_, ended_by cs); sized = all_are_sized }
+dvi_is_grammar = record { none = nothing; events = λ cs. refl; more = reported_more; ended = λ cs. (_, ended_by cs); sized = all_are_sized }

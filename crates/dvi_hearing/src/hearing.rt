@@ -21,7 +21,7 @@ use tmds_word::{Columns, MOST_COLUMNS, Word};
 /// of one line.
 #[derive(Drop)]
 pub struct DviHearing {
-    columns: u32,
+    columns: u64,
     phase: Phase,
     control: ControlState,
     line: Line,
@@ -141,8 +141,8 @@ impl DviHearing {
         ensures reported { (cs : List Column) → DviHearingRepresents self.old cs → dvi_so_far (cs ++ take result (columns_in columns.entry)) ≡ dvi_so_far cs }
     {
         let count = self.control.count_going_on(columns);
-        self.control.hear_run(count as u32);
-        self.columns += count as u32;
+        self.control.hear_run(count as u64);
+        self.columns += count as u64;
         count
     }
 
@@ -158,7 +158,7 @@ impl DviHearing {
         ensures reported { (cs : List Column) → DviHearingRepresents self.old cs → dvi_so_far (cs ++ take result (columns_in columns.entry)) ≡ dvi_so_far cs }
     {
         let count = self.line.hear_while(columns);
-        self.columns += count as u32;
+        self.columns += count as u64;
         count
     }
 
@@ -177,6 +177,13 @@ impl DviHearing {
             &mut self.notes,
         );
         self.finished = true;
+    }
+
+    /// How many columns were heard.
+    pub fn columns(&self) -> u64
+        ensures { result ≡ self.now.columns }
+    {
+        self.columns
     }
 
     /// How many events the last call reported.

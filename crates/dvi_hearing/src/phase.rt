@@ -23,13 +23,13 @@ use tmds_word::Word;
 #[derive(Clone, Copy, Drop)]
 pub enum Phase {
     Control,
-    Pixels { start: u32 },
+    Pixels { start: u64 },
 }
 
 /// Reports what ends at a control column, and gives what is kept of the control columns that go on.
 pub fn close(
     phase: Phase,
-    n: u32,
+    n: u64,
     value: u8,
     kept: ControlState,
     line: &Line,
@@ -37,7 +37,7 @@ pub fn close(
 ) -> ControlState
     requires room { length notes.old ≤ 0 }
     requires counted { IsCounted kept }
-    requires fits { n + 40 < 2 ^ 32 }
+    requires fits { n + 40 < 2 ^ 64 }
     requires few { kept.columns ≤ n }
     requires placed { IsPlaced phase line.now.count n }
     ensures room { length notes.new ≤ 6 }
@@ -60,12 +60,12 @@ pub fn close(
 }
 
 /// Reports that fewer than twelve control columns stand before a line.
-fn tell_short(columns: u32, start: u32, notes: &mut EventQueue)
+fn tell_short(columns: u64, start: u64, notes: &mut EventQueue)
     requires room { length notes.old ≤ 0 }
     ensures room { length notes.new ≤ 1 }
     ensures reported { (bytes : Lent) → events bytes notes.new ≡ if_not (nat_le 12 columns) (short start) }
 {
-    if columns < RUN {
+    if columns < u64::from(RUN) {
         notes.push(QueuedEvent::Fault(Fault::Short { column: start }));
     }
 }
@@ -73,7 +73,7 @@ fn tell_short(columns: u32, start: u32, notes: &mut EventQueue)
 /// Makes the reports at a column that is no control column, and puts it into the line.
 pub fn go_on(
     phase: Phase,
-    n: u32,
+    n: u64,
     column: &[Word; 3],
     kept: &ControlState,
     line: &mut Line,
@@ -81,7 +81,7 @@ pub fn go_on(
 ) -> Phase
     requires room { length notes.old ≤ 0 }
     requires placed { IsPlaced phase line.old.count n }
-    requires fits { n + 40 < 2 ^ 32 }
+    requires fits { n + 40 < 2 ^ 64 }
     ensures room { length notes.new ≤ 1 }
     ensures placed { IsPlaced result line.new.count (n + 1) }
     ensures reported { (x : Stretch) (b : ℕ) (whole : WholePacket) → IsStretchAfter phase kept.now line.old n x → events (lent line.new.bytes whole) notes.new ≡ gains_by dvi_gaps no_gain false b n (column_of column.now) x }
@@ -102,7 +102,7 @@ pub fn go_on(
 }
 
 /// Reports what is left to report at the end.
-pub fn end(phase: Phase, n: u32, kept: &ControlState, line: &Line, notes: &mut EventQueue)
+pub fn end(phase: Phase, n: u64, kept: &ControlState, line: &Line, notes: &mut EventQueue)
     requires room { length notes.old ≤ 0 }
     ensures room { length notes.new ≤ 1 }
     ensures reported { (x : Stretch) (b : ℕ) (whole : WholePacket) → IsStretchAfter phase kept.now line.now n x → b + length (gap_of x) ≡ n → events (lent line.now.bytes whole) notes.new ≡ ends_by dvi_gaps b x }

@@ -42,6 +42,10 @@ impl Hears for DviHearing {
         self.finish();
     }
 
+    fn columns(&self) -> u64 {
+        self.columns()
+    }
+
     fn tells(&self) -> u8 {
         self.tells()
     }

@@ -11,11 +11,11 @@ use tmds_word::Word;
 /// What is reported, with the size of a line and its first byte in place of the bytes.
 #[derive(Clone, Copy, Debug, PartialEq, Eq)]
 enum Row {
-    Run { value: u8, count: u32 },
+    Run { value: u8, count: u64 },
     Line { bytes: usize, first: u8 },
     Fault(Fault),
-    Cut { column: u32 },
-    Island { first: u32 },
+    Cut { column: u64 },
+    Island { first: u64 },
 }
 
 const CONTROL: [u16; 3] = [0x354, 0x354, 0x354];
@@ -43,10 +43,10 @@ fn row_of(event: EventRef<'_>) -> Row {
         EventRef::Fault(fault) => Row::Fault(fault),
         EventRef::Cut { column } => Row::Cut { column },
         EventRef::Open { sync } | EventRef::Close { sync } => Row::Island {
-            first: u32::from(sync[0]),
+            first: u64::from(sync[0]),
         },
         EventRef::Packet { packet, column } => Row::Island {
-            first: column.max(u32::from(packet.symbols())),
+            first: column.max(u64::from(packet.symbols())),
         },
     }
 }

@@ -67,7 +67,7 @@ impl Frames {
 
     /// Hears a run of `count` control columns. Bit 0 of `value` is HSYNC, bit 1 VSYNC, bits 2 to 5 are CTL0 to
     /// CTL3. The answer is the frame that ends here, if one does.
-    pub fn run(&mut self, value: u8, count: u32) -> Option<FrameNote>
+    pub fn run(&mut self, value: u8, count: u64) -> Option<FrameNote>
         ensures stands { (reported : List FrameEvent) → FramesRepresent self.old reported → FramesRepresent self.new (reported ++ run value count ∷ []) }
         ensures frame { (reported : List FrameEvent) → FramesRepresent self.old reported → result ≡ frame_at reported (run value count) }
     {

@@ -8,13 +8,13 @@ ghost use Rattle.frame_build.specs.FramesRepresent.{IsSyncOf, streak_of};
 use std::marker::Model;
 
 /// How many columns in a row make their VSYNC heard.
-const ENOUGH: u32 = 3;
+const ENOUGH: u64 = 3;
 
 /// How many columns in a row, up to three, have had the VSYNC `level`, and the last VSYNC value heard.
 #[derive(Clone, Copy, Debug)]
 pub struct Sync {
     level: bool,
-    streak: u32,
+    streak: u64,
     heard: Option<bool>,
 }
 
@@ -47,7 +47,7 @@ impl Sync {
     }
 
     /// How many columns in a row, up to three, have this VSYNC after `count` more of them.
-    fn streak_with(&self, vsync: bool, count: u32) -> u32
+    fn streak_with(&self, vsync: bool, count: u64) -> u64
         ensures { (past : List FrameEvent) → IsSyncOf self.now past → result ≡ min (count + streak_of vsync (marks past)) 3 }
     {
         let before = if vsync == self.level { self.streak } else { 0 };
@@ -55,7 +55,7 @@ impl Sync {
     }
 
     /// Hears a run, and answers whether a change is heard at it.
-    pub fn hear(&mut self, value: u8, count: u32) -> bool
+    pub fn hear(&mut self, value: u8, count: u64) -> bool
         ensures after { (past : List FrameEvent) → IsSyncOf self.old past → IsSyncOf self.new (run value count ∷ past) }
         ensures change { (past : List FrameEvent) → IsSyncOf self.old past → result ≡ is_change (run value count) past }
     {

@@ -1,7 +1,9 @@
 //! Writes the listing of what is reported of lanes that may lose bits.
-ghost use Rattle.std.specs.Prelude.{◌≡◌, ℕ, ◌<◌, [], ◌∷◌, length, take, codes, OnOk, OnErr};
+ghost use Rattle.std.specs.Prelude.{◌≡◌, ℕ, ◌<◌, [], ◌∷◌, length, take, codes, OnOk, OnErr, map};
 ghost use Rattle.std.specs.Io.KnownBytes.{Appends};
 ghost use Rattle.outside_io.specs.Causes.{HasCause};
+ghost use Rattle.period_grammar.specs.Events.{event_of};
+ghost use Rattle.link_sink.specs.Ears.{both_alone};
 ghost use Rattle.listing_writer.specs.Texts.{lines_of, fault_lines, counted};
 ghost use Rattle.hdmi_cli.specs.TrackText.{track_event_text, track_lines, track_faults};
 
@@ -49,14 +51,20 @@ impl<'a, K: Sink> Ear for TrackLister<'a, K> {
         × (y.lister.faults ≡ counted x.lister.faults (fault_lines events))
         × Appends (K.held x.lister.sink.now) (K.held y.lister.sink.now) (lines_of events) };
 
+    // The columns of events are made nothing of.
+    ghost took_at = { λ x y events.
+        (y.lister.sink.ghost_name ≡ x.lister.sink.ghost_name)
+        × (y.lister.faults ≡ counted x.lister.faults (fault_lines (map event_of events)))
+        × Appends (K.held x.lister.sink.now) (K.held y.lister.sink.now) (lines_of (map event_of events)) };
+
     // The sink grew by a part of the event's line, and nothing was counted.
     ghost broke = { λ x y event.
         (y.lister.sink.ghost_name ≡ x.lister.sink.ghost_name)
         × (y.lister.faults ≡ x.lister.faults)
         × ((n : ℕ) × (n < length (lines_of (event ∷ []))) × Appends (K.held x.lister.sink.now) (K.held y.lister.sink.now) (take n (lines_of (event ∷ [])))) };
 
-    fn hear(&mut self, event: EventRef<'_>) -> Result<(), Failed> {
-        self.lister.hear(event)
+    fn hear(&mut self, column: u64, event: EventRef<'_>) -> Result<(), Failed> {
+        self.lister.hear(column, event)
     }
 
     ghost took_none = { λ x. (refl, counted_none x.lister.faults, appends_none (K.held x.lister.sink.now)) };
@@ -66,6 +74,16 @@ impl<'a, K: Sink> Ear for TrackLister<'a, K> {
       counted_both x.lister.faults y.lister.faults z.lister.faults h k first.1 then.1,
       appends_both (K.held x.lister.sink.now) (K.held y.lister.sink.now) (K.held z.lister.sink.now) h k first.2 then.2,
     ) };
+
+    ghost took_none_at = { λ x. (refl, counted_none x.lister.faults, appends_none (K.held x.lister.sink.now)) };
+
+    ghost took_both_at = { λ x y z h k first then. both_alone (λ events. (z.lister.sink.ghost_name ≡ x.lister.sink.ghost_name) × (z.lister.faults ≡ counted x.lister.faults (fault_lines events)) × Appends (K.held x.lister.sink.now) (K.held z.lister.sink.now) (lines_of events)) h k (
+      then.0 ∙ first.0,
+      counted_both x.lister.faults y.lister.faults z.lister.faults (map event_of h) (map event_of k) first.1 then.1,
+      appends_both (K.held x.lister.sink.now) (K.held y.lister.sink.now) (K.held z.lister.sink.now) (map event_of h) (map event_of k) first.2 then.2,
+    ) };
+
+    ghost forgets = { λ x y events t. t };
 }
 
 impl<'a, K: Sink> TrackEar for TrackLister<'a, K> {

@@ -187,6 +187,13 @@ impl Deskew {
         first_triple(blue, green, red, places)
     }
 
+    /// Where the lanes are aligned, as the last settling found it.
+    pub fn found(&self) -> Option<Aligned>
+        ensures { result ≡ self.now.found }
+    {
+        self.found
+    }
+
     /// The columns that are aligned and not consumed; none before the alignment.
     pub fn columns(&self) -> Columns<'_>
         ensures count { length (columns_in result) ≡ ready_of self.now }

@@ -17,7 +17,7 @@ const APART: u32 = 111;
 #[derive(Clone, Copy, Debug)]
 pub struct Scout {
     /// The lock, counted from the epoch's first bit.
-    lock: Option<u32>,
+    lock: Option<u64>,
 }
 
 impl Scout {
@@ -30,11 +30,11 @@ impl Scout {
 
     /// Looks at the places from `from` on and before `until`, counted from the first bit that the bytes hold after
     /// `skip` others, and answers the first stray of the epoch; None where it has none before `until`.
-    pub fn seek(&mut self, bytes: &[u8], skip: u32, base: u32, from: u32, until: u32) -> Option<u32>
+    pub fn seek(&mut self, bytes: &[u8], skip: u32, base: u64, from: u32, until: u32) -> Option<u32>
         requires order { from ≤ until }
         requires room { from < until → skip + until + 119 ≤ 8 * length bytes.now }
         requires small { skip + until < 2 ^ 31 }
-        requires total { base + until < 2 ^ 32 }
+        requires total { base + until < 2 ^ 64 }
         ensures within { IfSome result (λ p. p < until) }
         ensures sought { (xs : List Bool) (count : ℕ) → HoldsBits (drop skip (bytes_bits bytes.now)) xs base count → until + 119 ≤ count → HasSought xs (base + from) self.old.lock
             → MatchOption result (HasSought xs (base + until) self.new.lock) (λ p. IsFirstStray xs (base + p)) }
@@ -44,9 +44,10 @@ impl Scout {
             None => match next_past(bytes, skip, from, until, ANY) {
                 None => None,
                 Some(p) => {
-                    self.lock = Some(base + p);
+                    let lock = base + u64::from(p);
+                    self.lock = Some(lock);
                     let next = (p + APART).min(until);
-                    stray_in(bytes, skip, base, next, until, base + p)
+                    stray_in(bytes, skip, base, next, until, lock)
                 }
             },
         }
@@ -54,7 +55,7 @@ impl Scout {
 }
 
 /// The first stray of a lane with a lock, before `until`.
-fn stray_in(bytes: &[u8], skip: u32, base: u32, from: u32, until: u32, lock: u32) -> Option<u32>
+fn stray_in(bytes: &[u8], skip: u32, base: u64, from: u32, until: u32, lock: u64) -> Option<u32>
     requires order { from ≤ until }
     requires room { from < until → skip + until + 119 ≤ 8 * length bytes.now }
     requires small { skip + until < 2 ^ 31 }
@@ -66,9 +67,9 @@ fn stray_in(bytes: &[u8], skip: u32, base: u32, from: u32, until: u32, lock: u32
 }
 
 /// The phase of a lock among places that are counted from another bit.
-fn phase_of(lock: u32, base: u32) -> u32
+fn phase_of(lock: u64, base: u64) -> u32
     ensures phase { (result + base) % 10 ≡ lock % 10 }
     ensures below { result < 10 }
 {
-    (lock % 10 + 10 - base % 10) % 10
+    ((lock % 10 + 10 - base % 10) % 10) as u32
 }

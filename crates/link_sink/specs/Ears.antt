@@ -1,8 +1,14 @@
 -- What an ear heard of a list of events, or of lanes, also where it failed on the way.
-use Rattle.std.specs.Prelude.{◌≡◌, ◌≤◌, List, ◌∷◌, ◌++◌, length}
-use Rattle.period_grammar.specs.Events.{Event}
+use Rattle.std.specs.Prelude.{◌≡◌, ◌≤◌, List, ◌∷◌, ◌++◌, length, map}
+use Rattle.std.proofs.Common.{sym, subst}
+use Rattle.std.proofs.lemmas.List.{map-append}
+use Rattle.period_grammar.specs.Events.{Event, EventAt, event_of}
 use Rattle.link_sink.specs.Grammar.{Grammar}
 use Rattle.link_sink.specs.Sinks.{Fed, IsReportedBy}
+
+-- what holds of events holds of them where their columns are made nothing of
+pub both_alone : (P : List Event → Type 0) (h k : List EventAt) → P (map event_of h ++ map event_of k) → P (map event_of (h ++ k))
+both_alone P h k p = subst P (sym (map-append event_of h k)) p
 
 -- of these events the ear took those before one of them, and broke at that one
 pub record StopsIn {A : Type 0} (took : A → A → List Event → Type 0) (broke : A → A → Event → Type 0) (before now : A) (events : List Event) : Type 0 where

@@ -33,7 +33,7 @@ reported_more cs (d ∷ ds) =
     )
 
 -- before any column nothing is reported
-pub reported_none : map event_of (heard_so_far []) ≡ []
+pub reported_none : heard_so_far [] ≡ []
 unfolding heard_so_far stretches
 reported_none = refl
 
@@ -45,6 +45,7 @@ heard_whole cs = refl
 pub link_is_grammar : IsGrammar link_grammar
 link_is_grammar = record {
   none = reported_none;
+  events = λ cs. refl;
   more = reported_more;
   ended = λ cs. (end_from 0 (stretches cs), heard_whole cs);
   sized = all_are_sized;

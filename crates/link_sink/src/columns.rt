@@ -20,7 +20,7 @@ pub fn hear_columns<H: Hears, E: Ear>(
     requires few { H.counted hearing.old + length (columns_in columns) ≤ MOST_COLUMNS }
     requires heard { (cs : List Column) × H.goes_on hearing.old cs }
     ensures heard { OnOk result ((cs : List Column) → H.goes_on hearing.old cs → H.goes_on hearing.new (cs ++ columns_in columns.entry)) }
-    ensures reported { OnOk result ((cs : List Column) → H.goes_on hearing.old cs → TookMore H.grammar E.took ear.old ear.new cs (columns_in columns.entry)) }
+    ensures reported { OnOk result ((cs : List Column) → H.goes_on hearing.old cs → TookMore H.grammar E.took_at ear.old ear.new cs (columns_in columns.entry)) }
     ensures stopped { OnErr result ((cs : List Column) → H.goes_on hearing.old cs → StoppedIn H.grammar E.took E.broke ear.old ear.new cs (columns_in columns.entry)) }
     ensures cause { HasCause (E.faults ear.old) (E.faults ear.new) result }
 {
@@ -43,7 +43,7 @@ fn hear_part<H: Hears, E: Ear>(
     requires heard { (cs : List Column) × H.goes_on hearing.old cs }
     ensures count { IfOk result (λ n. (0 < n) × (n ≤ length (columns_in columns.entry))) }
     ensures heard { IfOk result (λ n. (cs : List Column) → H.goes_on hearing.old cs → H.goes_on hearing.new (cs ++ take n (columns_in columns.entry))) }
-    ensures reported { IfOk result (λ n. (cs : List Column) → H.goes_on hearing.old cs → TookMore H.grammar E.took ear.old ear.new cs (take n (columns_in columns.entry))) }
+    ensures reported { IfOk result (λ n. (cs : List Column) → H.goes_on hearing.old cs → TookMore H.grammar E.took_at ear.old ear.new cs (take n (columns_in columns.entry))) }
     ensures stopped { OnErr result ((cs : List Column) → H.goes_on hearing.old cs → StoppedIn H.grammar E.took E.broke ear.old ear.new cs (columns_in columns.entry)) }
     ensures cause { HasCause (E.faults ear.old) (E.faults ear.new) result }
 {
@@ -51,7 +51,8 @@ fn hear_part<H: Hears, E: Ear>(
     if went == columns.len() {
         return Ok(went);
     }
+    let column = hearing.columns();
     hearing.hear(&columns.get(went));
-    tell(hearing, ear)?;
+    tell(hearing, column, ear)?;
     Ok(went + 1)
 }

@@ -9,7 +9,7 @@ ghost use Rattle.link_sink.specs.Pieces.{no_bits};
 ghost use Rattle.link_sink.specs.Progress.{columns_from};
 ghost use Rattle.link_sink.specs.Received.{CanFeedLanes, AreFedMore, IsTeamFed, team_fed, longest, ReceiverRepresents, MayPush, HasPushed, end_if};
 
-use lane_deskew::Deskew;
+use lane_deskew::{Aligned, Deskew};
 use lane_team::{Gate, Team};
 use outside_io::NoMemory;
 use std::alloc::Global;
@@ -79,6 +79,13 @@ impl Receiver {
     {
         self.team.feed_in_turn(lanes);
         push_fed(&self.team, &mut self.deskew, lanes)
+    }
+
+    /// Where the lanes are aligned, once they are.
+    pub fn alignment(&self) -> Option<Aligned>
+        ensures { result ≡ self.now.deskew.found }
+    {
+        self.deskew.found()
     }
 
     /// The columns that are not consumed: none before the alignment.

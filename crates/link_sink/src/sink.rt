@@ -1,13 +1,13 @@
 //! A sink of the bits of three lanes, which arrive feed after feed. Of what it took it keeps what is still to be
 //! reported: the last bits of each lane, the characters that wait for those of another lane, and the period
 //! that goes on.
-ghost use Rattle.std.specs.Prelude.{◌≡◌, List, [], true, false, IfOk, OnOk, OnErr};
+ghost use Rattle.std.specs.Prelude.{◌≡◌, List, [], true, false, map, IfOk, OnOk, OnErr};
 ghost use Rattle.outside_io.specs.Causes.{HasCause};
-ghost use Rattle.period_grammar.specs.Events.{Event};
+ghost use Rattle.period_grammar.specs.Events.{Event, EventAt, all_at, event_of};
 ghost use Rattle.link_sink.specs.Ears.{StopsIn};
-ghost use Rattle.link_sink.specs.Sinks.{Fed, grown_by, IsGainBy, IsLastBy};
+ghost use Rattle.link_sink.specs.Sinks.{Fed, grown_by, IsGainBy, IsGainAt, IsLastBy};
 ghost use Rattle.link_sink.specs.Pieces.{no_bits};
-ghost use Rattle.link_sink.specs.Received.{CanFeedLanes, AreFedMore};
+ghost use Rattle.link_sink.specs.Received.{CanFeedLanes, AreFedMore, IsFoundAt};
 ghost use Rattle.link_sink.specs.Streams.{StandsBy, IsHeard, IsAfter, bits_fed, most_bits};
 
 use crate::Ear;
@@ -17,6 +17,7 @@ use crate::hear::Outcome;
 use crate::hears::Hears;
 use crate::receiver::Receiver;
 use crate::telling::hear_end;
+use lane_deskew::Aligned;
 use lane_team::{Gate, Open};
 use outside_io::{Failed, NoMemory};
 use period_grammar::Hearing;
@@ -94,7 +95,15 @@ impl<H: Hears> LaneSink<H> {
         self.is_open
     }
 
-    /// Takes the bits of each lane, and reports to the ear what they decide. A worker of each lane passes the gate. Of a
+    /// Where the lanes are aligned first, in all bits that it was fed; None exactly where they are aligned nowhere. The
+    /// character of column j begins at bit `edge - 120 + 10 * j` of a lane whose edge is `edge`.
+    pub fn alignment(&self) -> Option<Aligned>
+        ensures { (fed : Fed) → StandsBy H.goes_on self.now fed → IsFoundAt fed result }
+    {
+        self.receiver.alignment()
+    }
+
+    /// Takes the bits of each lane, and reports to the ear what they decide, each event at its column. A worker of each lane passes the gate. Of a
     /// lane that had fewer bits than another no more arrive.
     ///
     /// # Errors
@@ -114,6 +123,8 @@ impl<H: Hears> LaneSink<H> {
         ensures fed { (fed : Fed) → StandsBy H.goes_on self.old fed → OnOk result (StandsBy H.goes_on self.new (grown_by fed lanes.entry)) }
         ensures reported { (fed : Fed) → StandsBy H.goes_on self.old fed
             → OnOk result ((events : List Event) × IsGainBy H.grammar fed (grown_by fed lanes.entry) events × E.took ear.old ear.new events) }
+        ensures reported_at { (fed : Fed) → StandsBy H.goes_on self.old fed
+            → OnOk result ((events : List EventAt) × IsGainAt H.grammar fed (grown_by fed lanes.entry) events × E.took_at ear.old ear.new events) }
         ensures spent { OnErr result (self.new.is_open ≡ false) }
         ensures stopped { (fed : Fed) → StandsBy H.goes_on self.old fed
             → OnErr result ((events : List Event) × IsGainBy H.grammar fed (grown_by fed lanes.entry) events × StopsIn E.took E.broke ear.old ear.new events) }
@@ -145,6 +156,8 @@ impl<H: Hears> LaneSink<H> {
         ensures fed { (fed : Fed) → StandsBy H.goes_on self.old fed → OnOk result (StandsBy H.goes_on self.new (grown_by fed lanes.entry)) }
         ensures reported { (fed : Fed) → StandsBy H.goes_on self.old fed
             → OnOk result ((events : List Event) × IsGainBy H.grammar fed (grown_by fed lanes.entry) events × E.took ear.old ear.new events) }
+        ensures reported_at { (fed : Fed) → StandsBy H.goes_on self.old fed
+            → OnOk result ((events : List EventAt) × IsGainAt H.grammar fed (grown_by fed lanes.entry) events × E.took_at ear.old ear.new events) }
         ensures spent { OnErr result (self.new.is_open ≡ false) }
         ensures stopped { (fed : Fed) → StandsBy H.goes_on self.old fed
             → OnErr result ((events : List Event) × IsGainBy H.grammar fed (grown_by fed lanes.entry) events × StopsIn E.took E.broke ear.old ear.new events) }
@@ -181,6 +194,8 @@ impl<H: Hears> LaneSink<H> {
         ensures fed { (fed : Fed) → StandsBy H.goes_on self.old fed → OnOk result (StandsBy H.goes_on self.new (grown_by fed lanes.entry)) }
         ensures reported { (fed : Fed) → StandsBy H.goes_on self.old fed
             → OnOk result ((events : List Event) × IsGainBy H.grammar fed (grown_by fed lanes.entry) events × E.took ear.old ear.new events) }
+        ensures reported_at { (fed : Fed) → StandsBy H.goes_on self.old fed
+            → OnOk result ((events : List EventAt) × IsGainAt H.grammar fed (grown_by fed lanes.entry) events × E.took_at ear.old ear.new events) }
         ensures spent { OnErr result (self.new.is_open ≡ false) }
         ensures stopped { (fed : Fed) → StandsBy H.goes_on self.old fed
             → OnErr result ((events : List Event) × IsGainBy H.grammar fed (grown_by fed lanes.entry) events × StopsIn E.took E.broke ear.old ear.new events) }
@@ -204,6 +219,8 @@ impl<H: Hears> LaneSink<H> {
         ensures closed { self.new.is_open ≡ false }
         ensures reported { (fed : Fed) → StandsBy H.goes_on self.old fed
             → IfOk result (λ outcome. (events : List Event) × IsLastBy H.grammar fed outcome events × E.took ear.old ear.new events) }
+        ensures reported_at { (fed : Fed) → StandsBy H.goes_on self.old fed
+            → IfOk result (λ outcome. (events : List Event) × IsLastBy H.grammar fed outcome events × E.took_at ear.old ear.new (all_at outcome.columns events)) }
         ensures stopped { (fed : Fed) → StandsBy H.goes_on self.old fed
             → OnErr result ((outcome : Outcome) × (events : List Event) × IsLastBy H.grammar fed outcome events × StopsIn E.took E.broke ear.old ear.new events) }
         ensures cause { HasCause (E.faults ear.old) (E.faults ear.new) result }
@@ -228,7 +245,8 @@ fn hear_parts<H: Hears, E: Ear>(
     ensures heard { (before now : Fed) → IsAfter H.goes_on (record { receiver = receiver.old; hearing = hearing.old; outcome = outcome.old }) before now
         → OnOk result (IsHeard H.goes_on (record { receiver = receiver.new; hearing = hearing.new; outcome = outcome.new }) now) }
     ensures reported { (before now : Fed) → IsAfter H.goes_on (record { receiver = receiver.old; hearing = hearing.old; outcome = outcome.old }) before now
-        → OnOk result ((events : List Event) × IsGainBy H.grammar before now events × E.took ear.old ear.new events) }
+        → OnOk result ((events : List EventAt) × IsGainAt H.grammar before now events × IsGainBy H.grammar before now (map event_of events)
+        × E.took_at ear.old ear.new events) }
     ensures stopped { (before now : Fed) → IsAfter H.goes_on (record { receiver = receiver.old; hearing = hearing.old; outcome = outcome.old }) before now
         → OnErr result ((events : List Event) × IsGainBy H.grammar before now events × StopsIn E.took E.broke ear.old ear.new events) }
     ensures team { receiver.new.team ≡ receiver.old.team }
@@ -238,7 +256,7 @@ fn hear_parts<H: Hears, E: Ear>(
     let count = columns.len();
     hear_columns(columns, hearing, ear)?;
     receiver.consume(count);
-    outcome.columns += count as u32;
+    outcome.columns += count as u64;
     Ok(())
 }
 

@@ -1,11 +1,13 @@
 //! Writes the check of what is reported.
-ghost use Rattle.std.specs.Prelude.{◌≡◌, ℕ, ◌<◌, List, [], ◌∷◌, length, take, true, OnOk, OnErr};
+ghost use Rattle.std.specs.Prelude.{◌≡◌, ℕ, ◌<◌, List, [], ◌∷◌, length, take, true, OnOk, OnErr, map};
 ghost use Rattle.std.specs.Io.KnownBytes.{Appends};
 ghost use Rattle.outside_io.specs.Causes.{HasCause};
+ghost use Rattle.period_grammar.specs.Events.{event_of};
+ghost use Rattle.link_sink.specs.Ears.{both_alone};
 ghost use Rattle.listing_writer.specs.Texts.{lines_of, fault_lines, counted};
 ghost use Rattle.listing_writer.specs.Checks.{is_checked, check_lines, verdict_line};
 
-use crate::line::{fault_line, fields_line};
+use crate::line::{fault_line, long_line};
 use crate::lister::{write_line, write_short};
 use link_sink::Ear;
 use outside_io::{Failed, Sink};
@@ -63,13 +65,19 @@ impl<'a, K: Sink> Ear for CheckLister<'a, K> {
         × (y.faults ≡ counted x.faults (fault_lines events))
         × Appends (K.held x.sink.now) (K.held y.sink.now) (check_lines events) };
 
+    // The columns of events are made nothing of.
+    ghost took_at = { λ x y events.
+        (y.sink.ghost_name ≡ x.sink.ghost_name)
+        × (y.faults ≡ counted x.faults (fault_lines (map event_of events)))
+        × Appends (K.held x.sink.now) (K.held y.sink.now) (check_lines (map event_of events)) };
+
     // The sink grew by a part of the line of a fault or of the cut, and nothing was counted.
     ghost broke = { λ x y event.
         (y.sink.ghost_name ≡ x.sink.ghost_name)
         × (y.faults ≡ x.faults)
         × ((n : ℕ) × (n < length (lines_of (event ∷ []))) × (is_checked event ≡ true) × Appends (K.held x.sink.now) (K.held y.sink.now) (take n (lines_of (event ∷ [])))) };
 
-    fn hear(&mut self, event: EventRef<'_>) -> Result<(), Failed> {
+    fn hear(&mut self, _: u64, event: EventRef<'_>) -> Result<(), Failed> {
         match event {
             EventRef::Run { value: _, count: _ }
             | EventRef::Line { pixels: _ }
@@ -79,7 +87,7 @@ impl<'a, K: Sink> Ear for CheckLister<'a, K> {
                 column: _,
             }
             | EventRef::Close { sync: _ } => Ok(()),
-            EventRef::Cut { column } => write_short(self.sink, fields_line(b"cut", &[column])),
+            EventRef::Cut { column } => write_short(self.sink, long_line(b"cut", &[column])),
             EventRef::Fault(fault) => {
                 write_short(self.sink, fault_line(fault))?;
                 self.faults = self.faults().saturating_add(1);
@@ -95,6 +103,16 @@ impl<'a, K: Sink> Ear for CheckLister<'a, K> {
       counted_both x.faults y.faults z.faults h k first.1 then.1,
       checks_both (K.held x.sink.now) (K.held y.sink.now) (K.held z.sink.now) h k first.2 then.2,
     ) };
+
+    ghost took_none_at = { λ x. (refl, counted_none x.faults, checks_none (K.held x.sink.now)) };
+
+    ghost took_both_at = { λ x y z h k first then. both_alone (λ events. (z.sink.ghost_name ≡ x.sink.ghost_name) × (z.faults ≡ counted x.faults (fault_lines events)) × Appends (K.held x.sink.now) (K.held z.sink.now) (check_lines events)) h k (
+      then.0 ∙ first.0,
+      counted_both x.faults y.faults z.faults (map event_of h) (map event_of k) first.1 then.1,
+      checks_both (K.held x.sink.now) (K.held y.sink.now) (K.held z.sink.now) (map event_of h) (map event_of k) first.2 then.2,
+    ) };
+
+    ghost forgets = { λ x y events t. t };
 }
 
 /// The last line, after so many faults.

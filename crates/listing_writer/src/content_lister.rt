@@ -1,8 +1,9 @@
 //! Writes what is reported as pictures and sound.
-ghost use Rattle.std.specs.Prelude.{◌≡◌, ℕ, ◌<◌, List, [], take, codes, OnOk, OnErr};
+ghost use Rattle.std.specs.Prelude.{◌≡◌, ℕ, ◌<◌, List, [], take, codes, OnOk, OnErr, map};
 ghost use Rattle.std.specs.Io.KnownBytes.{Appends};
 ghost use Rattle.outside_io.specs.Causes.{HasCause};
-ghost use Rattle.period_grammar.specs.Events.{Event};
+ghost use Rattle.period_grammar.specs.Events.{Event, event_of};
+ghost use Rattle.link_sink.specs.Ears.{both_alone};
 ghost use Rattle.listing_writer.specs.ContentAdded.{Recalls};
 ghost use Rattle.listing_writer.specs.ContentTaken.{Lists, Breaks};
 
@@ -71,13 +72,18 @@ impl<'a, K: Sink> Ear for ContentLister<'a, K> {
         (y.sink.ghost_name ≡ x.sink.ghost_name)
         × ((reported : List Event) → Recalls x.past reported → Lists reported events y.past x.faults y.faults (K.held x.sink.now) (K.held y.sink.now)) };
 
+    // The columns of events are made nothing of.
+    ghost took_at = { λ x y events.
+        (y.sink.ghost_name ≡ x.sink.ghost_name)
+        × ((reported : List Event) → Recalls x.past reported → Lists reported (map event_of events) y.past x.faults y.faults (K.held x.sink.now) (K.held y.sink.now)) };
+
     // The sink grew by a part of the event's lines, not by all, and nothing was counted.
     ghost broke = { λ x y event.
         (y.sink.ghost_name ≡ x.sink.ghost_name)
         × (y.faults ≡ x.faults)
         × ((reported : List Event) → Recalls x.past reported → Breaks reported event (K.held x.sink.now) (K.held y.sink.now)) };
 
-    fn hear(&mut self, event: EventRef<'_>) -> Result<(), Failed> {
+    fn hear(&mut self, _: u64, event: EventRef<'_>) -> Result<(), Failed> {
         self.lines.clear();
         self.past.hear(event, &mut self.lines);
         write_line(self.sink, self.lines.text())?;
@@ -91,4 +97,13 @@ impl<'a, K: Sink> Ear for ContentLister<'a, K> {
       then.0 ∙ first.0,
       lists_both x.past y.past z.past x.faults y.faults z.faults (K.held x.sink.now) (K.held y.sink.now) (K.held z.sink.now) h k first.1 then.1,
     ) };
+
+    ghost took_none_at = { λ x. (refl, lists_none x.past x.faults (K.held x.sink.now)) };
+
+    ghost took_both_at = { λ x y z h k first then. both_alone (λ events. (z.sink.ghost_name ≡ x.sink.ghost_name) × ((reported : List Event) → Recalls x.past reported → Lists reported events z.past x.faults z.faults (K.held x.sink.now) (K.held z.sink.now))) h k (
+      then.0 ∙ first.0,
+      lists_both x.past y.past z.past x.faults y.faults z.faults (K.held x.sink.now) (K.held y.sink.now) (K.held z.sink.now) (map event_of h) (map event_of k) first.1 then.1,
+    ) };
+
+    ghost forgets = { λ x y events t. t };
 }

@@ -10,7 +10,9 @@ ghost use Rattle.listing_writer.specs.ContentAdded.{Adds};
 
 use crate::content_info::info_line;
 use crate::content_lines::Lines;
-use crate::line::{Line, fields_line, put, put_bytes, put_field, put_hex};
+use crate::line::{
+    Line, fields_line, long_line, put, put_bytes, put_field, put_hex, put_long_field,
+};
 use audio_packets::{AudioFault, Sample, SampleNote, read_acr, samples};
 use bch_block::Verdict;
 use infoframe::{Avi, InfoFault, InfoRef};
@@ -18,7 +20,7 @@ use island_pack::PacketRef;
 
 impl Lines {
     /// Adds what a packet carries, where none of its blocks is lost.
-    pub(crate) fn add_packet(&mut self, packet: PacketRef<'_>, column: u32)
+    pub(crate) fn add_packet(&mut self, packet: PacketRef<'_>, column: u64)
         requires { self.old.text ≡ [] }
         ensures { Adds self.old self.new (packet_lines packet.entry.packet.now packet.entry.verdicts.now column) }
     {
@@ -35,20 +37,20 @@ impl Lines {
         }
     }
 
-    fn add_clock(&mut self, packet: PacketRef<'_>, column: u32)
+    fn add_clock(&mut self, packet: PacketRef<'_>, column: u64)
         requires empty { self.old.text ≡ [] }
         requires clock { IsClockPacket packet.packet.now }
         ensures { Adds self.old self.new (clock_lines column (acr_of packet.entry.packet.now packet.entry.verdicts.now)) }
     {
         match read_acr(packet) {
             Ok(acr) => self.add(fields_line(b"acr", &[acr.n, acr.cts])),
-            Err(AudioFault::Uneven) => self.add_fault(fields_line(b"! uneven", &[column])),
+            Err(AudioFault::Uneven) => self.add_fault(long_line(b"! uneven", &[column])),
             Err(AudioFault::Layout) => {}
             Err(AudioFault::Lost(_)) => {}
         }
     }
 
-    fn add_samples(&mut self, packet: PacketRef<'_>, column: u32)
+    fn add_samples(&mut self, packet: PacketRef<'_>, column: u64)
         requires empty { self.old.text ≡ [] }
         requires audio { IsSamplePacket packet.packet.now }
         ensures { Adds self.old self.new (sample_lines column (samples_of packet.entry.packet.now packet.entry.verdicts.now)) }
@@ -59,13 +61,13 @@ impl Lines {
                     self.add_note(&note, column);
                 }
             }
-            Err(AudioFault::Layout) => self.add_fault(fields_line(b"! layout", &[column])),
+            Err(AudioFault::Layout) => self.add_fault(long_line(b"! layout", &[column])),
             Err(AudioFault::Uneven) => {}
             Err(AudioFault::Lost(_)) => {}
         }
     }
 
-    fn add_note(&mut self, note: &SampleNote, column: u32)
+    fn add_note(&mut self, note: &SampleNote, column: u64)
         requires { length self.old.text + 576 ≤ 24773 }
         ensures size { length self.new.text ≤ length self.old.text + 576 }
         ensures added { Adds self.old self.new (note_lines column note.now) }
@@ -75,7 +77,7 @@ impl Lines {
         self.add_side(column, note.place, b"r", note.right_even);
     }
 
-    fn add_side(&mut self, column: u32, place: u8, side: &[u8], even: bool)
+    fn add_side(&mut self, column: u64, place: u8, side: &[u8], even: bool)
         requires room { length self.old.text + 192 ≤ 24773 }
         requires named { length side.now ≤ 1 }
         ensures size { length self.new.text ≤ length self.old.text + 192 }
@@ -86,24 +88,24 @@ impl Lines {
         }
     }
 
-    fn add_control(&mut self, bodies: &[u8; 28], column: u32)
+    fn add_control(&mut self, bodies: &[u8; 28], column: u64)
         requires { self.old.text ≡ [] }
         ensures { Adds self.old self.new (control_lines column bodies.now) }
     {
         self.add(control_line(bodies));
-        self.add_depth(column, u32::from(bodies[1] % 16));
+        self.add_depth(column, u64::from(bodies[1] % 16));
     }
 
-    fn add_depth(&mut self, column: u32, depth: u32)
+    fn add_depth(&mut self, column: u64, depth: u64)
         requires { length self.old.text + 192 ≤ 24773 }
         ensures { Adds self.old self.new (depth_lines column depth) }
     {
         if !is_usual(depth) {
-            self.add_fault(fields_line(b"! depth", &[column, depth]));
+            self.add_fault(long_line(b"! depth", &[column, depth]));
         }
     }
 
-    fn add_info(&mut self, packet: PacketRef<'_>, column: u32)
+    fn add_info(&mut self, packet: PacketRef<'_>, column: u64)
         requires empty { self.old.text ≡ [] }
         requires info { 0x80 ≤ slice_index packet.packet.now.header 0 }
         ensures { Adds self.old self.new (info_lines column (frame_of packet.entry.packet.now packet.entry.verdicts.now)) }
@@ -114,12 +116,12 @@ impl Lines {
         }
     }
 
-    fn add_info_fault(&mut self, fault: InfoFault, column: u32)
+    fn add_info_fault(&mut self, fault: InfoFault, column: u64)
         requires { self.old.text ≡ [] }
         ensures { Adds self.old self.new (info_lines column (Err fault)) }
     {
         match fault {
-            InfoFault::Length => self.add_fault(fields_line(b"! length", &[column])),
+            InfoFault::Length => self.add_fault(long_line(b"! length", &[column])),
             InfoFault::Checksum(sum) => self.add_fault(checksum_line(column, sum)),
             InfoFault::Lost(_) => {}
         }
@@ -140,7 +142,7 @@ pub(crate) fn read_avi(packet: PacketRef<'_>) -> Option<Avi>
 }
 
 /// Whether a depth of colour is not indicated, or is of 24 bits.
-fn is_usual(depth: u32) -> bool
+fn is_usual(depth: u64) -> bool
     ensures { result ≡ is_usual_depth depth }
 {
     depth == 0 || depth == 4
@@ -193,13 +195,13 @@ fn put_value(line: &mut Line, value: u32)
 
 /// The line of a side that is not even.
 #[tactic(auto, unfolding(crate::specs::ContentText::parity_words))]
-fn parity_line(column: u32, place: u8, side: &[u8]) -> Line
+fn parity_line(column: u64, place: u8, side: &[u8]) -> Line
     requires { length side.now ≤ 1 }
     ensures { result.items ≡ parity_words column place side.now ++ codes "\n" }
 {
     let mut line = Line::new();
     put(&mut line, b"! parity");
-    put_field(&mut line, column);
+    put_long_field(&mut line, column);
     put_field(&mut line, u32::from(place));
     put(&mut line, b" ");
     put(&mut line, side);
@@ -222,12 +224,12 @@ fn control_line(bodies: &[u8; 28]) -> Line
 
 /// The line of an InfoFrame whose bytes have this sum.
 #[tactic(auto, unfolding(crate::specs::ContentText::checksum_words))]
-fn checksum_line(column: u32, sum: u8) -> Line
+fn checksum_line(column: u64, sum: u8) -> Line
     ensures { result.items ≡ checksum_words column sum ++ codes "\n" }
 {
     let mut line = Line::new();
     put(&mut line, b"! checksum");
-    put_field(&mut line, column);
+    put_long_field(&mut line, column);
     put(&mut line, b" ");
     put_hex(&mut line, &[sum]);
     put(&mut line, b"\n");

@@ -10,7 +10,7 @@ ghost use Rattle.listing_writer.specs.ContentAdded.{Recalls, Hears};
 
 use crate::content_lines::Lines;
 use crate::content_packets::read_avi;
-use crate::line::{fault_line, fields_line};
+use crate::line::{fault_line, long_line};
 use frame_build::Frames;
 use frame_build::laws::word_faults_change_nothing;
 use island_pack::PacketRef;
@@ -47,13 +47,13 @@ impl ContentState {
             EventRef::Open { sync: _ } | EventRef::Close { sync: _ } => self.frames.other(),
             EventRef::Cut { column } => {
                 self.frames.other();
-                lines.add(fields_line(b"cut", &[column]));
+                lines.add(long_line(b"cut", &[column]));
             }
             EventRef::Fault(fault) => self.fault(fault, lines),
         }
     }
 
-    fn run(&mut self, value: u8, count: u32, lines: &mut Lines)
+    fn run(&mut self, value: u8, count: u64, lines: &mut Lines)
         requires { lines.old.text ≡ [] }
         ensures { (before : List Event) → Recalls self.old before → Hears before (run value count) self.new lines.old lines.new }
     {
@@ -71,7 +71,7 @@ impl ContentState {
         lines.add_row(pixels, note);
     }
 
-    fn packet(&mut self, packet: PacketRef<'_>, column: u32, lines: &mut Lines)
+    fn packet(&mut self, packet: PacketRef<'_>, column: u64, lines: &mut Lines)
         requires { lines.old.text ≡ [] }
         ensures { (before : List Event) → Recalls self.old before → Hears before (packet_event packet.entry.packet.now packet.entry.verdicts.now column) self.new lines.old lines.new }
     {

@@ -15,13 +15,13 @@ use period_grammar::Fault;
 pub type Line = ArrayVec<u8, 192>;
 
 /// The line of a run of control columns.
-pub(crate) fn run_line(value: u8, count: u32) -> Line
+pub(crate) fn run_line(value: u8, count: u64) -> Line
     ensures { result.items ≡ line_words (run_event value count) ++ codes "\n" }
 {
     let mut line = Line::new();
     put(&mut line, b"c ");
     put_hex(&mut line, &[value]);
-    put_field(&mut line, count);
+    put_long_field(&mut line, count);
     put(&mut line, b"\n");
     line
 }
@@ -63,21 +63,21 @@ pub(crate) fn fault_line(fault: Fault) -> Line
     ensures { result.items ≡ line_words (fault_event fault) ++ codes "\n" }
 {
     match fault {
-        Fault::Word { lane, column } => fields_line(b"! word", &[u32::from(lane), column]),
-        Fault::Short { column } => fields_line(b"! short", &[column]),
-        Fault::Preamble { column } => fields_line(b"! preamble", &[column]),
-        Fault::Noise { column } => fields_line(b"! noise", &[column]),
-        Fault::Empty { column } => fields_line(b"! empty", &[column]),
-        Fault::Code { lane, column } => fields_line(b"! code", &[u32::from(lane), column]),
-        Fault::LongLine { column } => fields_line(b"! longline", &[column]),
-        Fault::Symbols { column, count } => fields_line(b"! symbols", &[column, u32::from(count)]),
+        Fault::Word { lane, column } => long_line(b"! word", &[u64::from(lane), column]),
+        Fault::Short { column } => long_line(b"! short", &[column]),
+        Fault::Preamble { column } => long_line(b"! preamble", &[column]),
+        Fault::Noise { column } => long_line(b"! noise", &[column]),
+        Fault::Empty { column } => long_line(b"! empty", &[column]),
+        Fault::Code { lane, column } => long_line(b"! code", &[u64::from(lane), column]),
+        Fault::LongLine { column } => long_line(b"! longline", &[column]),
+        Fault::Symbols { column, count } => long_line(b"! symbols", &[column, u64::from(count)]),
         Fault::Mended { column, block, bit } => {
-            fields_line(b"! mended", &[column, u32::from(block), u32::from(bit)])
+            long_line(b"! mended", &[column, u64::from(block), u64::from(bit)])
         }
-        Fault::Lost { column, block } => fields_line(b"! lost", &[column, u32::from(block)]),
-        Fault::LongIsland { column } => fields_line(b"! longisland", &[column]),
-        Fault::Broken { column } => fields_line(b"! broken", &[column]),
-        Fault::Guard { column } => fields_line(b"! guard", &[column]),
+        Fault::Lost { column, block } => long_line(b"! lost", &[column, u64::from(block)]),
+        Fault::LongIsland { column } => long_line(b"! longisland", &[column]),
+        Fault::Broken { column } => long_line(b"! broken", &[column]),
+        Fault::Guard { column } => long_line(b"! guard", &[column]),
     }
 }
 
@@ -108,6 +108,20 @@ pub(crate) fn fields_line(name: &[u8], numbers: &[u32]) -> Line
     line
 }
 
+/// A line of a name and numbers, columns among them.
+pub(crate) fn long_line(name: &[u8], numbers: &[u64]) -> Line
+    requires { length name.now + 21 * length numbers.now < 192 }
+    ensures { result.items ≡ with_fields name.now numbers.now ++ codes "\n" }
+{
+    let mut line = Line::new();
+    put(&mut line, name);
+    for number in numbers {
+        put_long_field(&mut line, *number);
+    }
+    put(&mut line, b"\n");
+    line
+}
+
 /// Puts a space and a number's decimal digits.
 pub(crate) fn put_field(line: &mut Line, number: u32)
     requires { array_vec_len line.old + 11 ≤ 192 }
@@ -120,7 +134,7 @@ pub(crate) fn put_field(line: &mut Line, number: u32)
 }
 
 /// Puts a space and a great number's decimal digits.
-fn put_long_field(line: &mut Line, number: u64)
+pub(crate) fn put_long_field(line: &mut Line, number: u64)
     requires { array_vec_len line.old + 21 ≤ 192 }
     ensures items { line.new.items ≡ line.old.items ++ field number }
     ensures len { array_vec_len line.new ≤ array_vec_len line.old + 21 }

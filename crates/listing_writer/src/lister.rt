@@ -1,12 +1,14 @@
 //! Writes the listing of what is reported.
-ghost use Rattle.std.specs.Prelude.{◌≡◌, ℕ, ◌+◌, ◌*◌, ◌≤◌, ◌<◌, List, [], ◌∷◌, ◌++◌, length, take, codes, OnOk, OnErr};
+ghost use Rattle.std.specs.Prelude.{◌≡◌, ℕ, ◌+◌, ◌*◌, ◌≤◌, ◌<◌, List, [], ◌∷◌, ◌++◌, length, take, codes, OnOk, OnErr, map};
 ghost use Rattle.std.specs.Io.KnownBytes.{Appends};
 ghost use Rattle.outside_io.specs.Causes.{HasCause};
+ghost use Rattle.period_grammar.specs.Events.{event_of};
+ghost use Rattle.link_sink.specs.Ears.{both_alone};
 ghost use Rattle.hex.specs.Hex.{encode_lower};
 ghost use Rattle.listing_writer.specs.Texts.{lines_of, fault_lines, counted, slip_text};
 
 use crate::digit_pairs::DigitPairs;
-use crate::line::{Line, fault_line, fields_line, guard_line, packet_line, run_line, slip_line};
+use crate::line::{Line, fault_line, guard_line, long_line, packet_line, run_line, slip_line};
 use link_sink::Ear;
 use outside_io::{Failed, Sink, write_all};
 use period_grammar::EventRef;
@@ -85,13 +87,19 @@ impl<'a, K: Sink> Ear for LinkLister<'a, K> {
         × (y.faults ≡ counted x.faults (fault_lines events))
         × Appends (K.held x.sink.now) (K.held y.sink.now) (lines_of events) };
 
+    // The columns of events are made nothing of.
+    ghost took_at = { λ x y events.
+        (y.sink.ghost_name ≡ x.sink.ghost_name)
+        × (y.faults ≡ counted x.faults (fault_lines (map event_of events)))
+        × Appends (K.held x.sink.now) (K.held y.sink.now) (lines_of (map event_of events)) };
+
     // The sink grew by a part of the event's line, and nothing was counted.
     ghost broke = { λ x y event.
         (y.sink.ghost_name ≡ x.sink.ghost_name)
         × (y.faults ≡ x.faults)
         × ((n : ℕ) × (n < length (lines_of (event ∷ []))) × Appends (K.held x.sink.now) (K.held y.sink.now) (take n (lines_of (event ∷ [])))) };
 
-    fn hear(&mut self, event: EventRef<'_>) -> Result<(), Failed> {
+    fn hear(&mut self, _: u64, event: EventRef<'_>) -> Result<(), Failed> {
         match event {
             EventRef::Run { value, count } => write_short(self.sink, run_line(value, count)),
             EventRef::Line { pixels } => {
@@ -101,7 +109,7 @@ impl<'a, K: Sink> Ear for LinkLister<'a, K> {
             EventRef::Open { sync } => write_short(self.sink, guard_line(b"i ", sync[0], sync[1])),
             EventRef::Packet { packet, column: _ } => write_short(self.sink, packet_line(packet)),
             EventRef::Close { sync } => write_short(self.sink, guard_line(b"e ", sync[0], sync[1])),
-            EventRef::Cut { column } => write_short(self.sink, fields_line(b"cut", &[column])),
+            EventRef::Cut { column } => write_short(self.sink, long_line(b"cut", &[column])),
             EventRef::Fault(fault) => {
                 write_short(self.sink, fault_line(fault))?;
                 self.faults = self.faults().saturating_add(1);
@@ -117,6 +125,16 @@ impl<'a, K: Sink> Ear for LinkLister<'a, K> {
       counted_both x.faults y.faults z.faults h k first.1 then.1,
       appends_both (K.held x.sink.now) (K.held y.sink.now) (K.held z.sink.now) h k first.2 then.2,
     ) };
+
+    ghost took_none_at = { λ x. (refl, counted_none x.faults, appends_none (K.held x.sink.now)) };
+
+    ghost took_both_at = { λ x y z h k first then. both_alone (λ events. (z.sink.ghost_name ≡ x.sink.ghost_name) × (z.faults ≡ counted x.faults (fault_lines events)) × Appends (K.held x.sink.now) (K.held z.sink.now) (lines_of events)) h k (
+      then.0 ∙ first.0,
+      counted_both x.faults y.faults z.faults (map event_of h) (map event_of k) first.1 then.1,
+      appends_both (K.held x.sink.now) (K.held y.sink.now) (K.held z.sink.now) (map event_of h) (map event_of k) first.2 then.2,
+    ) };
+
+    ghost forgets = { λ x y events t. t };
 }
 
 /// Puts the line of pixels at the front of `line`, and says how long it is.

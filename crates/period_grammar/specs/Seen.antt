@@ -1,5 +1,6 @@
 -- What contracts see of a hearing.
 use Rattle.std.specs.Prelude.{◌≡◌, ◌≤◌, ◌+◌, ◌*◌, ℕ, Bool, List, length}
+use Rattle.tmds_word.specs.declared.TheConstants.{MOST_COLUMNS}
 use Rattle.period_grammar.specs.IslandAfter.{IsBlocked}
 use Rattle.period_grammar.specs.declared.island.Island.{Island}
 use Rattle.period_grammar.specs.LineSeen.{LineSeen}
@@ -32,4 +33,4 @@ pub record IsSound (columns : ℕ) (phase : Phase) (control : ControlState) (lin
   pub blocked : IsBlocked island
   pub placed : IsPlaced phase line.count island columns
   pub reported : length notes ≤ 8
-  pub short : columns ≤ 429496730
+  pub short : columns ≤ MOST_COLUMNS

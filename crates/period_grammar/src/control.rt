@@ -21,10 +21,10 @@ use tmds_word::{Columns, Word};
 /// The number of columns, their last run, and how many last columns have its control bits.
 #[derive(Clone, Copy)]
 pub struct ControlState {
-    pub columns: u32,
+    pub columns: u64,
     pub value: u8,
-    pub run: u32,
-    pub ctl_run: u32,
+    pub run: u64,
+    pub ctl_run: u64,
 }
 
 fn ctl_bits(value: u8) -> u8
@@ -50,7 +50,7 @@ impl ControlState {
 
     pub fn hear(&mut self, value: u8)
         requires counted { IsCounted self.old }
-        requires few { self.old.columns + 1 < 2 ^ 32 }
+        requires few { self.old.columns + 1 < 2 ^ 64 }
         ensures counted { IsCounted self.new }
         ensures columns { self.new.columns ≡ self.old.columns + 1 }
         ensures heard { (control : List Column) (c : Column) → value ≡ value_of c → IsControlAfter self.old control → IsControlAfter self.new (control ++ c ∷ []) }
@@ -76,7 +76,7 @@ impl ControlState {
     /// Hears a column of the last run's value.
     pub fn hear_again(&mut self)
         requires counted { IsCounted self.old }
-        requires few { self.old.columns + 1 < 2 ^ 32 }
+        requires few { self.old.columns + 1 < 2 ^ 64 }
         ensures counted { IsCounted self.new }
         ensures columns { self.new.columns ≡ self.old.columns + 1 }
         ensures heard { (control : List Column) (c : Column) → self.old.value ≡ value_of c → IsControlAfter self.old control → IsControlAfter self.new (control ++ c ∷ []) }
@@ -102,9 +102,9 @@ impl ControlState {
     }
 
     /// Hears columns of the last run's value, this many.
-    pub fn hear_run(&mut self, count: u32)
+    pub fn hear_run(&mut self, count: u64)
         requires counted { IsCounted self.old }
-        requires few { self.old.columns + count < 2 ^ 32 }
+        requires few { self.old.columns + count < 2 ^ 64 }
         ensures counted { IsCounted self.new }
         ensures columns { self.new.columns ≡ self.old.columns + count }
         ensures heard { (control cs : List Column) → length cs ≡ count → All (λ c. self.old.value ≡ value_of c) cs → IsControlAfter self.old control → IsControlAfter self.new (control ++ cs) }
@@ -146,12 +146,12 @@ impl ControlState {
         (ctl_bits(self.value) == bits) & (self.ctl_run >= 8)
     }
 
-    fn tell_short(&self, start: u32, is_announced: bool, notes: &mut EventQueue)
+    fn tell_short(&self, start: u64, is_announced: bool, notes: &mut EventQueue)
         requires room { length notes.old ≤ 0 }
         ensures room { length notes.new ≤ 2 }
         ensures reported { (control : List Column) (bits : ℕ) (bytes : Lent) → IsControlAfter self.now control → is_announced ≡ has_preamble bits control → events bytes notes.new ≡ lacks start control bits }
     {
-        if self.columns < RUN {
+        if self.columns < u64::from(RUN) {
             notes.push(QueuedEvent::Fault(Fault::Short { column: start }));
         }
         if !is_announced {
@@ -160,7 +160,7 @@ impl ControlState {
     }
 
     /// Reports what is wrong with the columns before a period that is opened, whose preamble has these control bits.
-    pub fn tell_lacks(&self, start: u32, bits: u8, notes: &mut EventQueue)
+    pub fn tell_lacks(&self, start: u64, bits: u8, notes: &mut EventQueue)
         requires room { length notes.old ≤ 0 }
         ensures room { length notes.new ≤ 2 }
         ensures reported { (control : List Column) (bytes : Lent) → IsControlAfter self.now control → events bytes notes.new ≡ lacks start control bits }

@@ -7,13 +7,13 @@ use std::marker::Model;
 /// An event that was reported, but for the bytes of a line and for a packet.
 #[derive(Clone, Copy, Drop)]
 pub enum QueuedEvent {
-    Run { value: u8, count: u32 },
+    Run { value: u8, count: u64 },
     Line,
     Open { first: u8, second: u8 },
-    Packet { column: u32 },
+    Packet { column: u64 },
     Close { first: u8, second: u8 },
     Fault(Fault),
-    Cut { column: u32 },
+    Cut { column: u64 },
 }
 
 /// Up to eight events.

@@ -23,13 +23,13 @@ use crate::phase::{Phase, close, end, go_on, tell_words};
 use island_pack::PacketRef;
 use std::marker::Model;
 use terc4::is_control_column;
-use tmds_word::{Columns, Word};
+use tmds_word::{Columns, MOST_COLUMNS, Word};
 
 /// Hears the columns of a link one after another. It keeps a few numbers of them, the bytes of one line, and one
 /// packet.
 #[derive(Drop)]
 pub struct Hearing {
-    columns: u32,
+    columns: u64,
     phase: Phase,
     control: ControlState,
     line: Line,
@@ -68,7 +68,7 @@ impl Hearing {
 
     /// Hears one column, the words of lanes 0, 1 and 2; `tells` and `reported` then say what is reported at it.
     pub fn hear(&mut self, column: &[Word; 3])
-        requires few { self.old.columns < 429496730 }
+        requires few { self.old.columns < MOST_COLUMNS }
         requires open { self.old.finished ≡ false }
         ensures columns { self.new.columns ≡ self.old.columns + 1 }
         ensures open { self.new.finished ≡ false }
@@ -85,7 +85,7 @@ impl Hearing {
     /// Hears columns from the first on, as long as they go on with the run, the line or the packet that is open, and answers
     /// how many these are: none where none is open. Nothing is reported. `hear` takes the column that follows.
     pub fn hear_while(&mut self, columns: Columns<'_>) -> usize
-        requires few { self.old.columns + length (columns_in columns) ≤ 429496730 }
+        requires few { self.old.columns + length (columns_in columns) ≤ MOST_COLUMNS }
         requires open { self.old.finished ≡ false }
         ensures within { result ≤ length (columns_in columns.entry) }
         ensures count { (cs : List Column) → HearingRepresents self.old cs → result ≡ count_going_on cs (columns_in columns.entry) }
@@ -114,7 +114,7 @@ impl Hearing {
 
     /// Hears columns as long as they go on, and answers how many these are.
     fn hear_front(&mut self, columns: Columns<'_>) -> usize
-        requires few { self.old.columns + length (columns_in columns) ≤ 429496730 }
+        requires few { self.old.columns + length (columns_in columns) ≤ MOST_COLUMNS }
         ensures within { result ≤ length (columns_in columns.entry) }
         ensures count { (cs : List Column) → HearingRepresents self.old cs → result ≡ count_going_on cs (columns_in columns.entry) }
         ensures columns { self.new.columns ≡ self.old.columns + result }
@@ -135,7 +135,7 @@ impl Hearing {
     /// Hears columns of a control period as long as they go on with its last run, and answers how many these are.
     fn hear_run(&mut self, columns: Columns<'_>) -> usize
         requires phase { self.old.phase ≡ Control }
-        requires few { self.old.columns + length (columns_in columns) ≤ 429496730 }
+        requires few { self.old.columns + length (columns_in columns) ≤ MOST_COLUMNS }
         ensures within { result ≤ length (columns_in columns.entry) }
         ensures count { (cs : List Column) → HearingRepresents self.old cs → result ≡ count_going_on cs (columns_in columns.entry) }
         ensures columns { self.new.columns ≡ self.old.columns + result }
@@ -145,15 +145,15 @@ impl Hearing {
         ensures reported { (cs : List Column) → HearingRepresents self.old cs → heard_so_far (cs ++ take result (columns_in columns.entry)) ≡ heard_so_far cs }
     {
         let count = self.control.count_going_on(columns);
-        self.control.hear_run(count as u32);
-        self.columns += count as u32;
+        self.control.hear_run(count as u64);
+        self.columns += count as u64;
         count
     }
 
     /// Hears pixels of the line that is open, and answers how many these are.
     fn hear_line(&mut self, columns: Columns<'_>) -> usize
         requires phase { (start : ℕ) × (self.old.phase ≡ Video start) }
-        requires few { self.old.columns + length (columns_in columns) ≤ 429496730 }
+        requires few { self.old.columns + length (columns_in columns) ≤ MOST_COLUMNS }
         ensures within { result ≤ length (columns_in columns.entry) }
         ensures count { (cs : List Column) → HearingRepresents self.old cs → result ≡ count_going_on cs (columns_in columns.entry) }
         ensures columns { self.new.columns ≡ self.old.columns + result }
@@ -163,14 +163,14 @@ impl Hearing {
         ensures reported { (cs : List Column) → HearingRepresents self.old cs → heard_so_far (cs ++ take result (columns_in columns.entry)) ≡ heard_so_far cs }
     {
         let count = self.line.hear_while(columns);
-        self.columns += count as u32;
+        self.columns += count as u64;
         count
     }
 
     /// Hears columns of the packet that is being received, and answers how many these are.
     fn hear_packet(&mut self, columns: Columns<'_>) -> usize
         requires phase { (start : ℕ) × (self.old.phase ≡ InIsland start) }
-        requires few { self.old.columns + length (columns_in columns) ≤ 429496730 }
+        requires few { self.old.columns + length (columns_in columns) ≤ MOST_COLUMNS }
         ensures within { result ≤ length (columns_in columns.entry) }
         ensures count { (cs : List Column) → HearingRepresents self.old cs → result ≡ count_going_on cs (columns_in columns.entry) }
         ensures columns { self.new.columns ≡ self.old.columns + result }
@@ -180,13 +180,13 @@ impl Hearing {
         ensures reported { (cs : List Column) → HearingRepresents self.old cs → heard_so_far (cs ++ take result (columns_in columns.entry)) ≡ heard_so_far cs }
     {
         let count = self.island.hear_while(columns);
-        self.columns += count as u32;
+        self.columns += count as u64;
         count
     }
 
     /// Hears a column that goes on with what is open, and says whether it does. Of any other it hears nothing.
     fn hear_on(&mut self, column: &[Word; 3]) -> bool
-        requires { self.old.columns < 429496730 }
+        requires { self.old.columns < MOST_COLUMNS }
         ensures count { (cs : List Column) → HearingRepresents self.old cs → result ≡ goes_on (last (stretches cs)) (column_of column.now) }
         ensures columns { OnTrue result (self.new.columns ≡ self.old.columns + 1) }
         ensures open { self.new.finished ≡ self.old.finished }
@@ -229,7 +229,7 @@ impl Hearing {
     /// Hears a column of any kind, in any phase. It stands apart, so that `hear` is short where nothing is reported.
     #[inline(never)]
     fn hear_any(&mut self, column: &[Word; 3])
-        requires few { self.old.columns < 429496730 }
+        requires few { self.old.columns < MOST_COLUMNS }
         requires open { self.old.finished ≡ false }
         requires room { length self.old.notes ≤ 0 }
         ensures columns { self.new.columns ≡ self.old.columns + 1 }
@@ -284,6 +284,13 @@ impl Hearing {
             &mut self.notes,
         );
         self.finished = true;
+    }
+
+    /// How many columns were heard.
+    pub fn columns(&self) -> u64
+        ensures { result ≡ self.now.columns }
+    {
+        self.columns
     }
 
     /// How many events the last call reported.

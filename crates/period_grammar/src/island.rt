@@ -44,14 +44,14 @@ pub struct WholePacket {
 #[derive(Drop)]
 pub struct Island {
     pub block: [[Word; 3]; 32],
-    pub packets: u32,
+    pub packets: u64,
     pub within: u32,
     pub left: Left,
     pub whole: WholePacket,
 }
 
 /// Reports the verdict on a block, unless it is clean.
-fn tell_block(at: u32, block: u8, verdict: Verdict, notes: &mut EventQueue)
+fn tell_block(at: u64, block: u8, verdict: Verdict, notes: &mut EventQueue)
     requires room { length notes.old < 8 }
     ensures room { length notes.new ≤ length notes.old + 1 }
     ensures reported { (l : Lent) → events l notes.new ≡ events l notes.old ++ block_fault at block verdict }
@@ -68,7 +68,7 @@ fn tell_block(at: u32, block: u8, verdict: Verdict, notes: &mut EventQueue)
 }
 
 /// Reports how many words are no TERC4 words, if there are any.
-fn tell_symbols(at: u32, count: u8, notes: &mut EventQueue)
+fn tell_symbols(at: u64, count: u8, notes: &mut EventQueue)
     requires room { length notes.old < 8 }
     ensures room { length notes.new ≤ length notes.old + 1 }
     ensures reported { (l : Lent) → events l notes.new ≡ events l notes.old ++ if_so (not (count == 0)) (symbols at count) }
@@ -79,7 +79,7 @@ fn tell_symbols(at: u32, count: u8, notes: &mut EventQueue)
 }
 
 /// Reports that a packet is its island's nineteenth.
-fn tell_long(at: u32, packets: u32, notes: &mut EventQueue)
+fn tell_long(at: u64, packets: u64, notes: &mut EventQueue)
     requires room { length notes.old < 8 }
     ensures room { length notes.new ≤ length notes.old + 1 }
     ensures reported { (l : Lent) → events l notes.new ≡ events l notes.old ++ if_so (packets == 18) (long_island at) }
@@ -90,7 +90,7 @@ fn tell_long(at: u32, packets: u32, notes: &mut EventQueue)
 }
 
 /// Reports the words that are no TERC4 words, and the verdicts on the five blocks.
-fn tell_verdicts(at: u32, verdicts: &PacketVerdicts, notes: &mut EventQueue)
+fn tell_verdicts(at: u64, verdicts: &PacketVerdicts, notes: &mut EventQueue)
     requires room { length notes.old ≤ 1 }
     ensures room { length notes.new ≤ 7 }
     ensures reported { (l : Lent) → events l notes.new ≡ events l notes.old ++ packet_faults at verdicts.now }
@@ -105,7 +105,7 @@ fn tell_verdicts(at: u32, verdicts: &PacketVerdicts, notes: &mut EventQueue)
 }
 
 /// Reports a packet that was received whole at a column, after some packets of its island.
-fn tell_packet(at: u32, packets: u32, whole: &WholePacket, notes: &mut EventQueue)
+fn tell_packet(at: u64, packets: u64, whole: &WholePacket, notes: &mut EventQueue)
     requires room { length notes.old ≤ 0 }
     ensures room { length notes.new ≤ 8 }
     ensures reported { (bytes : List ℕ) (p : List Column) → whole.now.packet ≡ packet_of p → whole.now.verdicts ≡ verdicts_of p
@@ -125,7 +125,7 @@ fn taken(columns: &[[Word; 3]; 32]) -> WholePacket
     WholePacket { packet, verdicts }
 }
 
-pub fn tell_guard(is_guard: bool, at: u32, notes: &mut EventQueue)
+pub fn tell_guard(is_guard: bool, at: u64, notes: &mut EventQueue)
     requires room { length notes.old < 8 }
     ensures room { length notes.new ≤ length notes.old + 1 }
     ensures reported { (l : Lent) → events l notes.new ≡ events l notes.old ++ if_so (not is_guard) (guard at) }
@@ -135,7 +135,7 @@ pub fn tell_guard(is_guard: bool, at: u32, notes: &mut EventQueue)
     }
 }
 
-fn tell_empty(none: bool, start: u32, notes: &mut EventQueue)
+fn tell_empty(none: bool, start: u64, notes: &mut EventQueue)
     requires room { length notes.old < 8 }
     ensures room { length notes.new ≤ length notes.old + 1 }
     ensures reported { (l : Lent) → events l notes.new ≡ events l notes.old ++ if_so none (empty start) }
@@ -147,16 +147,16 @@ fn tell_empty(none: bool, start: u32, notes: &mut EventQueue)
 
 /// The guard's two columns: the first by its digit and whether it is a guard column, and the second.
 fn tell_close(
-    start: u32,
-    at: u32,
-    packets: u32,
+    start: u64,
+    at: u64,
+    packets: u64,
     digit: u8,
     guard: bool,
     column: &[Word; 3],
     notes: &mut EventQueue,
 )
     requires room { length notes.old ≤ 0 }
-    requires fits { at + 1 < 2 ^ 32 }
+    requires fits { at + 1 < 2 ^ 64 }
     ensures room { length notes.new ≤ 4 }
     ensures reported { (l : Lent) (c : Column) → digit ≡ sync_digit c.blue → guard ≡ is_island_guard c → events l notes.new ≡ closing_events start at packets c (column_of column.now) }
 {
@@ -264,9 +264,9 @@ impl Island {
     }
 
     /// Hears a column, where the island began at column `start`.
-    pub fn hear(&mut self, start: u32, column: &[Word; 3], notes: &mut EventQueue)
+    pub fn hear(&mut self, start: u64, column: &[Word; 3], notes: &mut EventQueue)
         requires blocked { IsBlocked self.old }
-        requires fits { (start + 2) + (32 * self.old.packets + 2) < 2 ^ 32 }
+        requires fits { (start + 2) + (32 * self.old.packets + 2) < 2 ^ 64 }
         requires room { length notes.old ≤ 0 }
         ensures blocked { IsBlocked self.new }
         ensures packets { 32 * self.new.packets + self.new.within ≤ 32 * self.old.packets + (self.old.within + 1) }
@@ -400,8 +400,8 @@ impl Island {
     }
 
     /// Where the packet or the closing guard begins that is not whole.
-    pub fn broken_at(&self, start: u32) -> Option<u32>
-        requires fits { (start + 2) + 32 * self.now.packets < 2 ^ 32 }
+    pub fn broken_at(&self, start: u64) -> Option<u64>
+        requires fits { (start + 2) + 32 * self.now.packets < 2 ^ 64 }
         ensures { (rest : List Column) (f : ℕ → Event) → IsIslandAfter self.now rest → breaks f start (payload rest) ≡ at_some f result }
     {
         match self.left {

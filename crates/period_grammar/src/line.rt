@@ -17,13 +17,13 @@ use crate::held::Bytes;
 use crate::lane::Lane;
 use std::marker::Model;
 use terc4::is_control_column;
-use tmds_word::{Columns, Word};
+use tmds_word::{Columns, MOST_COLUMNS, Word};
 
 /// The bytes and the judges of the first 4,096 pixels.
 #[derive(Drop)]
 pub struct Line {
     bytes: Bytes,
-    count: u32,
+    count: u64,
     blue: Lane,
     green: Lane,
     red: Lane,
@@ -66,7 +66,7 @@ impl Line {
 
     /// Hears one pixel column.
     pub fn hear(&mut self, column: &[Word; 3])
-        requires { self.old.count + 1 < 2 ^ 32 }
+        requires { self.old.count + 1 < 2 ^ 64 }
         ensures count { self.new.count ≡ self.old.count + 1 }
         ensures heard { (pixels : List Column) → IsLineAfter self.old pixels → IsLineAfter self.new (pixels ++ column_of column.now ∷ []) }
     {
@@ -74,17 +74,17 @@ impl Line {
             self.count += 1;
             return;
         }
-        let pixel = self.count;
+        let pixel = self.count as u32;
         let blue = self.blue.hear(pixel, column::blue(column));
         let green = self.green.hear(pixel, column::green(column));
         let red = self.red.hear(pixel, column::red(column));
         self.bytes.push_three(red, green, blue);
-        self.count = pixel + 1;
+        self.count += 1;
     }
 
     /// Hears columns as long as they are no control columns, and answers how many these are.
     pub fn hear_while(&mut self, columns: Columns<'_>) -> usize
-        requires few { self.old.count + length (columns_in columns) < 2 ^ 32 }
+        requires few { self.old.count + length (columns_in columns) ≤ MOST_COLUMNS }
         ensures within { result ≤ length (columns_in columns.entry) }
         ensures pixels { result ≡ prefix_len is_pixel (columns_in columns.entry) }
         ensures count { self.new.count ≡ self.old.count + result }
@@ -122,17 +122,18 @@ impl Line {
         let fits = columns.len().min(4096 - pixel as usize);
         let (n, balances) = self.bytes.push_groups(columns.first(fits), &from);
         let heard = columns.first(n);
-        self.blue.hear_followed(pixel, heard.blue(), balances.blue);
+        let first = pixel as u32;
+        self.blue.hear_followed(first, heard.blue(), balances.blue);
         self.green
-            .hear_followed(pixel, heard.green(), balances.green);
-        self.red.hear_followed(pixel, heard.red(), balances.red);
-        self.count = pixel + n as u32;
+            .hear_followed(first, heard.green(), balances.green);
+        self.red.hear_followed(first, heard.red(), balances.red);
+        self.count = pixel + n as u64;
         n
     }
 
     /// Hears columns one by one as long as they are no control columns, and answers how many these are.
     fn hear_each(&mut self, columns: Columns<'_>) -> usize
-        requires few { self.old.count + length (columns_in columns) < 2 ^ 32 }
+        requires few { self.old.count + length (columns_in columns) ≤ MOST_COLUMNS }
         ensures within { result ≤ length (columns_in columns.entry) }
         ensures pixels { result ≡ prefix_len is_pixel (columns_in columns.entry) }
         ensures count { self.new.count ≡ self.old.count + result }
@@ -149,9 +150,9 @@ impl Line {
     }
 
     /// Reports the line, whose first pixel is two columns after the start.
-    pub fn tell(&self, start: u32, notes: &mut EventQueue)
+    pub fn tell(&self, start: u64, notes: &mut EventQueue)
         requires room { length notes.old ≤ 0 }
-        requires fits { start + self.now.count + 2 < 2 ^ 32 }
+        requires fits { start + self.now.count + 2 < 2 ^ 64 }
         ensures room { length notes.new ≤ 5 }
         ensures reported { (pixels : List Column) (whole : WholePacket) → IsLineAfter self.now pixels → events (lent self.now.bytes whole) notes.new ≡ line_of start pixels }
     {
@@ -163,9 +164,9 @@ impl Line {
     }
 
     /// Reports the line of a period that begins at the start, and whose first pixel is at column `from`.
-    pub fn tell_pixels(&self, start: u32, from: u32, notes: &mut EventQueue)
+    pub fn tell_pixels(&self, start: u64, from: u64, notes: &mut EventQueue)
         requires room { length notes.old ≤ 1 }
-        requires fits { from + self.now.count < 2 ^ 32 }
+        requires fits { from + self.now.count < 2 ^ 64 }
         ensures room { length notes.new ≤ length notes.old + 5 }
         ensures reported { (pixels : List Column) (whole : WholePacket) → IsLineAfter self.now pixels → events (lent self.now.bytes whole) notes.new ≡ events (lent self.now.bytes whole) notes.old ++ line_at start from pixels }
     {
@@ -184,23 +185,23 @@ impl Line {
         self.bytes.bytes()
     }
 
-    pub fn count(&self) -> u32
+    pub fn count(&self) -> u64
         ensures { result ≡ self.now.count }
     {
         self.count
     }
 }
 
-fn tell_code(lane: u8, from: u32, first: Option<u32>, notes: &mut EventQueue)
+fn tell_code(lane: u8, from: u64, first: Option<u32>, notes: &mut EventQueue)
     requires room { length notes.old < 8 }
-    requires fits { (i : ℕ) → first ≡ Some i → from + i < 2 ^ 32 }
+    requires fits { (i : ℕ) → first ≡ Some i → from + i < 2 ^ 64 }
     ensures room { length notes.new ≤ length notes.old + 1 }
     ensures reported { (bytes : Lent) → events bytes notes.new ≡ events bytes notes.old ++ code_fault lane from first }
 {
     if let Some(i) = first {
         notes.push(QueuedEvent::Fault(Fault::Code {
             lane,
-            column: from + i,
+            column: from + u64::from(i),
         }));
     }
 }

@@ -31,16 +31,16 @@ use tmds_word::Word;
 pub enum Phase {
     Control,
     First {
-        start: u32,
+        start: u64,
         video: u8,
         island: u8,
         digit: u8,
     },
     Video {
-        start: u32,
+        start: u64,
     },
     Island {
-        start: u32,
+        start: u64,
     },
     Noise,
 }
@@ -48,7 +48,7 @@ pub enum Phase {
 /// Reports what ends at a control column, and gives what is kept of the control columns that go on.
 pub fn close(
     phase: Phase,
-    n: u32,
+    n: u64,
     value: u8,
     kept: ControlState,
     line: &Line,
@@ -57,7 +57,7 @@ pub fn close(
 ) -> ControlState
     requires room { length notes.old ≤ 0 }
     requires counted { IsCounted kept }
-    requires fits { n + 40 < 2 ^ 32 }
+    requires fits { n + 40 < 2 ^ 64 }
     requires few { kept.columns ≤ n }
     requires placed { IsPlaced phase line.now.count island.now n }
     ensures room { length notes.new ≤ 5 }
@@ -87,7 +87,7 @@ pub fn close(
     }
 }
 
-fn tell_word(lane: u8, n: u32, word: Word, notes: &mut EventQueue)
+fn tell_word(lane: u8, n: u64, word: Word, notes: &mut EventQueue)
     requires room { length notes.old + length (other_word lane n (is_control word)) ≤ 8 }
     ensures room { length notes.new ≡ length notes.old + length (other_word lane n (is_control word)) }
     ensures reported { (bytes : Lent) → events bytes notes.new ≡ events bytes notes.old ++ other_word lane n (is_control word) }
@@ -98,7 +98,7 @@ fn tell_word(lane: u8, n: u32, word: Word, notes: &mut EventQueue)
 }
 
 /// Reports the word of a control column that is no control word: there is one at most.
-pub fn tell_words(n: u32, column: &[Word; 3], notes: &mut EventQueue)
+pub fn tell_words(n: u64, column: &[Word; 3], notes: &mut EventQueue)
     requires room { length notes.old ≤ 7 }
     requires control { is_control_column (column_of column.now) ≡ true }
     ensures room { length notes.new ≤ length notes.old + 1 }
@@ -112,7 +112,7 @@ pub fn tell_words(n: u32, column: &[Word; 3], notes: &mut EventQueue)
 /// Makes the reports at a column that is no control column.
 pub fn go_on(
     phase: Phase,
-    n: u32,
+    n: u64,
     column: &[Word; 3],
     kept: &ControlState,
     line: &mut Line,
@@ -122,7 +122,7 @@ pub fn go_on(
     requires room { length notes.old ≤ 0 }
     requires placed { IsPlaced phase line.old.count island.old n }
     requires blocked { IsBlocked island.old }
-    requires fits { n + 40 < 2 ^ 32 }
+    requires fits { n + 40 < 2 ^ 64 }
     ensures blocked { IsBlocked island.new }
     ensures room { length notes.new ≤ 8 }
     ensures placed { IsPlaced result line.new.count island.new (n + 1) }
@@ -181,13 +181,13 @@ pub fn go_on(
 /// Reports what is left to report at the end.
 pub fn end(
     phase: Phase,
-    n: u32,
+    n: u64,
     kept: &ControlState,
     line: &Line,
     island: &Island,
     notes: &mut EventQueue,
 )
-    requires fits { n + 40 < 2 ^ 32 }
+    requires fits { n + 40 < 2 ^ 64 }
     requires room { length notes.old ≤ 0 }
     requires placed { IsPlaced phase line.now.count island.now n }
     ensures room { length notes.new ≤ 8 }
@@ -202,7 +202,7 @@ pub fn end(
     }
 }
 
-fn tell_broken(at: Option<u32>, notes: &mut EventQueue)
+fn tell_broken(at: Option<u64>, notes: &mut EventQueue)
     requires room { length notes.old ≤ 0 }
     ensures room { length notes.new ≤ 1 }
     ensures reported { (bytes : Lent) → events bytes notes.new ≡ at_some broken at }
@@ -212,7 +212,7 @@ fn tell_broken(at: Option<u32>, notes: &mut EventQueue)
     }
 }
 
-fn tell_cut(at: Option<u32>, notes: &mut EventQueue)
+fn tell_cut(at: Option<u64>, notes: &mut EventQueue)
     requires room { length notes.old ≤ 0 }
     ensures room { length notes.new ≤ 1 }
     ensures reported { (bytes : Lent) → events bytes notes.new ≡ at_some cut at }

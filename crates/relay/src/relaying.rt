@@ -1,12 +1,13 @@
 //! A repeater of what a link says.
-ghost use Rattle.std.specs.Prelude.{◌≡◌, ℕ, ◌+◌, ◌-◌, ◌*◌, ◌/◌, ◌%◌, ◌^◌, ◌<◌, ◌≤◌, ◌++◌, ◌∷◌, [], List, Bool, true, All, length, max, min, nat_lt, take, Option, Some, None, not, OnOk, OnErr, IfOk, IfErr, IsTrue, MatchResult};
+ghost use Rattle.std.specs.Prelude.{◌≡◌, ℕ, ◌+◌, ◌-◌, ◌*◌, ◌/◌, ◌%◌, ◌^◌, ◌<◌, ◌≤◌, ◌++◌, ◌∷◌, [], List, Bool, true, All, length, max, min, nat_lt, take, Option, Some, None, not, OnOk, OnErr, IfOk, IfErr, IsTrue, MatchResult, map};
 ghost use Rattle.std.specs.List.{fold};
 ghost use Rattle.island_pack.specs.Periods.{DataIsland, columns_of};
 ghost use Rattle.island_pack.specs.Conforming.{is_sync_pair};
 ghost use Rattle.island_pack.specs.Packets.{IsPacket};
 ghost use Rattle.island_pack.specs.declared.ranges.TheConstants.{COLUMN_LIMIT};
 ghost use Rattle.outside_io.specs.Causes.{HasCause};
-ghost use Rattle.period_grammar.specs.Events.{Event, line};
+ghost use Rattle.period_grammar.specs.Events.{Event, line, event_of};
+ghost use Rattle.link_sink.specs.Ears.{both_alone};
 ghost use Rattle.period_grammar.specs.Lending.{lent_event};
 ghost use Rattle.period_grammar.specs.Sizes.{IsSized};
 ghost use Rattle.relay.specs.declared.relaying.RelayFault.{RelayFault};
@@ -128,11 +129,13 @@ impl Relay {
     }
 
     /// Takes control columns of one value.
-    fn run(&mut self, value: u8, count: u32) -> Result<(), RelayFault>
+    fn run(&mut self, value: u8, count: u64) -> Result<(), RelayFault>
         ensures steps { (t : Alternation) (b : Option Begun) (good : Bool) → IsAt self.old t b good → Steps self.new result (joined t (some_columns (record { value = value; count = count }))) None good }
         ensures same { (self.new.trouble ≡ self.old.trouble) × (self.new.faults ≡ self.old.faults) }
     {
         self.island = None;
+        // a longer run is too long in any case
+        let count = u32::try_from(count).unwrap_or(u32::MAX);
         let period = u64::from(self.period_columns) + u64::from(count);
         if is_long(self.columns, period, 0) {
             return Err(RelayFault::Long);
@@ -318,11 +321,14 @@ impl Ear for Relay {
     // It stands for each list that it stood for, and these events after it.
     ghost took = { Took };
 
+    // The columns of events are made nothing of.
+    ghost took_at = { λ x y events. Took x y (map event_of events) };
+
     // It has failed: what is relayed would be too long, or memory was wanting.
     ghost broke = { Broke };
 
     /// Takes an event. After a failure it takes no more: each further call fails and changes nothing but the count.
-    fn hear(&mut self, event: EventRef<'_>) -> Result<(), Failed>
+    fn hear(&mut self, _: u64, event: EventRef<'_>) -> Result<(), Failed>
         requires { IsSized (lent_event event) }
         ensures ok { OnOk result (Took self.old self.new (lent_event event.entry ∷ [])) }
         ensures err { OnErr result (Broke self.old self.new (lent_event event.entry)) }
@@ -347,4 +353,10 @@ impl Ear for Relay {
     ghost took_none = { λ x. (λ event s. subst (RelayRepresents x) (sym (append-nil event)) s, refl) };
 
     ghost took_both = { λ x y z h k f g. (λ event s. subst (RelayRepresents z) (append_assoc event h k) (g.0 (event ++ h) (f.0 event s)), g.1 ∙ f.1) };
+
+    ghost took_none_at = { λ x. (λ event s. subst (RelayRepresents x) (sym (append-nil event)) s, refl) };
+
+    ghost took_both_at = { λ x y z h k f g. both_alone (Took x z) h k (λ event s. subst (RelayRepresents z) (append_assoc event (map event_of h) (map event_of k)) (g.0 (event ++ map event_of h) (f.0 event s)), g.1 ∙ f.1) };
+
+    ghost forgets = { λ x y events t. t };
 }

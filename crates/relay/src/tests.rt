@@ -8,7 +8,7 @@ use std::alloc::Global;
 use std::test::*;
 
 /// Why a relay failed to which runs of so many columns were reported, one after the other, and whether it took the last of them.
-fn hear_runs(alloc: Global, counts: &[u32]) -> (bool, Option<RelayFault>)
+fn hear_runs(alloc: Global, counts: &[u64]) -> (bool, Option<RelayFault>)
     requires { All (λ count. 1 ≤ count) counts.now }
 {
     let mut relay = Relay::open(alloc);
@@ -18,7 +18,7 @@ fn hear_runs(alloc: Global, counts: &[u32]) -> (bool, Option<RelayFault>)
             value: 0,
             count: *count,
         };
-        taken = relay.hear(run).is_ok();
+        taken = relay.hear(0, run).is_ok();
     }
     (taken, relay.trouble())
 }
@@ -32,5 +32,6 @@ fn passes_the_limit(rt: HostRuntime) -> Result<(), Fail> {
     assert_eq!(rt; hear_runs(a, &[19_999_999, 1]), (true, None));
     assert_eq!(rt; hear_runs(a, &[19_999_999, 2]), long);
     assert_eq!(rt; hear_runs(a, &[20_000_001, 1]), long);
+    assert_eq!(rt; hear_runs(a, &[1 << 32]), long);
     Ok(())
 }

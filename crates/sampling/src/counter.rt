@@ -74,7 +74,7 @@ impl Counter {
         }
     }
 
-    fn run(&mut self, value: u8, count: u32)
+    fn run(&mut self, value: u8, count: u64)
         ensures { (before : List Event) → Counted self.old before → Counted self.new (before ++ run value count ∷ []) }
     {
         if self.heard.run(value, count).is_some() {

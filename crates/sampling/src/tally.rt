@@ -1,6 +1,7 @@
 //! Counts what is reported of the generator's content.
-ghost use Rattle.std.specs.Prelude.{◌≡◌, ◌+◌, ◌-◌, ◌++◌, [], List};
-ghost use Rattle.period_grammar.specs.Events.{Event};
+ghost use Rattle.std.specs.Prelude.{◌≡◌, ◌+◌, ◌-◌, ◌++◌, [], List, map};
+ghost use Rattle.period_grammar.specs.Events.{Event, event_of};
+ghost use Rattle.link_sink.specs.Ears.{both_alone};
 ghost use Rattle.sampling.specs.Counts.{counts_of};
 ghost use Rattle.sampling.specs.Tallies.{Stands};
 
@@ -31,12 +32,12 @@ impl<'a> Tally<'a> {
     }
 
     /// The counts, for so many columns.
-    pub fn counts(&self, columns: u32) -> Counts
+    pub fn counts(&self, columns: u64) -> Counts
         ensures { (reported : List Event) → Stands self.now reported → result ≡ counts_of columns reported }
     {
         let counter = &self.counter;
         Counts {
-            columns: u64::from(columns),
+            columns,
             frames: counter.frames,
             rows: counter.rows,
             packets: counter.packets,
@@ -70,15 +71,24 @@ impl<'a> Ear for Tally<'a> {
     // What stood for all that was reported before stands for the events too.
     ghost took = { λ x y events. (reported : List Event) → Stands x reported → Stands y (reported ++ events) };
 
+    // The columns of events are made nothing of.
+    ghost took_at = { λ x y events. (reported : List Event) → Stands x reported → Stands y (reported ++ (map event_of events)) };
+
     // A steady sink never fails.
     ghost broke = { λ x y event. ⊥ };
 
-    fn hear(&mut self, event: EventRef<'_>) -> Result<(), Failed> {
+    fn hear(&mut self, column: u64, event: EventRef<'_>) -> Result<(), Failed> {
         self.counter.hear(&event);
-        self.lister.hear(event)
+        self.lister.hear(column, event)
     }
 
     ghost took_none = { λ x. stands_none x };
 
     ghost took_both = { λ x y z h k first then. stands_both x y z h k first then };
+
+    ghost took_none_at = { λ x. stands_none x };
+
+    ghost took_both_at = { λ x y z h k first then. both_alone (λ events. (reported : List Event) → Stands x reported → Stands z (reported ++ events)) h k (stands_both x y z (map event_of h) (map event_of k) first then) };
+
+    ghost forgets = { λ x y events t. t };
 }

@@ -14,14 +14,14 @@ use std::test::Fail;
 #[derive(Clone, Copy)]
 enum Step {
     /// Control columns of a value.
-    Run(u8, u32),
+    Run(u8, u64),
     Pixels(&'static [u8]),
     Open,
     /// A packet at column 14: its header, the first byte of its bodies, and the verdict on its first block.
     Packet([u8; 3], u8, Verdict),
     Close,
     Wrong(Fault),
-    Cut(u32),
+    Cut(u64),
 }
 
 /// Rows 0 and 1 of the generator's frame 1 begin c9 74 1f cc 77 22 and d0 7b 26, row 0 of its frame 2 e8 93 3e.
@@ -106,7 +106,7 @@ fn tell_packet<E: Ear>(
         symbols: 0,
     };
     let packet = PacketRef::new(&packet, &verdicts);
-    ear.hear(EventRef::Packet { packet, column: 14 })
+    ear.hear(0, EventRef::Packet { packet, column: 14 })
 }
 
 /// Reports to an ear a line of whole pixels.
@@ -115,12 +115,12 @@ fn tell_line<E: Ear>(ear: &mut E, pixels: &[u8]) -> Result<(), Failed>
     requires some { 3 ≤ length pixels.now }
     requires few { length pixels.now ≤ 12288 }
 {
-    ear.hear(EventRef::Line { pixels })
+    ear.hear(0, EventRef::Line { pixels })
 }
 
 /// Reports to an ear a fault.
 fn tell_fault<E: Ear>(ear: &mut E, fault: Fault) -> Result<(), Failed> {
-    ear.hear(EventRef::Fault(fault))
+    ear.hear(0, EventRef::Fault(fault))
 }
 
 /// Reports to an ear one event.
@@ -128,18 +128,18 @@ fn tell<E: Ear>(rt: &impl Abort, ear: &mut E, step: Step) {
     let answer = match step {
         Step::Run(value, count) => {
             assert!(rt; value < 64 && count >= 1);
-            ear.hear(EventRef::Run { value, count })
+            ear.hear(0, EventRef::Run { value, count })
         }
         Step::Pixels(pixels) => {
             let size = pixels.len();
             assert!(rt; size % 3 == 0 && size >= 3 && size <= 12_288);
             tell_line(ear, pixels)
         }
-        Step::Open => ear.hear(EventRef::Open { sync: [1, 2] }),
+        Step::Open => ear.hear(0, EventRef::Open { sync: [1, 2] }),
         Step::Packet(header, first, verdict) => tell_packet(ear, header, first, verdict),
-        Step::Close => ear.hear(EventRef::Close { sync: [0, 3] }),
+        Step::Close => ear.hear(0, EventRef::Close { sync: [0, 3] }),
         Step::Wrong(fault) => tell_fault(ear, fault),
-        Step::Cut(column) => ear.hear(EventRef::Cut { column }),
+        Step::Cut(column) => ear.hear(0, EventRef::Cut { column }),
     };
     assert_eq!(rt; answer, Ok(()));
 }

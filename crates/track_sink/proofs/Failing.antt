@@ -1,4 +1,6 @@
 -- What was reported to an ear where it failed: the first events of those that were to be reported.
+use Rattle.lane_align.specs.declared.TheConstants.{FEED_BITS}
+use Rattle.track_sink.specs.declared.TheConstants.{HELD_BACK}
 use Rattle.std.proofs.Common.{◌≡◌, ◌↔◌, ℕ, suc, zero, ◌+◌, ◌-◌, ◌*◌, ◌/◌, ◌%◌, ◌<◌, ◌≤◌, max, Bool, true, false, ◌||◌, List, [], ◌∷◌, ◌++◌, length, refl, ap, ap₂, ◌∙◌, sym, subst, arith, inl, inr, append_assoc, append-nil}
 use Rattle.std.specs.Prelude.{Result, Ok, Err, OnErr}
 use Rattle.std.proofs.lemmas.List.{map-append}
@@ -142,7 +144,7 @@ not_before t fed looked zero p lt less stray = looked.sought.blue.none p (omega 
 not_before t fed looked (suc zero) p lt less stray = looked.sought.green.none p (omega arith) stray
 not_before t fed looked (suc (suc l)) p lt less stray = looked.sought.red.none p (omega arith) stray
 
-pub passes_settle : (t : Tracker) (fed : Fed) (reported : List TrackEvent) (us : List Event) → Carries t fed → HasLooked t fed → t.handed % 8 ≡ 0 → most_of fed ≤ t.start + t.handed + 32894
+pub passes_settle : (t : Tracker) (fed : Fed) (reported : List TrackEvent) (us : List Event) → Carries t fed → HasLooked t fed → t.handed % 8 ≡ 0 → most_of fed ≤ t.start + t.handed + (FEED_BITS + HELD_BACK)
     → IsGain (front_of t.handed (rest_of t.start fed)) (front_of (t.handed + (t.seen / 8 * 8 - t.handed)) (rest_of t.start fed)) us → Follows fed t.start t.handed t.begun t.epochs t.aligned reported
     → Passes fed (reported ++ track_events_of us)
 passes_settle t fed reported us c looked whole room gain was =

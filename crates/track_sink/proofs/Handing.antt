@@ -5,6 +5,7 @@ use Rattle.std.proofs.Math.Seq.{take-add}
 use Rattle.std.proofs.lemmas.Bool.{cases_lt}
 use Rattle.std.proofs.lemmas.List.{drop-drop, drop-append-le}
 use Rattle.tmds_word.specs.Bits.{bytes_bits}
+use Rattle.tmds_word.specs.declared.TheConstants.{MOST_BITS}
 use Rattle.lane_align.specs.Lanes.{IsRun, IsLock}
 use Rattle.lane_track.specs.Strays.{IsStray}
 use Rattle.lane_track.specs.Scouts.{HasSought}
@@ -36,7 +37,7 @@ use Rattle.track_sink.proofs.Following.{fronts_stay, follows_grown, same_fed, no
 
 -- a lane's first bits may be handed on
 pub can_hand : (bytes : List ℕ) (given most x handed len start bits : ℕ) → given ≡ min handed (len - start) → x ≡ min (len - (start + handed)) bits → bits ≤ 32768 → handed % 8 ≡ 0
-    → length bytes ≡ (x + 7) / 8 → most ≤ handed → given ≤ most → len < 2 ^ 32 → CanFeed given most bytes x
+    → length bytes ≡ (x + 7) / 8 → most ≤ handed → given ≤ most → len < MOST_BITS → CanFeed given most bytes x
 can_hand bytes given most x handed len start bits g e few whole size above below small = elim (cases_lt 0 x) [
   | inl some ↦
       let all : given ≡ handed = omega arith in

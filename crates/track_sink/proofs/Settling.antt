@@ -1,4 +1,6 @@
 -- A tracker that follows its lanes from epoch to epoch, and at their end.
+use Rattle.lane_align.specs.declared.TheConstants.{FEED_BITS}
+use Rattle.track_sink.specs.declared.TheConstants.{HELD_BACK}
 use Rattle.std.proofs.Common.{◌≡◌, ◌⊎◌, ℕ, suc, zero, ◌+◌, ◌-◌, ◌*◌, ◌/◌, ◌%◌, ◌<◌, ◌≤◌, max, List, ◌++◌, length, refl, ap, ap₂, ◌∙◌, sym, subst, arith, inl, inr, append_assoc, length-drop}
 use Rattle.terc4.specs.Columns.{one_if}
 use Rattle.lane_align.proofs.Controls.{run_within}
@@ -45,15 +47,15 @@ stands_closed u v fed reported stray can now es eh follows = grind arith
 pub start_rises : (t u v : Tracker) (fed : Fed) (stray : Stray) → Carries t fed → Stays t u → CanClose u fed stray → Carries v fed → v.start ≡ u.start + stray.place → most_fed v - v.start < most_fed t - t.start
 start_rises t u v fed stray ct s can cv e = grind (arith, end_is_far, most_fed_is)
 
-pub room_stays : (t u : Tracker) (fed : Fed) (reported : List TrackEvent) → Stands t fed reported → Stays t u → most_of fed ≤ u.start + u.handed + 32894
+pub room_stays : (t u : Tracker) (fed : Fed) (reported : List TrackEvent) → Stands t fed reported → Stays t u → most_of fed ≤ u.start + u.handed + (FEED_BITS + HELD_BACK)
 room_stays t u fed reported s stays = grind arith
 
 -- what may be handed on once all places that are decided were looked at
-pub can_settle : (t : Tracker) (fed : Fed) → Carries t fed → HasLooked t fed → t.handed % 8 ≡ 0 → most_of fed ≤ t.start + t.handed + 32894
+pub can_settle : (t : Tracker) (fed : Fed) → Carries t fed → HasLooked t fed → t.handed % 8 ≡ 0 → most_of fed ≤ t.start + t.handed + (FEED_BITS + HELD_BACK)
     → (t.handed ≤ t.seen / 8 * 8) × (t.start + t.handed + (t.seen / 8 * 8 - t.handed) ≤ most_of fed) × (t.seen / 8 * 8 - t.handed ≤ 32768)
 can_settle t fed c looked whole room = grind arith
 
-pub settles : (u w : Tracker) (fed : Fed) (reported : List TrackEvent) (us : List Event) → HasLooked u fed × (most_of fed ≤ u.start + u.seen + 119) → u.handed % 8 ≡ 0 → most_of fed ≤ u.start + u.handed + 32894 → Carries u fed → Carries w fed
+pub settles : (u w : Tracker) (fed : Fed) (reported : List TrackEvent) (us : List Event) → HasLooked u fed × (most_of fed ≤ u.start + u.seen + 119) → u.handed % 8 ≡ 0 → most_of fed ≤ u.start + u.handed + (FEED_BITS + HELD_BACK) → Carries u fed → Carries w fed
     → w.start ≡ u.start → w.handed ≡ u.handed + (u.seen / 8 * 8 - u.handed) → w.seen ≡ u.seen
     → w.lanes.blue.scout ≡ u.lanes.blue.scout → w.lanes.green.scout ≡ u.lanes.green.scout → w.lanes.red.scout ≡ u.lanes.red.scout
     → Follows fed w.start w.handed w.begun w.epochs w.aligned reported → IsSettled w fed reported

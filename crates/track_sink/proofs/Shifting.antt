@@ -1,4 +1,5 @@
 -- Bits that are held in a buffer of bytes, moved within it and appended after a few others.
+use Rattle.track_sink.specs.declared.TheConstants.{ROOM, ROOM_BITS}
 use Rattle.std.proofs.Common.{◌≡◌, ℕ, ◌+◌, ◌-◌, ◌*◌, ◌/◌, ◌%◌, ◌^◌, ◌<◌, ◌≤◌, Bool, List, [], ◌++◌, length, take, drop, get_or, refl, ap, ap₂, ◌∙◌, sym, arith, append_assoc, length-drop, length-take, take-take, bit_or}
 use Rattle.std.specs.Prelude.{set}
 use Rattle.std.proofs.Math.Nat.{mod-eq_of_lt}
@@ -99,7 +100,7 @@ copied_after into more now few n none e size =
     ∙ ap (λ m. take m (bytes_bits into) ++ bytes_bits more) (sym none)
 
 -- bits after the first ones, where a part of the bytes has new bits after its first few
-pub put_into : (into new more : List ℕ) (count bits size : ℕ) → length into ≡ 4224 → count + bits ≤ 33720
+pub put_into : (into new more : List ℕ) (count bits size : ℕ) → length into ≡ ROOM → count + bits ≤ ROOM_BITS
     → length more ≡ (bits + 7) / 8 → size ≡ length more + 1 → length new ≡ size
     → take (count % 8 + 8 * length more) (bytes_bits new) ≡ take (count % 8) (bytes_bits (take size (drop (count / 8) into))) ++ bytes_bits more
     → take (count + bits) (bytes_bits (put_mid (count / 8) size into new)) ≡ take count (bytes_bits into) ++ take bits (bytes_bits more)

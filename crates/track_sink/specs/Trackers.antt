@@ -3,6 +3,8 @@
 use Rattle.std.specs.Prelude.{◌≡◌, ◌⊎◌, ℕ, ◌+◌, ◌-◌, ◌*◌, ◌%◌, ◌^◌, ◌<◌, ◌≤◌, max, min, Bool, true, List, ◌∷◌, ◌++◌, length, drop}
 use Rattle.std.proofs.Common.{suc, zero}
 use Rattle.period_grammar.specs.Events.{Event}
+use Rattle.tmds_word.specs.declared.TheConstants.{MOST_BITS}
+use Rattle.lane_align.specs.declared.TheConstants.{FEED_BITS}
 use Rattle.lane_track.specs.Strays.{IsStray}
 use Rattle.link_sink.specs.Sinks.{Fed, IsReportedSoFar}
 use Rattle.link_sink.specs.Streams.{SinkRepresents, bits_fed}
@@ -10,6 +12,7 @@ use Rattle.track_sink.specs.TrackEvents.{TrackEvent, track_events_of}
 use Rattle.track_sink.specs.Epochs.{lane_of, rest_of, front_of, IsEnd, IsTracked, IsTrack}
 use Rattle.track_sink.specs.Tracks.{Grows}
 use Rattle.track_sink.specs.Lanes.{AreSought, EndsAt}
+use Rattle.track_sink.specs.declared.TheConstants.{HELD_BACK}
 use Rattle.track_sink.specs.declared.lane.Lane.{Lane}
 use Rattle.track_sink.specs.declared.lanes.Stray.{Stray}
 use Rattle.track_sink.specs.declared.tracker.Tracker.{Tracker}
@@ -54,7 +57,7 @@ pub record Carries (t : Tracker) (fed : Fed) : Type 0 where
   pub green : HoldsRest t.lanes.green (bits_fed t.link 1) t.start t.handed fed.green
   pub red : HoldsRest t.lanes.red (bits_fed t.link 2) t.start t.handed fed.red
   pub within : t.start + t.handed ≤ most_of fed
-  pub small : most_of fed < 2 ^ 32
+  pub small : most_of fed < MOST_BITS
   pub few : 2 * t.epochs ≤ t.start
   pub fewer : t.aligned ≤ t.epochs
 
@@ -83,7 +86,7 @@ pub record HasLooked (t : Tracker) (fed : Fed) : Type 0 where
 pub record CanClose (t : Tracker) (fed : Fed) (stray : Stray) : Type 0 where
   pub carries : Carries t fed
   pub whole : t.handed % 8 ≡ 0
-  pub room : most_of fed ≤ t.start + t.handed + 32894
+  pub room : most_of fed ≤ t.start + t.handed + (FEED_BITS + HELD_BACK)
   pub ends : EndsAt (rest_of t.start fed) stray
   pub after : t.handed ≤ stray.place
 
@@ -99,7 +102,7 @@ pub record Stands (t : Tracker) (fed : Fed) (reported : List TrackEvent) : Type 
   pub looked : HasLooked t fed
   pub follows : Follows fed t.start t.handed t.begun t.epochs t.aligned reported
   pub whole : t.handed % 8 ≡ 0
-  pub room : most_of fed ≤ t.start + t.handed + 32894
+  pub room : most_of fed ≤ t.start + t.handed + (FEED_BITS + HELD_BACK)
 
 -- it has looked at all places that are decided, and handed on what it can
 pub record IsSettled (t : Tracker) (fed : Fed) (reported : List TrackEvent) : Type 0 where

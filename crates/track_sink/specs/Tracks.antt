@@ -1,4 +1,5 @@
 -- What a tracker stands for: the bits that it was fed, and what it reported of them.
+use Rattle.track_sink.specs.declared.TheConstants.{HELD_BACK}
 use Rattle.std.specs.Prelude.{◌≡◌, ◌⊎◌, ℕ, ◌+◌, ◌%◌, ◌<◌, ◌≤◌, Bool, List, [], ◌++◌, length}
 use Rattle.period_grammar.specs.Events.{Event}
 use Rattle.link_sink.specs.Sinks.{Fed, IsReportedSoFar}
@@ -28,7 +29,7 @@ pub record Tracks (fed : Fed) (start handed : ℕ) (begun : Bool) (reported : Li
   pub none : (l p : ℕ) → l < 3 → p + 120 ≤ length (lane_of (rest_of start fed) l) → IsStray (lane_of (rest_of start fed) l) p → ⊥
   -- in whole bytes, and never a bit that can be a later stray's
   pub whole : handed % 8 ≡ 0
-  pub held : (l : ℕ) → l < 3 → length (lane_of (rest_of start fed) l) ≤ handed + 126
+  pub held : (l : ℕ) → l < 3 → length (lane_of (rest_of start fed) l) ≤ handed + HELD_BACK
   pub early : handed ≡ 0 ⊎ ((l : ℕ) × (l < 3) × (handed + 119 ≤ length (lane_of (rest_of start fed) l)))
   pub so_far : IsReportedSoFar (front_of handed (rest_of start fed)) events
   pub reported_are : reported ≡ closed ++ track_events_of events

@@ -2,13 +2,11 @@
 ghost use Rattle.std.specs.Prelude.{ℕ, ◌≡◌, ◌<◌, ◌≤◌, ◌+◌, ◌*◌, ◌/◌, ◌%◌, ◌^◌, ◌++◌, [], IfOk, length, take, drop};
 ghost use Rattle.tmds_word.specs.Bits.{bits_of, bytes_bits, number};
 
+use crate::{ROOM, ROOM_BITS};
 use lane_track::eight_bytes;
 use outside_io::NoMemory;
 use std::alloc::Global;
 use std::marker::Model;
-
-/// How many bytes a lane's buffer has.
-const ROOM: usize = 4224;
 
 /// A buffer of bits: bit i of its bytes is bit `i % 8` of byte `i / 8`.
 #[derive(Drop)]
@@ -34,6 +32,7 @@ pub(crate) struct Lent<'a> {
 impl Model for Held {
     ghost use Rattle.std.specs.Prelude.{length, take, drop, ◌≡◌, ◌≤◌, ◌+◌, ◌*◌};
     ghost use Rattle.tmds_word.specs.Bits.{bytes_bits};
+    ghost use Rattle.track_sink.specs.declared.TheConstants.{ROOM, ROOM_BITS};
     ghost use Rattle.track_sink.specs.Buffers.{HeldSeen};
 
     ghost Value = { HeldSeen };
@@ -43,7 +42,7 @@ impl Model for Held {
       released = take h.released (drop (8 * h.border) (bytes_bits h.bytes.items));
     } };
 
-    ghost invariant = { λ h. (length h.bytes.items ≡ 4224) × (h.start + h.count ≤ 33720) × (8 * h.border + h.released ≤ 33720) };
+    ghost invariant = { λ h. (length h.bytes.items ≡ ROOM) × (h.start + h.count ≤ ROOM_BITS) × (8 * h.border + h.released ≤ ROOM_BITS) };
 }
 
 impl Held {
@@ -63,7 +62,7 @@ impl Held {
     /// How many bits it holds.
     pub(crate) fn len(&self) -> u32
         ensures len { result ≡ length self.now.bits }
-        ensures most { result ≤ 33720 }
+        ensures most { result ≤ ROOM_BITS }
     {
         self.count
     }
@@ -73,7 +72,7 @@ impl Held {
         ensures bits { take (length self.now.bits) (drop result.skip (bytes_bits result.bytes.now)) ≡ self.now.bits }
         ensures size { result.skip + length self.now.bits + 16 ≤ 8 * length result.bytes.now }
         ensures few { result.skip < 8 }
-        ensures within { length result.bytes.now ≤ 4224 }
+        ensures within { length result.bytes.now ≤ ROOM }
     {
         Lent {
             bytes: &self.bytes[self.start as usize / 8..],
@@ -84,7 +83,7 @@ impl Held {
     /// Appends bits.
     pub(crate) fn append(&mut self, bytes: &[u8], bits: u32)
         requires bytes { length bytes.now ≡ (bits + 7) / 8 }
-        requires room { length self.old.bits + bits ≤ 33720 }
+        requires room { length self.old.bits + bits ≤ ROOM_BITS }
         ensures { self.new.bits ≡ self.old.bits ++ take bits (bytes_bits bytes.now) }
     {
         let into = self.bytes.as_mut_slice();
@@ -126,8 +125,8 @@ impl Held {
 /// Puts bits after the first ones, which stay.
 fn put_at(into: &mut [u8], count: u32, bytes: &[u8], bits: u32)
     requires bytes { length bytes.now ≡ (bits + 7) / 8 }
-    requires room { count + bits ≤ 33720 }
-    requires into { length into.old ≡ 4224 }
+    requires room { count + bits ≤ ROOM_BITS }
+    requires into { length into.old ≡ ROOM }
     ensures { take (count + bits) (bytes_bits into.new) ≡ take count (bytes_bits into.old) ++ take bits (bytes_bits bytes.now) }
 {
     let at = count as usize / 8;

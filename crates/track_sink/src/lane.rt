@@ -4,6 +4,7 @@ ghost use Rattle.tmds_word.specs.Bits.{bytes_bits};
 ghost use Rattle.lane_track.specs.Strays.{IsFirstStray};
 ghost use Rattle.lane_track.specs.Scouts.{HasSought};
 
+use crate::ROOM_BITS;
 use crate::held::Held;
 use lane_align::RUN_BITS;
 use lane_track::Scout;
@@ -21,7 +22,7 @@ pub(crate) struct Lane {
     /// What looks through them.
     scout: Scout,
     /// How many bits were fed in all epochs.
-    pub(crate) fed: u32,
+    pub(crate) fed: u64,
 }
 
 impl Lane {
@@ -41,20 +42,20 @@ impl Lane {
     /// Appends bits.
     pub(crate) fn append(&mut self, bytes: &[u8], bits: u32)
         requires bytes { length bytes.now ≡ (bits + 7) / 8 }
-        requires room { length self.old.held.bits + bits ≤ 33720 }
-        requires total { self.old.fed + bits < 2 ^ 32 }
+        requires room { length self.old.held.bits + bits ≤ ROOM_BITS }
+        requires total { self.old.fed + bits < 2 ^ 64 }
         ensures held { self.new.held.bits ≡ self.old.held.bits ++ take bits (bytes_bits bytes.now) }
         ensures scout { self.new.scout ≡ self.old.scout }
         ensures fed { self.new.fed ≡ self.old.fed + bits }
     {
         self.held.append(bytes, bits);
-        self.fed += bits;
+        self.fed += u64::from(bits);
     }
 
     /// Looks at the epoch's places from `from` on and before `until` that the bits decide, where bit `base` is the first
     /// that is held, and answers the first stray; None where there is none before `until`. Of a lane that has ended no
     /// later place can be a run's.
-    pub(crate) fn seek(&mut self, base: u32, from: u32, until: u32) -> Option<u32>
+    pub(crate) fn seek(&mut self, base: u64, from: u64, until: u64) -> Option<u64>
         requires after { base ≤ from }
         requires order { from ≤ until }
         ensures held { self.new.held ≡ self.old.held }
@@ -63,16 +64,19 @@ impl Lane {
         ensures sought { (xs : List Bool) → self.old.held.bits ≡ drop base xs → HasSought xs from self.old.scout.lock
             → MatchOption result (HasSought xs until self.new.scout.lock) (λ p. IsFirstStray xs p) }
     {
-        let last = self.held.len().saturating_sub(SPAN).min(until - base);
+        let last = u64::from(self.held.len().saturating_sub(SPAN)).min(until - base);
         if last <= from - base {
             return None;
         }
         let lent = self.held.lent();
-        match self
-            .scout
-            .seek(lent.bytes, lent.skip, base, from - base, last)
-        {
-            Some(place) => Some(base + place),
+        match self.scout.seek(
+            lent.bytes,
+            lent.skip,
+            base,
+            (from - base) as u32,
+            last as u32,
+        ) {
+            Some(place) => Some(base + u64::from(place)),
             None => None,
         }
     }

@@ -4,6 +4,7 @@ ghost use Rattle.lane_track.specs.Scouts.{HasSought};
 ghost use Rattle.link_sink.specs.Sinks.{Fed};
 ghost use Rattle.track_sink.specs.Lanes.{AreFresh, AreHeld, AreSought, EndsAt, IsReleased, last_stray};
 
+use crate::ROOM_BITS;
 use crate::lane::Lane;
 use outside_io::NoMemory;
 use std::alloc::Global;
@@ -12,7 +13,7 @@ use std::alloc::Global;
 #[derive(Clone, Copy)]
 pub(crate) struct Stray {
     pub(crate) lane: u8,
-    pub(crate) place: u32,
+    pub(crate) place: u64,
 }
 
 /// Three lanes.
@@ -38,7 +39,7 @@ impl Lanes {
     /// How many bits the lane holds that holds the most.
     pub(crate) fn longest(&self) -> u32
         ensures longest { result ≡ max (length self.now.blue.held.bits) (max (length self.now.green.held.bits) (length self.now.red.held.bits)) }
-        ensures most { result ≤ 33720 }
+        ensures most { result ≤ ROOM_BITS }
     {
         let blue = self.blue.held.len();
         let green = self.green.held.len();
@@ -49,7 +50,7 @@ impl Lanes {
     /// Looks at the epoch's places from `from` on and before `until`, where bit `base` is the first that is held, and
     /// answers the least stray of any lane, of the least lane that has it. Where a lane has one, the next are looked
     /// through up to its place alone.
-    pub(crate) fn seek(&mut self, base: u32, from: u32, until: u32) -> Option<Stray>
+    pub(crate) fn seek(&mut self, base: u64, from: u64, until: u64) -> Option<Stray>
         requires after { base ≤ from }
         requires order { from ≤ until }
         ensures blue { self.new.blue.held ≡ self.old.blue.held }
@@ -99,7 +100,7 @@ impl Lanes {
 }
 
 /// The end of the places of the next lane that can still be the least: a place that was found, or where none was.
-fn end_of(found: Option<u32>, from: u32, until: u32) -> u32
+fn end_of(found: Option<u64>, from: u64, until: u64) -> u64
     requires { from ≤ until }
     ensures order { from ≤ result }
     ensures end { MatchOption found (result ≡ until) (λ place. result ≡ max place from) }
@@ -111,7 +112,7 @@ fn end_of(found: Option<u32>, from: u32, until: u32) -> u32
 }
 
 /// The place of the last lane that has one.
-fn last_of(blue: Option<u32>, green: Option<u32>, red: Option<u32>) -> Option<Stray>
+fn last_of(blue: Option<u64>, green: Option<u64>, red: Option<u64>) -> Option<Stray>
     ensures { result ≡ last_stray blue green red }
 {
     match (blue, green, red) {

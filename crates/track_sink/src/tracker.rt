@@ -24,10 +24,10 @@ use std::thread::Threads;
 use tmds_word::LaneBits;
 
 /// How many places of each lane are looked at before those of the next: an epoch that ends early costs no more.
-const STRETCH: u32 = 2560;
+const STRETCH: u64 = 2560;
 
 /// From the first bit of a run to its last.
-const SPAN: u32 = RUN_BITS - 1;
+const SPAN: u64 = RUN_BITS as u64 - 1;
 
 /// Where the machine stands: an epoch, and what was reported before it.
 #[derive(Drop)]
@@ -36,17 +36,17 @@ pub(crate) struct Tracker {
     link: LinkSink,
     pub(crate) lanes: Lanes,
     /// The place of the epoch's first bit.
-    start: u32,
+    start: u64,
     /// How many bits of the epoch were handed on, as many of each lane that has them.
-    handed: u32,
+    handed: u64,
     /// No place of the epoch before this one is a stray's.
-    seen: u32,
+    seen: u64,
     /// Whether an epoch before was aligned.
     begun: bool,
     /// How many epochs have ended.
-    epochs: u32,
+    epochs: u64,
     /// How many of them were aligned.
-    aligned: u32,
+    aligned: u64,
 }
 
 impl Tracker {
@@ -93,7 +93,7 @@ impl Tracker {
         while let Some(stray) = self.next_stray() {
             self.close(rt, stray, ear)?;
         }
-        self.hand_on(rt, self.seen / 8 * 8 - self.handed, ear)?;
+        self.hand_on(rt, (self.seen / 8 * 8 - self.handed) as u32, ear)?;
         Ok(())
     }
 
@@ -104,7 +104,7 @@ impl Tracker {
         ensures looked { (fed : Fed) → Carries self.old fed → HasLooked self.old fed
             → MatchOption result (HasLooked self.new fed × (most_of fed ≤ self.new.start + self.new.seen + 119)) (λ stray. EndsAt (rest_of self.old.start fed) stray × (self.old.handed ≤ stray.place)) }
     {
-        let end = (self.handed + self.lanes.longest()).saturating_sub(SPAN);
+        let end = (self.handed + u64::from(self.lanes.longest())).saturating_sub(SPAN);
         while self.seen < end {
             let until = self.seen + (end - self.seen).min(STRETCH);
             match self.lanes.seek(self.handed, self.seen, until) {
@@ -154,7 +154,7 @@ impl Tracker {
             bits: counts,
         };
         self.link.feed_ungated(rt, lanes, ear)?;
-        self.handed += bits;
+        self.handed += u64::from(bits);
         Ok(())
     }
 
@@ -167,7 +167,7 @@ impl Tracker {
     ) -> Result<(), Failed>
         requires carries { (fed : Fed) × Carries self.old fed × (self.old.start + self.old.handed + bits ≤ most_of fed) }
         requires whole { self.old.handed % 8 ≡ 0 }
-        requires most { bits ≤ 32775 }
+        requires most { bits ≤ FEED_BITS + 7 }
         ensures carries { (fed : Fed) → Carries self.old fed → self.old.start + self.old.handed + bits ≤ most_of fed → OnOk result (Carries self.new fed) }
         ensures reported { (fed : Fed) → Carries self.old fed → self.old.start + self.old.handed + bits ≤ most_of fed
             → OnOk result ((events : List Event) × IsGain (front_of self.old.handed (rest_of self.old.start fed)) (front_of (self.old.handed + bits) (rest_of self.old.start fed)) events
@@ -207,7 +207,7 @@ impl Tracker {
         ensures handed { OnOk result (self.new.handed ≡ 0) }
         ensures cause { HasCause (E.faults ear.old) (E.faults ear.new) result }
     {
-        self.hand_all(rt, stray.place - self.handed, ear)?;
+        self.hand_all(rt, (stray.place - self.handed) as u32, ear)?;
         self.turn(stray, ear)?;
         Ok(())
     }
@@ -229,14 +229,14 @@ impl Tracker {
         if !self.begun {
             return Ok(());
         }
-        ear.slip(stray.lane, u64::from(self.start))?;
+        ear.slip(stray.lane, self.start)?;
         Ok(())
     }
 
     /// Reports to the ear what is left to report at the end of the epoch, and counts it.
     fn end<E: TrackEar>(&mut self, ear: &mut E) -> Result<Outcome, Failed>
         requires open { self.old.link.is_open ≡ true }
-        requires few { self.old.epochs + 1 < 2 ^ 32 }
+        requires few { self.old.epochs + 1 < 2 ^ 64 }
         requires fewer { self.old.aligned ≤ self.old.epochs }
         ensures reported { (fed : Fed) → SinkRepresents self.old.link fed
             → IfOk result (λ outcome. (events : List Event) × IsLast fed outcome events × E.took ear.old ear.new events) }
@@ -252,14 +252,14 @@ impl Tracker {
     {
         let outcome = self.link.finish(ear)?;
         self.epochs += 1;
-        self.aligned += u32::from(outcome.aligned);
+        self.aligned += u64::from(outcome.aligned);
         self.begun = self.begun || outcome.aligned;
         Ok(outcome)
     }
 
     /// Begins an epoch with the first bits that are held.
     fn restart(&mut self)
-        requires { self.old.start + self.old.handed < 2 ^ 32 }
+        requires { self.old.start + self.old.handed < 2 ^ 64 }
         ensures open { self.new.link.is_open ≡ true }
         ensures link { SinkRepresents self.new.link no_bits }
         ensures bits { most_bits self.new.link ≡ 0 }

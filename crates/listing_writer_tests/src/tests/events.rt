@@ -11,7 +11,7 @@ use std::process::Abort;
 use std::test::Fail;
 
 /// Up to three numbers with spaces between them, and 0 for those that are not there.
-fn three_numbers(words: &str) -> Result<[u32; 3], Fail> {
+fn three_numbers(words: &str) -> Result<[u64; 3], Fail> {
     let mut numbers = [0; 3];
     for (i, word) in words.split(' ').enumerate() {
         if i < 3 {
@@ -22,12 +22,12 @@ fn three_numbers(words: &str) -> Result<[u32; 3], Fail> {
 }
 
 /// A number as a byte.
-fn byte(number: u32) -> u8 {
+fn byte(number: u64) -> u8 {
     u8::try_from(number).unwrap_or(255)
 }
 
 /// The fault of a name, with its numbers in the order of its line.
-fn fault_of(name: &str, numbers: [u32; 3]) -> Option<Fault> {
+fn fault_of(name: &str, numbers: [u64; 3]) -> Option<Fault> {
     let [a, b, c] = numbers;
     Some(match name {
         "word" => Fault::Word {
@@ -65,7 +65,7 @@ fn fault_of(name: &str, numbers: [u32; 3]) -> Option<Fault> {
 
 /// Reports a fault.
 fn tell_fault<E: Ear>(ear: &mut E, fault: Fault) -> Result<(), Failed> {
-    ear.hear(EventRef::Fault(fault))
+    ear.hear(0, EventRef::Fault(fault))
 }
 
 /// Reports a line of whole pixels.
@@ -74,7 +74,7 @@ pub(crate) fn tell_line<E: Ear>(ear: &mut E, pixels: &[u8]) -> Result<(), Failed
     requires some { 3 ≤ length pixels.now }
     requires few { length pixels.now ≤ 12288 }
 {
-    ear.hear(EventRef::Line { pixels })
+    ear.hear(0, EventRef::Line { pixels })
 }
 
 /// Reports a packet at column 14, with this verdict on its first block.
@@ -88,25 +88,25 @@ fn tell_packet<E: Ear>(ear: &mut E, packet: &Packet, verdict: Verdict) -> Result
         symbols: 0,
     };
     let packet = PacketRef::new(packet, &verdicts);
-    ear.hear(EventRef::Packet { packet, column: 14 })
+    ear.hear(0, EventRef::Packet { packet, column: 14 })
 }
 
 /// Reports a run of control columns.
-fn tell_run<E: Ear>(rt: &impl Abort, ear: &mut E, value: u8, count: u32) -> Result<(), Failed> {
+fn tell_run<E: Ear>(rt: &impl Abort, ear: &mut E, value: u8, count: u64) -> Result<(), Failed> {
     assert!(rt; value < 64 && count >= 1);
-    ear.hear(EventRef::Run { value, count })
+    ear.hear(0, EventRef::Run { value, count })
 }
 
 /// Reports the guard that opens a data island.
 fn tell_open<E: Ear>(rt: &impl Abort, ear: &mut E, a: u8, b: u8) -> Result<(), Failed> {
     assert!(rt; a < 4 && b < 4);
-    ear.hear(EventRef::Open { sync: [a, b] })
+    ear.hear(0, EventRef::Open { sync: [a, b] })
 }
 
 /// Reports the guard that closes a data island.
 fn tell_close<E: Ear>(rt: &impl Abort, ear: &mut E, a: u8, b: u8) -> Result<(), Failed> {
     assert!(rt; a < 4 && b < 4);
-    ear.hear(EventRef::Close { sync: [a, b] })
+    ear.hear(0, EventRef::Close { sync: [a, b] })
 }
 
 /// Reports something that two numbers say: a run, a guard or a cut.
@@ -114,14 +114,14 @@ fn tell_numbers<E: Ear>(
     rt: &impl Abort,
     ear: &mut E,
     name: &str,
-    a: u32,
-    b: u32,
+    a: u64,
+    b: u64,
 ) -> Option<Result<(), Failed>> {
     Some(match name {
         "run" => tell_run(rt, ear, byte(a), b),
         "open" => tell_open(rt, ear, byte(a), byte(b)),
         "close" => tell_close(rt, ear, byte(a), byte(b)),
-        "cut" => ear.hear(EventRef::Cut { column: a }),
+        "cut" => ear.hear(0, EventRef::Cut { column: a }),
         _ => return None,
     })
 }

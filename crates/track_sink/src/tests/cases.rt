@@ -9,8 +9,8 @@ use std::test::*;
 pub struct Case {
     pub bits: [u32; 3],
     pub bytes: [Vec<u8>; 3],
-    pub epochs: u32,
-    pub aligned: u32,
+    pub epochs: u64,
+    pub aligned: u64,
     pub tells: Vec<Row>,
 }
 
@@ -22,7 +22,7 @@ fn line_row(length: &str, digits: &str) -> Result<Row, Fail> {
     Ok([
         1,
         length.parse()?,
-        u32::from_be_bytes([0, red, green, blue]),
+        u64::from(u32::from_be_bytes([0, red, green, blue])),
     ])
 }
 

@@ -8,7 +8,7 @@ use outside_io::Failed;
 use period_grammar::{EventRef, Fault};
 
 /// The kind of an event and two of its numbers.
-pub type Row = [u32; 3];
+pub type Row = [u64; 3];
 
 /// Notes the first events that are reported to it, but fails at one of them.
 #[derive(Drop)]
@@ -49,8 +49,8 @@ fn line_row(pixels: &[u8]) -> Row {
     match pixels {
         [red, green, blue, ..] => [
             1,
-            u32::try_from(pixels.len()).unwrap_or(0),
-            u32::from_be_bytes([0, *red, *green, *blue]),
+            pixels.len() as u64,
+            u64::from(u32::from_be_bytes([0, *red, *green, *blue])),
         ],
         _ => [1, 0, 0],
     }
@@ -58,12 +58,12 @@ fn line_row(pixels: &[u8]) -> Row {
 
 fn row_of(event: EventRef<'_>) -> Row {
     match event {
-        EventRef::Run { value, count } => [0, u32::from(value), count],
+        EventRef::Run { value, count } => [0, u64::from(value), count],
         EventRef::Line { pixels } => line_row(pixels),
-        EventRef::Open { sync } => [2, u32::from(sync[0]), u32::from(sync[1])],
+        EventRef::Open { sync } => [2, u64::from(sync[0]), u64::from(sync[1])],
         EventRef::Packet { packet: _, column } => [3, column, 0],
-        EventRef::Close { sync } => [4, u32::from(sync[0]), u32::from(sync[1])],
-        EventRef::Fault(Fault::Word { lane, column }) => [5, u32::from(lane), column],
+        EventRef::Close { sync } => [4, u64::from(sync[0]), u64::from(sync[1])],
+        EventRef::Fault(Fault::Word { lane, column }) => [5, u64::from(lane), column],
         EventRef::Fault(_) => [9, 0, 0],
         EventRef::Cut { column } => [6, column, 0],
     }
@@ -74,15 +74,23 @@ impl Ear for Notes {
 
     ghost took = { λ _ _ _. ⊤ };
 
+    ghost took_at = { λ _ _ _. ⊤ };
+
     ghost broke = { λ _ _ _. ⊤ };
 
-    fn hear(&mut self, event: EventRef<'_>) -> Result<(), Failed> {
+    fn hear(&mut self, _: u64, event: EventRef<'_>) -> Result<(), Failed> {
         self.note(row_of(event))
     }
 
     ghost took_none = { λ _. tt };
 
     ghost took_both = { λ _ _ _ _ _ _ _. tt };
+
+    ghost took_none_at = { λ _. tt };
+
+    ghost took_both_at = { λ _ _ _ _ _ _ _. tt };
+
+    ghost forgets = { λ _ _ _ _. tt };
 }
 
 impl TrackEar for Notes {
@@ -91,7 +99,7 @@ impl TrackEar for Notes {
     ghost lost = { λ _ _ _. ⊤ };
 
     fn slip(&mut self, lane: u8, place: u64) -> Result<(), Failed> {
-        self.note([10, u32::from(lane), u32::try_from(place).unwrap_or(0)])
+        self.note([10, u64::from(lane), place])
     }
 
     ghost tracked_none = { λ _. tt };

@@ -1,4 +1,4 @@
-use Rattle.std.proofs.Common.{◌++◌, List, take, arith, subst, ap, ◌∙◌, append_assoc, length-drop}
+use Rattle.std.proofs.Common.{◌≡◌, ◌++◌, List, length, take, drop, arith, subst, ap, sym, ◌∙◌, append_assoc, length-drop}
 use Rattle.std.proofs.lemmas.Grind.{common_steps}
 use Rattle.std.proofs.lemmas.List.{take_all, take-append-drop}
 use Rattle.std.proofs.Math.Seq.{take-add}
@@ -16,11 +16,30 @@ returns-in_err-j-clause-stopped g c =
     on_err {P = (cs : List Column) → g.H.Hears.goes_on c.args.hearing.now cs → StoppedIn g.H.Hears.grammar g.E.Ear.took g.E.Ear.broke c.args.ear.now c.hear_part.new.ear cs all} _ (λ cs was.
     subst (λ (ds : List Column). StoppedIn g.H.Hears.grammar g.E.Ear.took g.E.Ear.broke c.args.ear.now c.hear_part.new.ear cs ds)
     (ap (λ ds. take j all ++ ds) c.from.ensures ∙ take-append-drop j all)
-    (stopped_parts g.H.Hears.grammar g.E.Ear.took g.E.Ear.broke g.met.E.Ear.took_both _ _ _ cs (take j all) _ (c.loop-j.invariant.reported cs was)
+    (stopped_parts g.H.Hears.grammar g.met.H.Hears.is_grammar g.E.Ear.took g.E.Ear.took_at g.E.Ear.broke g.met.E.Ear.forgets g.met.E.Ear.took_both _ _ _ cs (take j all) _ (c.loop-j.invariant.reported cs was)
     (c.in_err-j.ensures.stopped (cs ++ take j all) (c.loop-j.invariant.stands cs was))))
 
 pub loop-j-preserved : goal.loop-j-preserved
-loop-j-preserved g c = grind (arith, take-add, length-drop, append_assoc, took_parts)
+loop-j-preserved g c =
+    let all = columns_in c.args.columns in
+    let j = c.loop-j.j in
+    let n = c.in_ok-j.field-0 in
+    let rest = c.from.ensures in
+    let count = c.in_ok-j.ensures.count in
+    let parts = sym (take-add j n all) in
+    let more : take n (columns_in c.from.result) ≡ take n (drop j all) = ap (take n) rest in
+    record {
+      within = omega (arith, count.1, ap length rest, length-drop j all, c.loop-j.invariant.within);
+      stands = λ cs was.
+          subst (λ ds. g.H.Hears.goes_on c.hear_part.new.hearing (cs ++ ds)) parts
+          (subst (λ ds. g.H.Hears.goes_on c.hear_part.new.hearing (cs ++ (take j all ++ ds))) more
+          (subst (g.H.Hears.goes_on c.hear_part.new.hearing) (append_assoc cs (take j all) _) (c.in_ok-j.ensures.heard (cs ++ take j all) (c.loop-j.invariant.stands cs was))));
+      reported = λ cs was.
+          subst (λ ds. TookMore g.H.Hears.grammar g.E.Ear.took_at c.args.ear.now c.hear_part.new.ear cs ds) (ap (λ ds. take j all ++ ds) more ∙ parts)
+          (took_parts g.H.Hears.grammar g.E.Ear.took_at g.met.E.Ear.took_both_at _ _ _ cs (take j all) _ (c.loop-j.invariant.reported cs was)
+          (c.in_ok-j.ensures.reported (cs ++ take j all) (c.loop-j.invariant.stands cs was)));
+      later = omega (arith, c.loop-j.invariant.later, c.hear_part.ensures.cause.later);
+    }
 
 pub returns-clause-heard : goal.returns-clause-heard
 returns-clause-heard g c = λ cs was.
@@ -29,7 +48,7 @@ returns-clause-heard g c = λ cs was.
 
 pub returns-clause-reported : goal.returns-clause-reported
 returns-clause-reported g c = λ cs was.
-    subst (λ (ds : List Column). TookMore g.H.Hears.grammar g.E.Ear.took c.args.ear.now c.loop-j.ear cs ds) (take_all c.loop-j.j (columns_in c.args.columns) (omega (arith, c.loop-j-test.false)))
+    subst (λ (ds : List Column). TookMore g.H.Hears.grammar g.E.Ear.took_at c.args.ear.now c.loop-j.ear cs ds) (take_all c.loop-j.j (columns_in c.args.columns) (omega (arith, c.loop-j-test.false)))
     (c.loop-j.invariant.reported cs was)
 
 pub hear_part-requires-clause-few : goal.hear_part-requires-clause-few

@@ -10,7 +10,7 @@ invariant-loop-j g l =
     record {
       within : l.j ≤ length (columns_in l.columns);
       stands : (cs : List Column) → g.H.Hears.goes_on l.initial.hearing cs → g.H.Hears.goes_on l.hearing (cs ++ take l.j all);
-      reported : (cs : List Column) → g.H.Hears.goes_on l.initial.hearing cs → TookMore g.H.Hears.grammar g.E.Ear.took l.initial.ear l.ear cs (take l.j all);
+      reported : (cs : List Column) → g.H.Hears.goes_on l.initial.hearing cs → TookMore g.H.Hears.grammar g.E.Ear.took_at l.initial.ear l.ear cs (take l.j all);
       later : g.E.Ear.faults l.initial.ear ≤ g.E.Ear.faults l.ear;
     }
 

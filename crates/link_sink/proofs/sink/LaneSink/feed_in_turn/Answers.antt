@@ -1,5 +1,5 @@
-use Rattle.std.proofs.Common.{◌∙◌, ap, List}
-use Rattle.period_grammar.specs.Events.{Event}
+use Rattle.std.proofs.Common.{◌∙◌, ap, List, map}
+use Rattle.period_grammar.specs.Events.{Event, event_of}
 use Rattle.link_sink.specs.Ears.{StopsIn}
 use Rattle.link_sink.specs.Sinks.{grown_by, IsGainBy}
 use Rattle.link_sink.proofs.Stops.{on_err}
@@ -24,7 +24,15 @@ returns-clause-fed g c = λ fed h.
 
 pub returns-clause-reported : goal.returns-clause-reported
 returns-clause-reported g c = λ fed h.
-    c.in_ok-hear_parts.ensures.reported fed (grown_by fed c.args.lanes) (fed_after_at g.H.Hears.goes_on _ c.args.self.now.stream (ap (λ s. s.stream) c.self.view_is) _ c.deref_mut.ensures.value fed c.args.lanes.blue.now c.args.lanes.green.now c.args.lanes.red.now c.args.lanes.bits c.feed_in_turn-self-inside.new.self _ h c.requires.lanes.blue c.feed_in_turn-self-inside.ensures.received c.feed_in_turn-self-inside.ensures.aligned)
+    let t =
+    c.in_ok-hear_parts.ensures.reported fed (grown_by fed c.args.lanes) (fed_after_at g.H.Hears.goes_on _ c.args.self.now.stream (ap (λ s. s.stream) c.self.view_is) _ c.deref_mut.ensures.value fed c.args.lanes.blue.now c.args.lanes.green.now c.args.lanes.red.now c.args.lanes.bits c.feed_in_turn-self-inside.new.self _ h c.requires.lanes.blue c.feed_in_turn-self-inside.ensures.received c.feed_in_turn-self-inside.ensures.aligned) in
+    (map event_of t.0, t.2, g.met.E.Ear.forgets _ _ t.0 t.3)
+
+pub returns-clause-reported_at : goal.returns-clause-reported_at
+returns-clause-reported_at g c = λ fed h.
+    let t =
+    c.in_ok-hear_parts.ensures.reported fed (grown_by fed c.args.lanes) (fed_after_at g.H.Hears.goes_on _ c.args.self.now.stream (ap (λ s. s.stream) c.self.view_is) _ c.deref_mut.ensures.value fed c.args.lanes.blue.now c.args.lanes.green.now c.args.lanes.red.now c.args.lanes.bits c.feed_in_turn-self-inside.new.self _ h c.requires.lanes.blue c.feed_in_turn-self-inside.ensures.received c.feed_in_turn-self-inside.ensures.aligned) in
+    (t.0, t.1, t.3)
 
 pub returns-in_err-hear_parts-clause-stopped : goal.returns-in_err-hear_parts-clause-stopped
 returns-in_err-hear_parts-clause-stopped g c = λ fed h.

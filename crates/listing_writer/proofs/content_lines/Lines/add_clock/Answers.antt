@@ -12,7 +12,7 @@ returns-in-Ok c =
 pub returns-in-Err-Uneven : goal.returns-in-Err-Uneven
 unfolding clock_lines
 returns-in-Err-Uneven c =
-    adds_as (clock_lines c.args.column) _ _ _ _ (sym (ap Err c.in-Err-Uneven.field-0-is) ∙ c.in-Err-Uneven.ensures.read) (c.add_fault.ensures.added _ c.fields_line-in-Err-Uneven.ensures refl)
+    adds_as (clock_lines c.args.column) _ _ _ _ (sym (ap Err c.in-Err-Uneven.field-0-is) ∙ c.in-Err-Uneven.ensures.read) (c.add_fault.ensures.added _ c.long_line.ensures refl)
 
 pub returns-in-Err-Layout : goal.returns-in-Err-Layout
 unfolding clock_lines

@@ -9,7 +9,7 @@ pub returns-then-not-is_usual : goal.returns-then-not-is_usual
 unfolding depth_lines
 returns-then-not-is_usual c =
     adds_as (λ (b : Bool). if b then [] else with_fields (codes "! depth") (c.args.column ∷ c.args.depth ∷ []) ∷ []) _ _ false _
-    (sym c.if-not-is_usual.true ∙ c.is_usual.ensures) (c.add_fault.ensures.added _ c.fields_line.ensures refl)
+    (sym c.if-not-is_usual.true ∙ c.is_usual.ensures) (c.add_fault.ensures.added _ c.long_line.ensures refl)
 
 pub returns-else-not-is_usual : goal.returns-else-not-is_usual
 unfolding depth_lines

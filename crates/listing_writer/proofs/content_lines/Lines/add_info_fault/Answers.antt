@@ -8,7 +8,7 @@ use Rattle.listing_writer.proofs.content_lines.Lines.add_info_fault.Goals as goa
 pub returns-in-Length : goal.returns-in-Length
 unfolding info_lines
 returns-in-Length c =
-    adds_as (λ (fault : InfoFault). info_lines c.args.column (Err fault)) _ _ _ _ (sym c.in-Length.is) (c.add_fault.ensures.added _ c.fields_line.ensures refl)
+    adds_as (λ (fault : InfoFault). info_lines c.args.column (Err fault)) _ _ _ _ (sym c.in-Length.is) (c.add_fault.ensures.added _ c.long_line.ensures refl)
 
 pub returns-in-Checksum : goal.returns-in-Checksum
 unfolding info_lines checksum_words

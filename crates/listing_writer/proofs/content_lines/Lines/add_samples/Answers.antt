@@ -28,7 +28,7 @@ returns-in-None c =
 pub returns-in-Err-Layout : goal.returns-in-Err-Layout
 unfolding sample_lines
 returns-in-Err-Layout c =
-    adds_as (sample_lines c.args.column) _ _ _ _ (sym (ap Err c.in-Err-Layout.field-0-is) ∙ c.in-Err-Layout.ensures) (c.add_fault.ensures.added _ c.fields_line.ensures refl)
+    adds_as (sample_lines c.args.column) _ _ _ _ (sym (ap Err c.in-Err-Layout.field-0-is) ∙ c.in-Err-Layout.ensures) (c.add_fault.ensures.added _ c.long_line.ensures refl)
 
 pub returns-in-Err-Lost : goal.returns-in-Err-Lost
 unfolding sample_lines

@@ -26,5 +26,5 @@ returns-in-Cut c before recalls =
     subst (λ (event : Event). Hears before event (record { frames = c.other-in-Cut.new.self; vic = c.args.self.now.vic }) c.args.lines.now c.add.new.self) (sym (ap lent_event c.in-Cut.is))
     (record {
       recalls = recalls_plain c.args.self.now _ before (cut c.in-Cut.column) refl refl (c.other-in-Cut.ensures (frame_events before) recalls.frames) recalls;
-      added = c.add.ensures.added _ c.fields_line.ensures refl;
+      added = c.add.ensures.added _ c.long_line.ensures refl;
     })

@@ -70,13 +70,13 @@ pub returns-in-Cut-clause-ok : goal.returns-in-Cut-clause-ok
 unfolding line_words
 returns-in-Cut-clause-ok g c =
     line_took _ _ _ _ _ (lent_event c.args.event) (cut c.in-Cut.column) _ (ap lent_event c.in-Cut.is) refl
-    c.fields_line.ensures c.write_short-in-Cut.ensures.whole
+    c.long_line.ensures c.write_short-in-Cut.ensures.whole
 
 pub returns-in-Cut-clause-err : goal.returns-in-Cut-clause-err
 unfolding line_words
 returns-in-Cut-clause-err g c =
     line_broke _ _ _ _ _ (lent_event c.args.event) (cut c.in-Cut.column) _ (ap lent_event c.in-Cut.is)
-    c.fields_line.ensures c.write_short-in-Cut.ensures.part
+    c.long_line.ensures c.write_short-in-Cut.ensures.part
 
 pub returns-in_err-write_short-in-Fault-clause-err : goal.returns-in_err-write_short-in-Fault-clause-err
 returns-in_err-write_short-in-Fault-clause-err g c = grind (arith, always, line_broke)

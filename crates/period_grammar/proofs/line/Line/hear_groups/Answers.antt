@@ -106,6 +106,3 @@ hear_followed-requires-clause-few c = grind (arith, common_steps)
 
 pub hear_followed-requires-clause-sized : goal.hear_followed-requires-clause-sized
 hear_followed-requires-clause-sized c = grind arith
-
-pub overflow_cast-self : goal.overflow_cast-self
-overflow_cast-self c = grind (arith, common_steps)

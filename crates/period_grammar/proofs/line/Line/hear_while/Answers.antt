@@ -89,7 +89,11 @@ pub overflow_add-at : goal.overflow_add-at
 overflow_add-at c = grind (arith, common_steps)
 
 pub overflow_add-at-in-loop-at : goal.overflow_add-at-in-loop-at
-overflow_add-at-in-loop-at c = grind (arith, common_steps)
+overflow_add-at-in-loop-at c =
+    let short = c.from.ensures in
+    let long = length-drop c.loop-at.at (columns_in c.args.columns) in
+    let within = c.hear_groups-at.ensures.within in
+    omega (arith, c.requires.few, within, ap (λ (cs : List Column). length cs) short, long, c.loop-at.invariant.in_range)
 
 pub overflow_sub-end : goal.overflow_sub-end
 overflow_sub-end c = grind (arith, common_steps)

@@ -11,6 +11,9 @@ hand_all-requires-clause-carries g c = grind (arith, close_room)
 pub hand_all-requires-clause-most : goal.hand_all-requires-clause-most
 hand_all-requires-clause-most g c = let room = (close_room c.args.self.now c.requires.close.0 c.args.stray c.requires.close.1).1 in omega arith
 
+pub overflow_cast-stray : goal.overflow_cast-stray
+overflow_cast-stray g c = let room = (close_room c.args.self.now c.requires.close.0 c.args.stray c.requires.close.1).1 in omega arith
+
 pub turn-requires : goal.turn-requires
 turn-requires g c =
     let fed = c.requires.close.0 in

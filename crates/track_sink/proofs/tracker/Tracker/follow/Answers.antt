@@ -84,6 +84,15 @@ hand_on-requires-clause-most g c =
     let here = c.loop-stray.invariant.reported fed reported c.requires.stands.2 in
     grind (arith, carries_stays, can_settle, room_stays)
 
+pub overflow_cast-self : goal.overflow_cast-self
+overflow_cast-self g c =
+    let fed = c.requires.stands.0 in
+    let reported = c.requires.stands.1 in
+    let t = c.loop-stray.self in
+    let u = c.next_stray.new.self in
+    let here = c.loop-stray.invariant.reported fed reported c.requires.stands.2 in
+    grind (arith, carries_stays, can_settle, room_stays)
+
 pub returns-in_err-hand_on-clause-cause : goal.returns-in_err-hand_on-clause-cause
 returns-in_err-hand_on-clause-cause g c = grind (arith, on_err, rose_after)
 

@@ -25,14 +25,16 @@ feed_ungated-requires-clause-lanes g c =
     }
 
 pub returns-clause-carries : goal.returns-clause-carries
-returns-clause-carries g c = λ fed carries room.
+returns-clause-carries g c =
+    rw c.from.ensures
+    (λ fed carries room.
     let t = c.args.self.now in
     let is = handed_is t fed c.release-counts.new.self c.released.result.now c.released-2.result.now c.released-3.result.now c.release-counts.result c.args.bits carries
     c.release-counts.ensures.blue c.release-counts.ensures.green c.release-counts.ensures.red c.released.ensures.bits c.released-2.ensures.bits c.released-3.ensures.bits in
     carries_handed t fed c.feed_ungated.new.self c.release-counts.new.self c.release-counts.result c.args.bits carries room
     c.release-counts.ensures.blue c.release-counts.ensures.green c.release-counts.ensures.red c.in_ok-feed_ungated.ensures.open
     (subst (SinkRepresents c.feed_ungated.new.self) is (c.in_ok-feed_ungated.ensures.fed (front_of t.handed (rest_of t.start fed)) carries.link))
-    c.in_ok-feed_ungated.ensures.more.blue c.in_ok-feed_ungated.ensures.more.green c.in_ok-feed_ungated.ensures.more.red
+    c.in_ok-feed_ungated.ensures.more.blue c.in_ok-feed_ungated.ensures.more.green c.in_ok-feed_ungated.ensures.more.red)
 
 pub returns-clause-reported : goal.returns-clause-reported
 returns-clause-reported g c = λ fed carries room.

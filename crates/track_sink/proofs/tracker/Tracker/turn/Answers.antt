@@ -1,4 +1,4 @@
-use Rattle.std.proofs.Common.{◌+◌, ◌||◌, ◌++◌, ◌∙◌, ap, ap₂, sym}
+use Rattle.std.proofs.Common.{◌+◌, ◌||◌, ◌++◌, ◌∙◌, ap, ap₂, sym, refl}
 use Rattle.link_sink.proofs.Stops.{on_err}
 use Rattle.track_sink.specs.TrackEvents.{track_events_of, slip_if}
 use Rattle.track_sink.specs.Epochs.{rest_of, front_of}
@@ -55,7 +55,7 @@ returns-clause-reported g c = λ fed reported can was.
     let e = c.in_ok-end.ensures in
     let last = e.reported (front_of t.handed (rest_of t.start fed)) can.carries.link in (
       track_events_of last.0 ++ slip_if u.begun c.args.stray.lane u.start,
-      took_slip g.E.Ear.took g.E.TrackEar.tracked g.met.E.TrackEar.tracked_events g.met.E.TrackEar.tracked_both c.args.ear.now c.end.new.ear c.slip.new.self last.0 u.begun c.args.stray.lane c.from.result u.start c.if-not-self.false c.from.ensures last.2
+      took_slip g.E.Ear.took g.E.TrackEar.tracked g.met.E.TrackEar.tracked_events g.met.E.TrackEar.tracked_both c.args.ear.now c.end.new.ear c.slip.new.self last.0 u.begun c.args.stray.lane u.start u.start c.if-not-self.false refl last.2
           c.in_ok-slip.ensures.ok,
       follows_turned t u fed c.args.stray reported c.in_ok-end.field-0 last.0 can last.1
           (c.restart.ensures.start ∙ ap₂ (λ m n. m + n) c.end.ensures.start c.end.ensures.handed) c.restart.ensures.handed (c.restart.ensures.begun ∙ e.begun) (c.restart.ensures.epochs ∙ e.epochs) (c.restart.ensures.aligned ∙ e.aligned) was,
@@ -80,7 +80,7 @@ returns-in_err-slip-clause-stopped g c = λ fed reported can was.
     let last = c.in_ok-end.ensures.reported (front_of t.handed (rest_of t.start fed)) can.carries.link in
     on_err {P = LostMore g.E.TrackEar.tracked g.E.TrackEar.lost c.args.ear.now c.slip.new.self fed reported} _ (
       track_events_of last.0 ++ slip_if (t.begun || outcome.aligned) c.args.stray.lane (t.start + t.handed),
-      stops_slip g.E.Ear.took g.E.Ear.broke g.E.TrackEar.tracked g.E.TrackEar.lost g.met.E.TrackEar.tracked_events g.met.E.TrackEar.lost_event g.met.E.TrackEar.tracked_both c.args.ear.now c.end.new.ear c.slip.new.self last.0 (t.begun || outcome.aligned) c.args.stray.lane c.from.result (t.start + t.handed)
-          (sym (c.restart.ensures.begun ∙ c.in_ok-end.ensures.begun) ∙ c.if-not-self.false) (c.from.ensures ∙ c.restart.ensures.start ∙ ap₂ (λ m n. m + n) c.end.ensures.start c.end.ensures.handed) last.2 c.in_err-slip.ensures.err,
+      stops_slip g.E.Ear.took g.E.Ear.broke g.E.TrackEar.tracked g.E.TrackEar.lost g.met.E.TrackEar.tracked_events g.met.E.TrackEar.lost_event g.met.E.TrackEar.tracked_both c.args.ear.now c.end.new.ear c.slip.new.self last.0 (t.begun || outcome.aligned) c.args.stray.lane u.start (t.start + t.handed)
+          (sym (c.restart.ensures.begun ∙ c.in_ok-end.ensures.begun) ∙ c.if-not-self.false) (c.restart.ensures.start ∙ ap₂ (λ m n. m + n) c.end.ensures.start c.end.ensures.handed) last.2 c.in_err-slip.ensures.err,
       passes_turn t fed c.args.stray reported outcome last.0 can last.1 was,
     )
