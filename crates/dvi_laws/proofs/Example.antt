@@ -25,16 +25,16 @@ use Rattle.dvi_laws.proofs.Lanes.{edges_end}
 
 -- The periods: 24 control columns, three pixels, twelve control columns.
 
-abbrev times : ℕ → ℕ → ControlRun
+abbrev pub times : ℕ → ℕ → ControlRun
 times value count = record { value = value; count = count }
 
-abbrev first_runs : List ControlRun
+abbrev pub first_runs : List ControlRun
 first_runs = times 0 24 ∷ []
 
-abbrev last_runs : List ControlRun
+abbrev pub last_runs : List ControlRun
 last_runs = times 0 12 ∷ []
 
-abbrev grey : List ℕ
+abbrev pub grey : List ℕ
 grey = replicate 9 16
 
 unfoldable stream : List Period
@@ -50,20 +50,20 @@ three = (omega arith, tt)
 
 -- The columns.
 
-abbrev triple : ℕ → ℕ → ℕ → Column
+abbrev pub triple : ℕ → ℕ → ℕ → Column
 triple b g r = record { blue = b; green = g; red = r }
 
-abbrev pixels_sent : List Column
+abbrev pub pixels_sent : List Column
 pixels_sent = replicate 3 (triple 0x1f0 0x1f0 0x1f0)
 
 -- another word was received in the first pixel's place, and a control word in the second one's
 abbrev pixels_received : List Column
 pixels_received = triple 0x1f0 0x100 0x1f0 ∷ (triple 0x354 0x1f0 0x1f0 ∷ (triple 0x1f0 0x1f0 0x1f0 ∷ []))
 
-abbrev control_columns : List ControlRun → List Column
+abbrev pub control_columns : List ControlRun → List Column
 control_columns runs = map control_column (values_of runs)
 
-abbrev last_columns : List Column
+abbrev pub last_columns : List Column
 last_columns = control_columns last_runs ++ []
 
 abbrev columns : List Column → List Column
@@ -89,7 +89,7 @@ level j h = grind (arith, coded_test)
 lane : IsLane (replicate 3 16) (replicate 3 0x1f0)
 lane = record { same_length = refl; coded = level }
 
-spells_pixels : SpellsPixels (pixels_of grey) pixels_sent
+pub spells_pixels : SpellsPixels (pixels_of grey) pixels_sent
 unfolding pixels_of
 spells_pixels = record { blue = lane; green = lane; red = lane }
 
@@ -131,10 +131,10 @@ unlike_past : (i : ℕ) → 39 ≤ i → unlike_at sent received i ≡ 0
 unfolding unlike_words one_if
 unlike_past i le = grind (arith, long_sent, long_received, no_more)
 
-abbrev is_narrow : Column → Bool
+abbrev pub is_narrow : Column → Bool
 is_narrow c = nat_lt c.blue 1024 && (nat_lt c.green 1024 && nat_lt c.red 1024)
 
-narrow_column : (c : Column) → is_narrow c ≡ true → IsNarrow c
+pub narrow_column : (c : Column) → is_narrow c ≡ true → IsNarrow c
 narrow_column c h =
     let r = and-right (nat_lt c.blue 1024) _ h in
     record { blue = ltb-true _ _ (and-left _ _ h); green = ltb-true _ _ (and-left _ _ r); red = ltb-true _ _ (and-right (nat_lt c.green 1024) _ r) }
@@ -165,7 +165,7 @@ red_test : two_in_eleven (reds sent) (reds received) ≡ true
 unfolding passes_below unlike_words one_if sent received values_of control_words
 red_test = refl
 
-abbrev is_kind : Kind → Kind → Bool
+abbrev pub is_kind : Kind → Kind → Bool
 is_kind control_kind control_kind = true
 is_kind first_guard first_guard = true
 is_kind _ _ = false
@@ -180,26 +180,26 @@ unlike_column : (i : ℕ) → is_same (column_at received i) (column_at sent i) 
 unlike_column i test e = grind (arith, clash, eq-eqb)
 
 -- a test where a kind stands, and what it says there
-abbrev where_kind : Kind → (ℕ → Bool) → ℕ → Bool
-where_kind kind test i = not (is_kind kind (kind_at (dvi_kinds stream) i)) || test i
+abbrev pub where_kind : List Kind → Kind → (ℕ → Bool) → ℕ → Bool
+where_kind kinds kind test i = not (is_kind kind (kind_at kinds i)) || test i
 
-at_kind : (kind : Kind) (test : ℕ → Bool) → is_kind kind kind ≡ true → passes_below 39 (where_kind kind test) ≡ true → (i : ℕ) → i < 39 → kind_at (dvi_kinds stream) i ≡ kind → test i ≡ true
-at_kind kind test same all i lt e =
-    or_second _ _ (passes_at 39 (where_kind kind test) i all lt) (ap (λ k. not (is_kind kind k)) e ∙ ap not same)
+pub at_kind : (kinds : List Kind) (n : ℕ) (kind : Kind) (test : ℕ → Bool) → is_kind kind kind ≡ true → passes_below n (where_kind kinds kind test) ≡ true → (i : ℕ) → i < n → kind_at kinds i ≡ kind → test i ≡ true
+at_kind kinds n kind test same all i lt e =
+    or_second _ _ (passes_at n (where_kind kinds kind test) i all lt) (ap (λ k. not (is_kind kind k)) e ∙ ap not same)
 
-spares_test : passes_below 39 (where_kind control_kind (λ i. is_same (column_at received i) (column_at sent i))) ≡ true
+spares_test : passes_below 39 (where_kind (dvi_kinds stream) control_kind (λ i. is_same (column_at received i) (column_at sent i))) ≡ true
 unfolding passes_below stream dvi_kinds dvi_kinds_in sent received values_of control_words
 spares_test = refl
 
-abbrev spares_control : Column → Bool
+abbrev pub spares_control : Column → Bool
 spares_control c = not (is_control c.blue) && (not (is_control c.green) && not (is_control c.red))
 
-no_control : (c : Column) → spares_control c ≡ true → HasNoControl c
+pub no_control : (c : Column) → spares_control c ≡ true → HasNoControl c
 no_control c h =
     let r = and-right (not (is_control c.blue)) _ h in
     record { blue = not_true _ (and-left _ _ h); green = not_true _ (and-left _ _ r); red = not_true _ (and-right (not (is_control c.green)) _ r) }
 
-first_test : passes_below 39 (where_kind first_guard (λ i. spares_control (column_at received i))) ≡ true
+first_test : passes_below 39 (where_kind (dvi_kinds stream) first_guard (λ i. spares_control (column_at received i))) ≡ true
 unfolding passes_below stream dvi_kinds dvi_kinds_in received values_of control_words is_control is_in
 first_test = refl
 
@@ -214,9 +214,9 @@ sparse =
           (λ i lt. leb-true _ _ (passes_at 39 (λ i. nat_le (unlike_at sent received i) 1) i one_test lt))
           (λ i le. let none = unlike_past i le in omega arith);
       spares = each (λ i. kind_at (dvi_kinds stream) i ≡ control_kind → column_at received i ≡ column_at sent i)
-          (λ i lt e. same_columns _ _ (at_kind control_kind (λ i. is_same (column_at received i) (column_at sent i)) refl spares_test i lt e))
+          (λ i lt e. same_columns _ _ (at_kind (dvi_kinds stream) 39 control_kind (λ i. is_same (column_at received i) (column_at sent i)) refl spares_test i lt e))
           (λ i le e. no_more received r i le ∙ sym (no_more sent s i le));
-      first = λ i lt e. no_control _ (at_kind first_guard (λ i. spares_control (column_at received i)) refl first_test i (omega arith) e);
+      first = λ i lt e. no_control _ (at_kind (dvi_kinds stream) 39 first_guard (λ i. spares_control (column_at received i)) refl first_test i (omega arith) e);
       few_blue = few (blues sent) (blues received) (length-map sent (λ c. c.blue) ∙ s) blue_test;
       few_green = few (greens sent) (greens received) (length-map sent (λ c. c.green) ∙ s) green_test;
       few_red = few (reds sent) (reds received) (length-map sent (λ c. c.red) ∙ s) red_test;
@@ -240,7 +240,7 @@ pixel_damaged = refl
 
 -- The tap, as many bits as each lane has from there on.
 
-abbrev skews : List ℕ
+abbrev pub skews : List ℕ
 skews = 0 ∷ (70 ∷ (35 ∷ []))
 
 abbrev counts : List ℕ
@@ -258,7 +258,7 @@ tapped =
       red_part = part (reds received) 42 348 (length-map received (λ c. c.red) ∙ long) (omega arith);
     }
 
-small : HasSmallSkew skews
+pub small : HasSmallSkew skews
 small = record { blue_green = (omega arith, omega arith); green_red = (omega arith, omega arith); blue_red = (omega arith, omega arith) }
 
 -- The edges.

@@ -10,3 +10,5 @@ pub mod Example
 pub mod Local
 pub mod LocalStream
 pub mod LocalLanes
+pub mod FirstUntil
+pub mod LocalExample

@@ -1,13 +1,13 @@
 -- Locality in streams without guard columns: whatever was received before and after it, a line that was received with at most
 -- one damaged word a column, after control columns and before one, is reported as its row.
-use Rattle.std.specs.Prelude.{◌≡◌, ℕ, ◌+◌, ◌-◌, ◌*◌, ◌<◌, ◌≤◌, Bool, true, List, ◌∷◌, ◌++◌, length, map, take, drop, slice_index}
+use Rattle.std.specs.Prelude.{◌≡◌, ℕ, ◌+◌, ◌-◌, ◌*◌, ◌<◌, ◌≤◌, Bool, true, List, [], ◌∷◌, ◌++◌, length, map, take, drop, slice_index}
 use Rattle.tmds_word.specs.Column.{Column, blues, greens, reds}
 use Rattle.tmds_word.specs.Taps.{part_of, IsTap, HasSmallSkew}
 use Rattle.terc4.specs.Columns.{is_control_column}
 use Rattle.lane_deskew.specs.Triples.{IsFirst}
 use Rattle.lane_deskew.specs.Aligned.{aligned_columns}
 use Rattle.island_pack.specs.Conforming.{is_video_period}
-use Rattle.island_pack.specs.Kinds.{EndsAt}
+use Rattle.island_pack.specs.Kinds.{EndsAt, IsAfterControl}
 use Rattle.island_pack.specs.Periods.{Period, video, pixels_of}
 use Rattle.island_pack.specs.Sparse.{IsNarrow, column_at, unlike_at}
 use Rattle.island_pack.specs.Spelling.{SpellsPixels}
@@ -15,7 +15,7 @@ use Rattle.period_grammar.specs.Events.{Event, all_at, event_of}
 use Rattle.period_grammar.specs.Heard.{other_words}
 use Rattle.source_end.specs.DviPeriods.{IsDviConforming, dvi_columns, dvi_columns_of, DviSpells, dvi_kinds, IsDviSparse, HasThree}
 use Rattle.dvi_hearing.specs.DviHeard.{dvi_so_far, dvi_heard}
-use Rattle.link_laws.specs.Laws.{BeginColumn}
+use Rattle.link_laws.specs.Laws.{BeginColumn, HoldsEnd}
 use Rattle.link_laws.specs.Local.{twelve_before}
 use Rattle.link_laws.specs.PeriodLaws.{AreControl}
 use Rattle.dvi_laws.specs.DviAccount.{dvi_video_row}
@@ -96,3 +96,40 @@ DviAlignedWhateverFollows =
     → IsFirst x y z p q r
     × ((a : ℕ) × EndsAt (dvi_kinds ps) (a + 11) × (a + 12 ≤ f) × BeginColumn offset skews (a + 12) p q r
     × (aligned_columns x y z p q r ≡ take (length (aligned_columns x y z p q r)) (drop a received)))
+
+-- column f is the first one after a control period, and each lane of a tap has its bits and those of the twelve columns before it
+pub record DviHoldsUntil (ps : List Period) (offset : ℕ) (skews counts : List ℕ) (f : ℕ) : Type 0 where
+  pub after : IsAfterControl (dvi_kinds ps) f
+  pub holds : HoldsEnd offset skews counts f
+
+-- the lanes' bits up to column f have a first full alignment then
+abbrev pub DviFirstUntil : Type 0
+DviFirstUntil =
+    (ps : List Period) (sent received : List Column) (f : ℕ) → DviReceivedUntil ps sent received f
+    → (offset : ℕ) (skews counts : List ℕ) (x y z : List Bool) → IsTap received offset skews counts x y z → HasSmallSkew skews
+    → DviHoldsUntil ps offset skews counts f
+    → (p q r : ℕ) × DviAlignsUntil received offset skews counts f p q r
+
+-- Examples.
+
+-- a line that stands alone, and a column before it, after the alignment, of which no word was received as it was sent; and the
+-- columns of the tap go on past that line, wherever in them the first full alignment is
+pub record IsDviLocalExample (front : List Period) (bytes : List ℕ) (back : List Period) (sent received : List Column) (counts : List ℕ) (until : ℕ) (x y z : List Bool) : Type 0 where
+  pub reception : DviReceivedUntil (front ++ (video bytes ∷ back)) sent received until
+  pub tapped : IsTap received 7 (0 ∷ 70 ∷ 35 ∷ []) counts x y z
+  pub small : HasSmallSkew (0 ∷ 70 ∷ 35 ∷ [])
+  pub holds : DviHoldsUntil (front ++ (video bytes ∷ back)) 7 (0 ∷ 70 ∷ 35 ∷ []) counts until
+  pub aligns : (d e f : ℕ) × DviAlignsUntil received 7 (0 ∷ 70 ∷ 35 ∷ []) counts until d e f
+  pub damaged : (i : ℕ) × (until < i) × (i < dvi_columns_of front) × (unlike_at sent received i ≡ 3)
+  pub line : is_video_period bytes ≡ true
+  pub alone : DviStandsAlone received bytes sent (dvi_columns_of front)
+  pub later : until ≤ dvi_columns_of front
+  pub within :
+      (a d e f : ℕ) → BeginColumn 7 (0 ∷ 70 ∷ 35 ∷ []) (a + 12) d e f
+      → dvi_columns_of front + dvi_columns (video bytes) < a + length (aligned_columns x y z d e f)
+
+-- there is such a stream and such a tap
+abbrev pub HasDviLocalExample : Type 0
+HasDviLocalExample =
+    (front : List Period) × (bytes : List ℕ) × (back : List Period) × (sent received : List Column) × (counts : List ℕ) × (until : ℕ) × (x y z : List Bool)
+    × IsDviLocalExample front bytes back sent received counts until x y z

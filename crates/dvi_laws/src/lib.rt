@@ -2,7 +2,7 @@
 #![tactic(auto)]
 
 ghost use Rattle.dvi_laws.specs.DviLaws.{DviLinkLaw, DviEdgesEnd, DviEndsApart, DviFirstEnds, DviTapAccounted, HasDviExample};
-ghost use Rattle.dvi_laws.specs.DviLocal.{DviLineAnywhere, DviStreamAnywhere, DviAlignedWhateverFollows};
+ghost use Rattle.dvi_laws.specs.DviLocal.{DviLineAnywhere, DviStreamAnywhere, DviAlignedWhateverFollows, DviFirstUntil, HasDviLocalExample};
 
 /// What is reported of the received columns, from twelve before the end of a control period on, is the account.
 pub fn dvi_link_law()
@@ -50,4 +50,16 @@ pub fn dvi_stream_anywhere()
 /// of the whole lanes, and the end of one control period, whatever is received after.
 pub fn dvi_aligned_whatever_follows()
     ensures { DviAlignedWhateverFollows }
+{}
+
+/// Where damage is sparse until a column that is the first after a control period, and each lane of the tap has that column
+/// and the twelve before it, the lanes' bits up to there have a first full alignment.
+pub fn dvi_first_until()
+    ensures { DviFirstUntil }
+{}
+
+/// The premises of the last two and of the one on a stream are met together, with a column after the alignment of which no
+/// word was received as it was sent, and skews of 0, 70 and 35.
+pub fn dvi_local_example()
+    ensures { HasDviLocalExample }
 {}

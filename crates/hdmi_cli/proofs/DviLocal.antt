@@ -1,5 +1,5 @@
 -- What `recover dvi` lists of a capture of which anything may have been received after the alignment.
-use Rattle.std.proofs.Common.{◌≡◌, ℕ, ◌+◌, ◌-◌, List, ◌++◌, length, map, take, drop, refl, ap, sym, ◌∙◌, subst, append_assoc, arith, length-take, length-drop}
+use Rattle.std.proofs.Common.{◌≡◌, inl, inr, ℕ, ◌+◌, ◌-◌, List, ◌++◌, length, map, take, drop, refl, ap, sym, ◌∙◌, subst, append_assoc, arith, length-take, length-drop}
 use Rattle.std.specs.Prelude.{Some}
 use Rattle.std.specs.Io.KnownBytes.{Appends}
 use Rattle.tmds_word.specs.Column.{Column}
@@ -7,6 +7,8 @@ use Rattle.period_grammar.specs.Events.{event_of}
 use Rattle.source_end.specs.DviPeriods.{dvi_columns_of, DviSpells}
 use Rattle.dvi_hearing.specs.DviHeard.{dvi_so_far, dvi_heard}
 use Rattle.dvi_hearing.specs.DviGrammar.{dvi_grammar}
+use Rattle.dvi_laws.specs.DviLocal.{DviAlignsUntil}
+use Rattle.dvi_laws.proofs.FirstUntil.{dvi_first_until}
 use Rattle.dvi_laws.proofs.LocalLanes.{dvi_aligned_whatever_follows}
 use Rattle.dvi_laws.proofs.LocalStream.{dvi_stream_anywhere}
 use Rattle.command_line.specs.Commands.{IsCommand}
@@ -40,16 +42,19 @@ lines_stand t until a aligned tapped columns front bytes back is good alone late
       listed = begins_with_lines link_listing after_link last_link link_is_text (dvi_heard aligned) (us ++ row) law.0 (reported ∙ sym (append_assoc us row law.0));
     }
 
-pub dvi_headlined_locally : (words : List (List ℕ)) (ending : Ending) (before after : Devices) (status : ℕ) → RunEnds words ending before after → status ≡ status_of ending → IsCommand words RecoverDvi
-    → (t : TappedStream) (until d e f : ℕ) → IsDviTappedUntil t until → DviAlignsBy t until d e f → before.left ≡ Some t.bytes → Unless (IsDviHeardBy t until d e f) status before after
-dvi_headlined_locally words ending before after status ends is named t until d e f tapped aligns left =
+heard_here : (words : List (List ℕ)) (ending : Ending) (before after : Devices) (status : ℕ) → RunEnds words ending before after → status ≡ status_of ending → IsCommand words RecoverDvi
+    → (t : TappedStream) (until d e f : ℕ) → IsDviTappedUntil t until → DviAlignsUntil t.received t.offset t.skews t.counts until d e f → before.left ≡ Some t.bytes → Unless (IsDviHeardBy t until) status before after
+heard_here words ending before after status ends is named t until d e f tapped aligns left =
     let law = dvi_aligned_whatever_follows t.periods t.sent t.received until tapped.reception t.offset t.skews t.counts t.blue t.green t.red tapped.tap tapped.small d e f aligns in
     let place = law.1 in
     let cs = aligned_of t d e f in
-    run_ended (IsDviHeardBy t until d e f) RecoverDvi words ending before after status ends is named
+    run_ended (IsDviHeardBy t until) RecoverDvi words ending before after status ends is named
     (λ answers.
     let answer = answers t.bytes left in
     let listed = capture_listing dvi_grammar link_listing (dvi_heard cs) t.blue t.green t.red d e f t.bytes answer.outcome tapped.captured law.0 refl answer.does in (
+      d,
+      e,
+      f,
       law.0,
       (
         place.0,
@@ -64,3 +69,11 @@ dvi_headlined_locally words ending before after status ends is named t until d e
         },
       ),
     ))
+
+pub dvi_headlined_locally : (words : List (List ℕ)) (ending : Ending) (before after : Devices) (status : ℕ) → RunEnds words ending before after → status ≡ status_of ending → IsCommand words RecoverDvi
+    → (t : TappedStream) (until : ℕ) → IsDviTappedUntil t until → DviAlignsBy t until → before.left ≡ Some t.bytes → Unless (IsDviHeardBy t until) status before after
+dvi_headlined_locally words ending before after status ends is named t until tapped (inl first) left =
+    heard_here words ending before after status ends is named t until first.0 first.1 first.2 tapped first.3 left
+dvi_headlined_locally words ending before after status ends is named t until tapped (inr holds) left =
+    let first = dvi_first_until t.periods t.sent t.received until tapped.reception t.offset t.skews t.counts t.blue t.green t.red tapped.tap tapped.small holds in
+    heard_here words ending before after status ends is named t until first.0 first.1 first.2 tapped first.3 left

@@ -1,7 +1,7 @@
 -- What `recover dvi` lists of a capture of a stream without guard columns, of which anything may have been received after the
 -- alignment: of each line that was received with at most one damaged word a column, after twelve control columns and before one,
 -- its row.
-use Rattle.std.specs.Prelude.{◌≡◌, ◌+◌, ◌-◌, ◌<◌, ◌≤◌, ℕ, true, List, ◌∷◌, ◌++◌, length, map, take, drop, Option}
+use Rattle.std.specs.Prelude.{◌≡◌, ◌⊎◌, ◌+◌, ◌-◌, ◌<◌, ◌≤◌, ℕ, true, List, ◌∷◌, ◌++◌, length, map, take, drop, Option}
 use Rattle.std.specs.Io.KnownBytes.{Appends}
 use Rattle.capture_file.specs.Captures.{IsCaptureOf}
 use Rattle.tmds_word.specs.Column.{Column}
@@ -14,7 +14,7 @@ use Rattle.source_end.specs.DviPeriods.{dvi_columns, dvi_columns_of, dvi_kinds}
 use Rattle.dvi_hearing.specs.DviHeard.{dvi_so_far, dvi_heard}
 use Rattle.link_laws.specs.Laws.{BeginColumn}
 use Rattle.dvi_laws.specs.DviAccount.{dvi_video_row}
-use Rattle.dvi_laws.specs.DviLocal.{line_part, DviStandsAlone, DviReceivedUntil, DviAlignsUntil}
+use Rattle.dvi_laws.specs.DviLocal.{line_part, DviStandsAlone, DviReceivedUntil, DviAlignsUntil, DviHoldsUntil}
 use Rattle.hdmi_cli.specs.Headline.{TappedStream, aligned_of, IsFirstOf}
 use Rattle.hdmi_cli.specs.Listings.{link_listing}
 use Rattle.hdmi_cli.specs.Outcome.{status_with}
@@ -27,9 +27,12 @@ pub record IsDviTappedUntil (t : TappedStream) (until : ℕ) : Type 0 where
   pub small : HasSmallSkew t.skews
   pub captured : IsCaptureOf t.blue t.green t.red t.bytes
 
--- the lanes' bits up to a column have their first full alignment at these edges
-abbrev pub DviAlignsBy : TappedStream → ℕ → ℕ → ℕ → ℕ → Type 0
-DviAlignsBy t until d e f = DviAlignsUntil t.received t.offset t.skews t.counts until d e f
+-- the lanes' bits up to a column have a first full alignment; or that column is the first one after a control period, and each lane
+-- of the tap has it, with the twelve before it
+abbrev pub DviAlignsBy : TappedStream → ℕ → Type 0
+DviAlignsBy t until =
+    ((d e f : ℕ) × DviAlignsUntil t.received t.offset t.skews t.counts until d e f)
+    ⊎ DviHoldsUntil t.periods t.offset t.skews t.counts until
 
 -- the row of a line that stands at column j, counted from column a on: what the account has of it
 abbrev pub dvi_row_of : TappedStream → ℕ → List ℕ → ℕ → List Event
@@ -65,6 +68,8 @@ pub record IsDviHeardFrom (t : TappedStream) (d e f a status : ℕ) (old new : O
   pub written : Appends old new (link_listing.text (dvi_heard (aligned_of t d e f)))
   pub rows : HasDviRows t a (aligned_of t d e f)
 
--- at those edges, which are the first full alignment of the whole lanes, at or before that column
-abbrev pub IsDviHeardBy : TappedStream → ℕ → ℕ → ℕ → ℕ → ℕ → Option (List ℕ) → Option (List ℕ) → Type 0
-IsDviHeardBy t until d e f status old new = IsFirstOf t d e f × ((a : ℕ) × (a + 12 ≤ until) × IsDviHeardFrom t d e f a status old new)
+-- from the first full alignment on, which is at or before a column; lanes that have one by then have it at these edges, since lists
+-- of bits have one first full alignment
+abbrev pub IsDviHeardBy : TappedStream → ℕ → ℕ → Option (List ℕ) → Option (List ℕ) → Type 0
+IsDviHeardBy t until status old new =
+    (d e f : ℕ) × IsFirstOf t d e f × ((a : ℕ) × (a + 12 ≤ until) × IsDviHeardFrom t d e f a status old new)

@@ -97,12 +97,13 @@ pub record Promises (words : List (List ℕ)) (status : ℕ) (before after : Dev
   pub dvi_headline : IsCommand words RecoverDvi → (t : TappedStream) → IsDviTapped t
       → (d e f : ℕ) → IsFirstOf t d e f → before.left ≡ Some t.bytes
       → Unless (λ status held holds. (a : ℕ) × IsDviRecovered t d e f a status held holds) status before after
-  -- Whatever is received after a column until which damage is so, where the lanes' bits up to there have a first full alignment:
-  -- each line that was received with at most one damaged word a column, after twelve control columns and before one, is reported as
-  -- its row, and has its lines in what `recover dvi` writes.
-  pub dvi_local : IsCommand words RecoverDvi → (t : TappedStream) → (until d e f : ℕ) → IsDviTappedUntil t until → DviAlignsBy t until d e f
+  -- Whatever is received after a column until which damage is so, which is the first one after a control period and which each lane
+  -- of the tap has, with the twelve before it, or up to which the lanes' bits have a first full alignment: each line that was
+  -- received with at most one damaged word a column, after twelve control columns and before one, is reported as its row, and has
+  -- its lines in what `recover dvi` writes.
+  pub dvi_local : IsCommand words RecoverDvi → (t : TappedStream) → (until : ℕ) → IsDviTappedUntil t until → DviAlignsBy t until
       → before.left ≡ Some t.bytes
-      → Unless (IsDviHeardBy t until d e f) status before after
+      → Unless (IsDviHeardBy t until) status before after
   -- `recover track` writes the text of `recover link`: lanes that lost no bits have one epoch.
   pub track_headline : IsCommand words RecoverTrack → (t : TappedStream) → IsTapped t → Aligns t → before.left ≡ Some t.bytes
       → Unless (λ status held holds. FromFirst t (λ d e f a. IsRecovered link_listing t d e f a status held holds)) status before after

@@ -1,5 +1,5 @@
 -- The short stream with a pixel of which no word was received as it was sent: the data island after it stands alone.
-use Rattle.std.proofs.Common.{◌≡◌, ℕ, suc, zero, ◌+◌, ◌-◌, ◌<◌, ◌≤◌, true, List, [], ◌∷◌, ◌++◌, length, map, take, drop, refl, ap, sym, ◌∙◌, subst, arith, length-drop, length-take-le}
+use Rattle.std.proofs.Common.{◌≡◌, ℕ, suc, zero, ◌+◌, ◌-◌, ◌*◌, ◌<◌, ◌≤◌, true, List, [], ◌∷◌, ◌++◌, length, map, take, drop, refl, ap, sym, ◌∙◌, subst, arith, length-drop, length-take-le}
 use Rattle.std.specs.List.{list_all}
 use Rattle.std.proofs.lemmas.List.{length-map, take-append-drop, get_or-take, get_or-drop}
 use Rattle.tmds_word.specs.Bits.{row_bits}
@@ -17,7 +17,7 @@ use Rattle.island_pack.specs.Conforming.{is_packet, is_data_island}
 use Rattle.island_pack.specs.Periods.{Period, control, video, island, values_of, period_columns, columns_of}
 use Rattle.island_pack.specs.Sparse.{unlike_words, unlike_at, column_at, IsNarrow, IsSparse, SparesUntil}
 use Rattle.link_laws.specs.Laws.{BeginColumn, AlignsUntil}
-use Rattle.link_laws.specs.Local.{ReceivedUntil, StandsAlone, is_between, part_at, twelve_before, HasLocalExample}
+use Rattle.link_laws.specs.Local.{ReceivedUntil, StandsAlone, is_between, part_at, twelve_before, IsLocalExample, HasLocalExample}
 use Rattle.link_laws.proofs.Example.{skews, counts, tapped, aligns}
 use Rattle.link_laws.proofs.Freely.{free_spelled, spared}
 use Rattle.link_laws.proofs.Stream.{triple, columns, packet_sent, first, second, black, one_packet, last_period, stream, sent, conforming, spelled, long_sent, is_narrow, narrow_column, are_narrow}
@@ -26,21 +26,21 @@ use Rattle.link_laws.proofs.Stream.{triple, columns, packet_sent, first, second,
 abbrev pixel_lost : List Column
 pixel_lost = triple 0x354 0x3ff 0x2cc ∷ []
 
-unfoldable received : List Column
+unfoldable pub received : List Column
 received = columns pixel_lost packet_sent
 
-abbrev front : List Period
+abbrev pub front : List Period
 front = control first ∷ (video black ∷ (control second ∷ []))
 
 -- the island
-abbrev alone : Period
+abbrev pub alone : Period
 alone = island one_packet
 
 whole : stream ≡ front ++ (alone ∷ last_period)
 unfolding stream
 whole = refl
 
-long : length received ≡ 87
+pub long : length received ≡ 87
 unfolding received values_of video_guard
 long = refl
 
@@ -138,7 +138,7 @@ between = refl
 
 -- The columns of the tap go on past it.
 
-many_columns : (n : ℕ) (xs ys zs : List ℕ) → n ≤ length xs → n ≤ length ys → n ≤ length zs → n ≤ length (lane_columns xs ys zs)
+pub many_columns : (n : ℕ) (xs ys zs : List ℕ) → n ≤ length xs → n ≤ length ys → n ≤ length zs → n ≤ length (lane_columns xs ys zs)
 unfolding lane_columns
 many_columns zero xs ys zs a b c = omega arith
 many_columns (suc n) [] ys zs a b c = absurd (omega arith)
@@ -146,8 +146,8 @@ many_columns (suc n) (x ∷ xs) [] zs a b c = absurd (omega arith)
 many_columns (suc n) (x ∷ xs) (y ∷ ys) [] a b c = absurd (omega arith)
 many_columns (suc n) (x ∷ xs) (y ∷ ys) (z ∷ zs) a b c = let ih = many_columns n xs ys zs (omega arith) (omega arith) (omega arith) in omega arith
 
-length-part : (words : List ℕ) (from count : ℕ) → length words ≡ 87 → from + count ≤ 870 → length (part_of words from count) ≡ count
-length-part words from count l le =
+pub length-part : (words : List ℕ) (from count : ℕ) → from + count ≤ 10 * length words → length (part_of words from count) ≡ count
+length-part words from count le =
     let r = length-row_bits words in
     let d = length-drop from (row_bits words) in
     length-take-le count (drop from (row_bits words)) (omega arith)
@@ -161,9 +161,12 @@ within a d e f at =
     let x = part_of (blues received) 7 863 in
     let y = part_of (greens received) 77 793 in
     let z = part_of (reds received) 42 828 in
-    let lx = length-part (blues received) 7 863 (long_lane (λ c. c.blue)) (omega arith) in
-    let ly = length-part (greens received) 77 793 (long_lane (λ c. c.green)) (omega arith) in
-    let lz = length-part (reds received) 42 828 (long_lane (λ c. c.red)) (omega arith) in
+    let l1 = long_lane (λ c. c.blue) in
+    let l2 = long_lane (λ c. c.green) in
+    let l3 = long_lane (λ c. c.red) in
+    let lx = length-part (blues received) 7 863 (omega arith) in
+    let ly = length-part (greens received) 77 793 (omega arith) in
+    let lz = length-part (reds received) 42 828 (omega arith) in
     let wx = length-words_from x (d - 120) in
     let wy = length-words_from y (e - 120) in
     let wz = length-words_from z (f - 120) in
@@ -173,28 +176,20 @@ within a d e f at =
     let n = many_columns (76 - a) (words_from x (d - 120)) (words_from y (e - 120)) (words_from z (f - 120)) (omega arith) (omega arith) (omega arith) in
     omega arith
 
-pub local_example : HasLocalExample
-local_example =
+pub is_local_example : IsLocalExample front alone last_period sent received counts 24 (part_of (blues received) 7 863) (part_of (greens received) 77 793) (part_of (reds received) 42 828)
+is_local_example =
     let b = before_it in
-    let s = size in (
-      front,
-      alone,
-      last_period,
-      sent,
-      received,
-      counts,
-      24,
-      _,
-      _,
-      _,
-      record {
-        reception = subst (λ ps. ReceivedUntil ps sent received 24) whole reception;
-        tapped = tapped received long;
-        aligns = subst (λ ps. AlignsUntil ps sent received 7 skews counts 24) whole (aligns received spares);
-        damaged = (26, omega arith, omega arith, lost);
-        between = between;
-        alone = subst (StandsAlone received alone sent) (sym before_it) stands;
-        later = omega arith;
-        within = λ a d e f at. let w = within a d e f at in omega arith;
-      },
-    )
+    let s = size in
+    record {
+      reception = subst (λ ps. ReceivedUntil ps sent received 24) whole reception;
+      tapped = tapped received long;
+      aligns = subst (λ ps. AlignsUntil ps sent received 7 skews counts 24) whole (aligns received spares);
+      damaged = (26, omega arith, omega arith, lost);
+      between = between;
+      alone = subst (StandsAlone received alone sent) (sym before_it) stands;
+      later = omega arith;
+      within = λ a d e f at. let w = within a d e f at in omega arith;
+    }
+
+pub local_example : HasLocalExample
+local_example = (front, alone, last_period, sent, received, counts, 24, _, _, _, is_local_example)

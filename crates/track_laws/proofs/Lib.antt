@@ -11,3 +11,4 @@ pub mod Fronts
 pub mod Before
 pub mod SlipStream
 pub mod SlipExample
+pub mod LocalExample

@@ -14,6 +14,7 @@ use Rattle.period_grammar.specs.Heard.{heard}
 use Rattle.link_sink.specs.Sinks.{Fed}
 use Rattle.link_laws.specs.Account.{account}
 use Rattle.link_laws.specs.Laws.{ReceivedOf, EndsControl, BeginColumn, IsAccounted, HasUnlike}
+use Rattle.link_laws.specs.Local.{IsLocalExample}
 use Rattle.lane_track.specs.Slips.{Slips, slipped}
 use Rattle.track_sink.specs.TrackEvents.{TrackEvent}
 use Rattle.track_sink.specs.Epochs.{lane_of, rest_of, IsEnd, HasNoEnd, IsTracked}
@@ -216,3 +217,10 @@ abbrev pub HasSlipExample : Type 0
 HasSlipExample =
     (ps : List Period) × (sent received : List Column) × (counts : List ℕ) × (x y : Fed) × (first next start : ℕ)
     × IsSlipExample ps sent received counts x y first next start
+
+-- a stream with a column of which no word was received as it was sent, after the alignment, and a period after it that stands
+-- alone, in a tap no lane of which has a stray
+abbrev pub HasTrackLocalExample : Type 0
+HasTrackLocalExample =
+    (front : List Period) × (p : Period) × (back : List Period) × (sent received : List Column) × (counts : List ℕ) × (until : ℕ) × (x : Fed)
+    × IsLocalExample front p back sent received counts until x.blue x.green x.red × HasNoEnd x

@@ -1,7 +1,7 @@
 //! What follows from the laws on taps.
 #![tactic(auto)]
 
-ghost use Rattle.track_laws.specs.Laws.{SecondReported, EndStays, AtMostTwo, CalmHasNoEnd, OneTrack, FirstReported, PayloadHasNoEnd, OneEpoch, SomeTrack, ReportedStarts, FirstEpoch, SecondEpoch, SlipNoticed, SlipPasses, HasSlipExample};
+ghost use Rattle.track_laws.specs.Laws.{SecondReported, EndStays, AtMostTwo, CalmHasNoEnd, OneTrack, FirstReported, PayloadHasNoEnd, OneEpoch, SomeTrack, ReportedStarts, FirstEpoch, SecondEpoch, SlipNoticed, SlipPasses, HasSlipExample, HasTrackLocalExample};
 
 /// What is reported of the second epoch is the account.
 pub fn second_reported()
@@ -77,4 +77,9 @@ pub fn slip_passes()
 /// The premises can be met: a stream, a tap and a slip where both epochs have a full alignment.
 pub fn slip_example()
     ensures { HasSlipExample }
+{}
+
+/// Lanes have one epoch also where a column after the alignment was received with no word as it was sent.
+pub fn local_example()
+    ensures { HasTrackLocalExample }
 {}
