@@ -39,6 +39,4 @@ pub fn clean_capture()
 /// A data island and a line that were relayed, and what is relayed of that capture.
 pub fn relayed_twice()
     ensures { HasRelayedTwice }
-{
-    relay_laws::relayed_again();
-}
+{}

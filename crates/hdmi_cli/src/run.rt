@@ -33,7 +33,6 @@ use crate::ending::Ending;
 use crate::note::write_note;
 use command_line::Command;
 use outside_io::{Sink, Source};
-use relay_laws::{alone_relayed, relayed_account, relayed_again, whole_relayed};
 use std::alloc::Global;
 use std::thread::Threads;
 
@@ -116,10 +115,6 @@ pub fn run<R: Threads, S: Source, K: Sink, N: Sink, G: BlockGate>(
     ensures output_later { K.faults output.old ≤ K.faults output.new }
     ensures notes_later { N.faults notes.old ≤ N.faults notes.new }
 {
-    alone_relayed();
-    relayed_account();
-    relayed_again();
-    whole_relayed();
     let ending = carry_out(rt, alloc, words, input, output, gate);
     write_note(&ending, notes);
     ending.status()

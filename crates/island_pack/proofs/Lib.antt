@@ -6,7 +6,7 @@ pub mod WordColumns
 pub mod PixelColumns
 mod Parities
 mod Laid
-mod Law
+pub mod Law
 pub mod Spelled
 mod PacketRanges
 pub mod Repaired

@@ -28,53 +28,28 @@ pub fn gained()
 /// What is relayed of an account is what was received of the periods that were sent.
 pub fn relayed_account()
     ensures { RelayedAccount }
-{
-    period_grammar::laws::value_below();
-    link_laws::link::decoded_is_byte();
-    island_pack::laws::repaired_is_taken();
-    island_pack::laws::carried_is_taken();
-}
+{}
 
 /// A line or an island of which the row is reported is sent on, whatever is reported before and after it.
 pub fn alone_relayed()
     ensures line { LineRelayed }
     ensures island { IslandRelayed }
-{
-    period_grammar::laws::value_below();
-    link_laws::link::decoded_is_byte();
-    island_pack::laws::repaired_is_taken();
-    island_pack::laws::carried_is_taken();
-}
+{}
 
 /// What is relayed of columns that conforming periods spell is those periods.
 pub fn own_relayed()
     ensures { OwnRelayed }
-{
-    period_grammar::laws::value_below();
-    link_laws::link::decoded_is_byte();
-    island_pack::laws::repaired_is_taken();
-    island_pack::laws::carried_is_taken();
-}
+{}
 
 /// What was relayed is preserved when it is relayed again.
 pub fn relayed_again()
     ensures { RelayedAgain }
-{
-    period_grammar::laws::value_below();
-    link_laws::link::decoded_is_byte();
-    island_pack::laws::repaired_is_taken();
-    island_pack::laws::carried_is_taken();
-}
+{}
 
 /// Of columns that conforming periods spell, the same columns are relayed.
 pub fn whole_relayed()
     ensures { WholeRelayed }
-{
-    period_grammar::laws::value_below();
-    link_laws::link::decoded_is_byte();
-    island_pack::laws::repaired_is_taken();
-    island_pack::laws::carried_is_taken();
-}
+{}
 
 /// The last eight columns get the control bits exactly where those from the eighth place from the end on do.
 pub fn announced_from()

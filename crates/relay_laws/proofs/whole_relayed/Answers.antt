@@ -1,8 +1,6 @@
-use Rattle.relay_laws.proofs.Below.{Facts}
+use Rattle.relay_laws.proofs.Below.{facts}
 use Rattle.relay_laws.proofs.Own.{whole_relayed}
 use Rattle.relay_laws.proofs.whole_relayed.Goals as goal
 
 pub returns : goal.returns
-returns c =
-    let f : Facts = record { value = c.value_below.ensures; decoded = c.decoded_is_byte.ensures; taken = c.repaired_is_taken.ensures; clean = c.carried_is_taken.ensures } in
-    whole_relayed f
+returns c = whole_relayed facts

@@ -23,6 +23,10 @@ use Rattle.hdmi_cli.proofs.TrackSlip.{tracked_across}
 use Rattle.hdmi_cli.proofs.TrackPasses.{tracked_as_one}
 use Rattle.hdmi_cli.proofs.Pictures.{packeted, pictured}
 use Rattle.hdmi_cli.proofs.Sounds.{sounded}
+use Rattle.relay_laws.proofs.Accounting.{relayed_account}
+use Rattle.relay_laws.proofs.Below.{facts}
+use Rattle.relay_laws.proofs.Local.{line_relayed, island_relayed}
+use Rattle.relay_laws.proofs.Own.{relayed_again, whole_relayed}
 use Rattle.hdmi_cli.proofs.run.run.Goals as goal
 
 pub returns : goal.returns
@@ -74,12 +78,12 @@ returns g c =
         track_local = tracked_locally words ending before after status ends known;
         track_slip = tracked_across words ending before after status ends known;
         track_slip_passes = tracked_as_one words ending before after status ends known;
-        relay_headline = relay_headlined c.relayed_account.ensures words ending before after status ends known;
-        relay_local = relayed_locally c.alone_relayed.ensures.line c.alone_relayed.ensures.island words ending before after status ends known;
-        relay_clean = relay_passes c.whole_relayed.ensures words ending before after status ends known;
-        relay_clean_columns = relay_agrees c.whole_relayed.ensures words ending before after status ends known;
-        relay_again = relay_again c.relayed_again.ensures words ending before after status ends known;
-        relay_settles = relay_settles c.relayed_again.ensures words ending before after status ends known;
+        relay_headline = relay_headlined (relayed_account facts) words ending before after status ends known;
+        relay_local = relayed_locally (line_relayed facts) (island_relayed facts) words ending before after status ends known;
+        relay_clean = relay_passes (whole_relayed facts) words ending before after status ends known;
+        relay_clean_columns = relay_agrees (whole_relayed facts) words ending before after status ends known;
+        relay_again = relay_again (relayed_again facts) words ending before after status ends known;
+        relay_settles = relay_settles (relayed_again facts) words ending before after status ends known;
       };
       notes = (note_of ending, s.noted, c.write_note.ensures.whole, c.write_note.ensures.part);
       input_later = search rules;
