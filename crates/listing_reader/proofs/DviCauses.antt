@@ -13,13 +13,13 @@ use Rattle.listing_reader.specs.Causes.{caused}
 use Rattle.listing_reader.specs.DviReading.{dvi_line_cause}
 use Rattle.listing_reader.specs.Reported.{AnswersCause}
 use Rattle.listing_reader.proofs.Refused.{answers_undecoded, no_digits}
-use Rattle.listing_reader.proofs.DviSteps.{cause_none_reported}
+use Rattle.listing_reader.proofs.DviSteps.{none_wrong}
 
 -- Pixels.
 
 pub dvi_unread : (T : Type 0) (periods : List Period) (digits : List ℕ) (result : Result T Refusal) (refusal : Refusal) → (refusal ≡ NoMemory) ⊎ ((refusal ≡ Cause Form) × IsErr (decode_of digits))
     → IsErrAnd result (λ r. r ≡ refusal) → AnswersCause (dvi_line_cause periods (video_by true (decode_of digits))) result
-dvi_unread T periods digits result refusal why h = grind (arith, answers_undecoded, no_digits, cause_none_reported)
+dvi_unread T periods digits result refusal why h = grind (arith, answers_undecoded, no_digits, none_wrong)
 
 pub dvi_pixels_pushed : (periods : List Period) (digits bytes : List ℕ) → decode_of digits ≡ Ok bytes → dvi_line_cause periods (video_by true (decode_of digits)) ≡ caused (dvi_push_fault periods (video bytes))
 unfolding dvi_line_cause

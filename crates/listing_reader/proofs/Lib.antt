@@ -9,6 +9,7 @@ pub mod Given
 pub mod Islands
 pub mod Leaving
 pub mod LineReads
+pub mod Steps
 pub mod LinkSteps
 pub mod LongForm
 pub mod Numbers

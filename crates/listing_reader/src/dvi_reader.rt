@@ -1,9 +1,11 @@
 //! What the lines of a listing without guard bands say, one line after the other.
 ghost use Rattle.std.specs.Prelude.{◌≡◌, ◌≤◌, ◌<◌, ◌++◌, ◌%◌, ℕ, List, length, true, IfOk, OnOk};
 ghost use Rattle.hex.specs.Hex.{decode_of};
-ghost use Rattle.listing_reader.specs.DviReading.{dvi_line_cause, with_dvi_line};
-ghost use Rattle.listing_reader.specs.Forms.{video_by};
+ghost use Rattle.listing_reader.specs.DviReading.{dvi_line_cause, dvi_step_by, with_dvi_line};
+ghost use Rattle.listing_reader.specs.FormSeen.{IsForm};
+ghost use Rattle.listing_reader.specs.Forms.{LineForm, video_by};
 ghost use Rattle.listing_reader.specs.Reported.{AnswersCause};
+ghost use Rattle.listing_reader.specs.Taken.{Takes};
 
 use crate::ListCause;
 use crate::form::{Form, read_form};
@@ -22,14 +24,25 @@ impl Teller for Periods<WithoutGuards> {
     ghost lines = { λ _. 0 };
 
     fn take(self, line: &[u8]) -> Result<Taken<Periods<WithoutGuards>, DviStream>, Refusal> {
-        match read_form(line) {
-            Form::Control { value, count } => Ok(Taken::More(self.run(value, count)?)),
-            Form::Video(digits) => Ok(Taken::More(video(self, digits)?)),
-            Form::End => Ok(Taken::End(self.close()?)),
-            Form::Fault => Err(Refusal::Cause(ListCause::Fault)),
-            Form::Island(_) | Form::Packet(_) | Form::Close(_) | Form::Other => {
-                Err(Refusal::Cause(ListCause::Form))
-            }
+        take_form(self, read_form(line))
+    }
+}
+
+/// Takes what a line of this form says, or refuses the line with its first cause. The periods are dropped on a refusal.
+fn take_form(
+    periods: Periods<WithoutGuards>,
+    form: Form<'_>,
+) -> Result<Taken<Periods<WithoutGuards>, DviStream>, Refusal>
+    requires { (reported : LineForm) × IsForm form reported }
+    ensures { (reported : LineForm) → IsForm form.entry reported → Takes (dvi_step_by (dvi_line_cause periods reported) reported periods) result }
+{
+    match form {
+        Form::Control { value, count } => Ok(Taken::More(periods.run(value, count)?)),
+        Form::Video(digits) => Ok(Taken::More(video(periods, digits)?)),
+        Form::End => Ok(Taken::End(periods.close()?)),
+        Form::Fault => Err(Refusal::Cause(ListCause::Fault)),
+        Form::Island(_) | Form::Packet(_) | Form::Close(_) | Form::Other => {
+            Err(Refusal::Cause(ListCause::Form))
         }
     }
 }

@@ -1,7 +1,9 @@
 use Rattle.source_end.proofs.Fronts.{ok_map}
 use Rattle.listing_reader.specs.Forms.{form_of}
 use Rattle.listing_reader.specs.Reading.{link_step}
-use Rattle.listing_reader.proofs.LinkSteps.{step_long, taken_short, taken_some, takes_no_cause, counted}
+use Rattle.listing_reader.specs.Causes.{line_cause}
+use Rattle.listing_reader.proofs.LinkSteps.{link_listing, fault_wrong, none_wrong, step_long, counted}
+use Rattle.listing_reader.proofs.Steps.{taken_short, taken_some, takes_no_cause}
 use Rattle.listing_reader.proofs.reader.ReaderTeller.take.Goals as goal
 
 pub take_form-requires : goal.take_form-requires
@@ -17,14 +19,14 @@ returns-clause-counted c = counted c.take_form.result
 pub returns-clause-some : goal.returns-clause-some
 unfolding link_step
 returns-clause-some c =
-    ok_map c.take_form.result (λ none. taken_some c.args.self c.args.line.now none)
-    (takes_no_cause c.args.self c.args.line.now c.take_form.result (c.take_form.ensures (form_of c.args.line.now) c.read_form.ensures.form))
+    ok_map c.take_form.result (λ none. taken_some line_cause c.args.self (none_wrong c.args.self) c.args.line.now none)
+    (takes_no_cause link_listing c.args.self (form_of c.args.line.now) c.take_form.result (c.take_form.ensures (form_of c.args.line.now) c.read_form.ensures.form))
 
 pub returns-clause-short : goal.returns-clause-short
 unfolding link_step
 returns-clause-short c =
-    ok_map c.take_form.result (λ none. taken_short c.args.self c.args.line.now none)
-    (takes_no_cause c.args.self c.args.line.now c.take_form.result (c.take_form.ensures (form_of c.args.line.now) c.read_form.ensures.form))
+    ok_map c.take_form.result (λ none. taken_short line_cause c.args.self (fault_wrong c.args.self) (none_wrong c.args.self) c.args.line.now none)
+    (takes_no_cause link_listing c.args.self (form_of c.args.line.now) c.take_form.result (c.take_form.ensures (form_of c.args.line.now) c.read_form.ensures.form))
 
 pub returns-clause-long : goal.returns-clause-long
 returns-clause-long c = step_long c.args.self c.args.line.now
