@@ -1,16 +1,14 @@
 -- Frames of a content, the last of which may still be open.
-use Rattle.std.proofs.Common.{◌≡◌, ℕ, ◌≤◌, Bool, true, false, ◌&&◌, List, [], ◌∷◌, ◌++◌, length, refl, ap, sym, subst, ◌∙◌, arith, eqb-true}
-use Rattle.std.specs.Prelude.{Option, None, Result, is_some, nat_lt}
+use Rattle.std.proofs.Common.{◌≡◌, ℕ, ◌≤◌, Bool, true, false, ◌&&◌, List, [], ◌∷◌, ◌++◌, length, refl, ap, ◌∙◌, arith}
+use Rattle.std.specs.Prelude.{Option, None, is_some, nat_lt}
 use Rattle.audio_packets.specs.declared.sample.Sample.{Sample}
 use Rattle.source_end.specs.Content.{Frame, on_last}
 use Rattle.source_end.specs.declared.refusal.RasterFault.{RasterFault}
-use Rattle.listing_reader.specs.declared.teller.Refusal.{Refusal}
-use Rattle.listing_reader.specs.Reported.{AnswersCause}
-use Rattle.listing_reader.specs.ContentForms.{ContentLine, end_line}
+use Rattle.listing_reader.specs.ContentForms.{end_line}
 use Rattle.listing_reader.specs.ContentDrafts.{with_samples}
 use Rattle.listing_reader.specs.ContentKept.{AreKept, ContentKept, is_kept_settled, is_reported, kept_cause}
 use Rattle.listing_reader.specs.ContentReported.{first_frames, last_frame, whole_frames, open_frame, pending, IsOpened}
-use Rattle.listing_reader.proofs.Feeds.{and-left, and-right}
+use Rattle.listing_reader.proofs.Feeds.{and-left}
 
 pub first_on_last : (change : Frame → Frame) (frames : List Frame) → first_frames (on_last change frames) ≡ first_frames frames
 unfolding first_frames
@@ -69,10 +67,6 @@ pub frame_ends : (is_open : Bool) (frames : List Frame) (rows packets : ℕ) →
     → frames ≡ whole_frames is_open frames ++ open_frame is_open frames ∷ []
 frame_ends is_open frames rows packets h k = grind (arith, first_and_last)
 
--- nothing is given of a frame
-pub content_closed : (is_open : Bool) (frames : List Frame) (rows packets : ℕ) → IsOpened is_open frames rows packets → rows ≡ 0 → packets ≡ 0 → frames ≡ whole_frames is_open frames
-content_closed is_open frames rows packets h k l = grind arith
-
 pub no_fault : (fault : Option RasterFault) → is_some fault ≡ false → fault ≡ None
 no_fault fault h = grind arith
 
@@ -89,16 +83,6 @@ end_none k h = grind arith
 pub end_reported : (k : ContentKept) → kept_cause k end_line ≡ None → is_reported k.mode ≡ true
 end_reported k h = and-left _ _ (end_none k h)
 
--- nothing of a frame is given there
-pub end_settled : (k : ContentKept) → kept_cause k end_line ≡ None → (k.rows ≡ 0) × (k.packets ≡ 0)
-end_settled k h =
-    let settled = and-right _ _ (and-right _ _ (end_none k h)) in
-    (eqb-true _ 0 (and-left _ _ settled), eqb-true _ 0 (and-left _ _ (and-right _ _ settled)))
-
 pub pending_one : (samples : List Sample) (s : Sample) → pending (samples ++ s ∷ []) ≡ 1
 pending_one [] s = refl
 pending_one (r ∷ samples) s = refl
-
-pub answers_reported : {T : Type 0} (draft : ContentKept) (reported form : ContentLine) (result : Result T Refusal) → reported ≡ form → AnswersCause {T = T} (kept_cause draft form) result
-    → AnswersCause {T = T} (kept_cause draft reported) result
-answers_reported draft reported form result is answers = subst (λ (t : ContentLine). AnswersCause (kept_cause draft t) result) (sym is) answers

@@ -12,7 +12,7 @@ use Rattle.listing_reader.specs.declared.teller.Refusal.{Refusal}
 use Rattle.listing_reader.specs.declared.teller.Taken.{Taken}
 use Rattle.listing_reader.specs.declared.teller.Taken.TheVariants.{More, End}
 use Rattle.listing_reader.specs.LineSteps.{tells, closes, wrong}
-use Rattle.listing_reader.specs.Forms.{LineForm, control_line, video_line, video_by, island_line, packet_line, close_line, end_line, fault_line, no_line, form_of}
+use Rattle.listing_reader.specs.Forms.{LineForm, control_line, video_line, video_by, island_line, packet_line, close_line, end_line, fault_line, no_line}
 use Rattle.listing_reader.specs.FormSeen.{IsForm}
 use Rattle.listing_reader.specs.declared.form.Form.{Form as Seen}
 use Rattle.listing_reader.specs.declared.form.Form.TheVariants.{Island, Packet as Packet_seen, Close, Other}

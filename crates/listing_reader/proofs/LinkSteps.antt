@@ -1,5 +1,5 @@
 -- What a line of a link listing does.
-use Rattle.std.proofs.Common.{◌≡◌, ℕ, ◌<◌, Bool, true, false, List, ◌++◌, length, refl, ap, sym, subst, ◌∙◌, arith}
+use Rattle.std.proofs.Common.{◌≡◌, ℕ, ◌<◌, true, false, List, ◌++◌, length, refl, ap, sym, subst, ◌∙◌, arith}
 use Rattle.std.specs.Prelude.{Option, Some, None, Result, Ok, Err, IsErrAnd, IfOk}
 use Rattle.hex.specs.declared.error.FromHexError.{FromHexError}
 use Rattle.island_pack.specs.Periods.{Period}
@@ -9,7 +9,7 @@ use Rattle.listing_reader.specs.declared.teller.Refusal.{Refusal}
 use Rattle.listing_reader.specs.declared.teller.Taken.{Taken}
 use Rattle.listing_reader.specs.declared.teller.Taken.TheVariants.{More, End}
 use Rattle.listing_reader.specs.LineSteps.{tells, closes}
-use Rattle.listing_reader.specs.Forms.{LineForm, control_line, video_line, video_by, island_line, packet_line, close_line, end_line, fault_line, no_line, form_of}
+use Rattle.listing_reader.specs.Forms.{LineForm, control_line, video_line, video_by, island_line, packet_line, close_line, end_line, fault_line, no_line}
 use Rattle.listing_reader.specs.Causes.{end_cause, line_cause}
 use Rattle.listing_reader.specs.Drafts.{Draft, with_line}
 use Rattle.listing_reader.specs.Reading.{link_step_by, link_step}

@@ -1,5 +1,5 @@
 -- What a line does in a listing of any sort: it is refused with its first cause, it gives something, or it ends the listing.
-use Rattle.std.proofs.Common.{◌≡◌, ℕ, ◌<◌, ◌≤◌, Bool, true, false, List, [], ◌∷◌, ◌++◌, length, refl, ap, sym, subst, ◌∙◌, arith, inl, inr, ◌⊎◌}
+use Rattle.std.proofs.Common.{◌≡◌, ℕ, ◌≤◌, Bool, true, false, List, [], ◌∷◌, length, refl, ap, sym, subst, ◌∙◌, arith, inl, inr, ◌⊎◌}
 use Rattle.std.specs.Prelude.{Option, Some, None, Result, Ok, Err, IsErrAnd, OnOk}
 use Rattle.std.proofs.lemmas.Bool.{cases_lt}
 use Rattle.listing_reader.specs.declared.fault.ListCause.{ListCause}
@@ -8,7 +8,7 @@ use Rattle.listing_reader.specs.declared.teller.Refusal.{Refusal}
 use Rattle.listing_reader.specs.declared.teller.Refusal.TheVariants.{Cause, NoMemory}
 use Rattle.listing_reader.specs.declared.teller.Taken.{Taken}
 use Rattle.listing_reader.specs.declared.teller.Taken.TheVariants.{More, End}
-use Rattle.listing_reader.specs.LineSteps.{LineStep, tells, closes, wrong}
+use Rattle.listing_reader.specs.LineSteps.{LineStep, tells, wrong}
 use Rattle.listing_reader.specs.Forms.{LineForm, end_line, fault_line, no_line, form_of, is_fault}
 use Rattle.listing_reader.specs.Reported.{AnswersCause}
 use Rattle.listing_reader.specs.Taken.{Takes}

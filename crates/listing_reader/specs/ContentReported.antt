@@ -2,7 +2,6 @@
 use Rattle.std.specs.Prelude.{ℕ, ◌+◌, ◌≤◌, Bool, true, false, List, [], ◌∷◌, length}
 use Rattle.audio_packets.specs.declared.sample.Sample.{Sample}
 use Rattle.source_end.specs.Content.{Frame, empty_frame}
-use Rattle.listing_reader.specs.ContentForms.{ContentLine, mode_line, row_line, frame_line, packet_line, sample_line, end_line, fault_line, no_line}
 
 -- all frames but the last, and the last
 unfoldable pub first_frames : List Frame → List Frame
@@ -33,13 +32,3 @@ pending (s ∷ samples) = 1
 abbrev pub IsOpened : Bool → List Frame → ℕ → ℕ → Type 0
 IsOpened true frames rows packets = (1 ≤ length frames) × (1 ≤ rows + packets)
 IsOpened false frames rows packets = Unit {0}
-
-abbrev pub is_content_end : ContentLine → Bool
-is_content_end end_line = true
-is_content_end (mode_line mode) = false
-is_content_end (row_line bytes) = false
-is_content_end (frame_line width height) = false
-is_content_end (packet_line packet) = false
-is_content_end (sample_line sample) = false
-is_content_end fault_line = false
-is_content_end no_line = false

@@ -7,9 +7,10 @@ ghost use Rattle.source_end.specs.Content.{with_packet, with_row};
 ghost use Rattle.listing_reader.specs.ContentForms.{ContentLine, mode_line, row_by, row_line, frame_line, packet_line, sample_line, end_line};
 ghost use Rattle.listing_reader.specs.ContentFormSeen.{IsContentForm, IsFit, SampleFits};
 ghost use Rattle.listing_reader.specs.ContentDrafts.{frame_fits, is_raster_mode, row_fits, with_samples};
-ghost use Rattle.listing_reader.specs.ContentKept.{fault_after, frames_or, has_kept_room, has_kept_sample_room, is_kept_settled, is_reported, kept_cause, kept_frame, kept_frame_cause, kept_lines, kept_row_cause, settled_kept, with_frame, with_kept, with_kept_sample};
-ghost use Rattle.listing_reader.specs.ContentReported.{is_content_end, open_frame, whole_frames};
+ghost use Rattle.listing_reader.specs.ContentKept.{fault_after, frames_or, has_kept_room, has_kept_sample_room, is_kept_settled, is_reported, kept_cause, kept_frame, kept_frame_cause, kept_lines, kept_row_cause, kept_step_by, settled_kept, with_frame, with_kept, with_kept_sample};
+ghost use Rattle.listing_reader.specs.ContentReported.{open_frame, whole_frames};
 ghost use Rattle.listing_reader.specs.Reported.{AnswersCause};
+ghost use Rattle.listing_reader.specs.Taken.{Takes};
 
 use crate::ListCause;
 use crate::content_fields::blank_packet;
@@ -83,14 +84,7 @@ impl Teller for ContentReader {
         self,
         line: &[u8],
     ) -> Result<Taken<ContentReader, Result<(Mode, Content), RasterFault>>, Refusal> {
-        let form = read_content_form(line);
-        let is_end = is_end_form(form);
-        let reader = self.take_form(form)?;
-        if is_end {
-            Ok(Taken::End(reader.close()))
-        } else {
-            Ok(Taken::More(reader))
-        }
+        self.take_form(read_content_form(line))
     }
 }
 
@@ -115,20 +109,22 @@ impl ContentReader {
 
     /// Takes what a line of this form says, or refuses the line with its first cause. The reader is
     /// dropped on a refusal.
-    fn take_form(self, form: ContentForm<'_>) -> Result<ContentReader, Refusal>
+    fn take_form(
+        self,
+        form: ContentForm<'_>,
+    ) -> Result<Taken<ContentReader, Result<(Mode, Content), RasterFault>>, Refusal>
         requires seen { (reported : ContentLine) × IsContentForm form reported }
         requires fits { IsFit form }
         requires few { kept_lines self ≤ 4294967290 }
-        ensures cause { (reported : ContentLine) → IsContentForm form.entry reported → AnswersCause (kept_cause self reported) result }
-        ensures ok { (reported : ContentLine) → IsContentForm form.entry reported → IfOk result (λ r. r ≡ with_kept reported self) }
+        ensures { (reported : ContentLine) → IsContentForm form.entry reported → Takes (kept_step_by (kept_cause self reported) reported self) result }
     {
         match form {
-            ContentForm::Mode(mode) => self.mode(mode),
-            ContentForm::Row(digits) => self.row(digits),
-            ContentForm::Frame(width, height) => self.frame(width, height),
-            ContentForm::Packet(packet) => self.packet(packet),
-            ContentForm::Sample(sample) => self.sample(sample),
-            ContentForm::End => self.end(),
+            ContentForm::Mode(mode) => Ok(Taken::More(self.mode(mode)?)),
+            ContentForm::Row(digits) => Ok(Taken::More(self.row(digits)?)),
+            ContentForm::Frame(width, height) => Ok(Taken::More(self.frame(width, height)?)),
+            ContentForm::Packet(packet) => Ok(Taken::More(self.packet(packet)?)),
+            ContentForm::Sample(sample) => Ok(Taken::More(self.sample(sample)?)),
+            ContentForm::End => Ok(Taken::End(self.close()?)),
             ContentForm::Fault => Err(Refusal::Cause(ListCause::Fault)),
             ContentForm::Other => Err(Refusal::Cause(ListCause::Form)),
         }
@@ -385,47 +381,26 @@ impl ContentReader {
         Ok(reader)
     }
 
-    /// Takes the line `end`.
-    #[tactic(auto, unfolding(crate::specs::ContentKept::kept_cause))]
-    fn end(self) -> Result<ContentReader, Refusal>
-        ensures cause { AnswersCause (kept_cause self end_line) result }
-        ensures ok { IfOk result (λ r. r ≡ self) }
-    {
-        if self.can_end() {
-            Ok(self)
-        } else {
-            Err(Refusal::Cause(ListCause::Order))
-        }
-    }
-
-    /// Whether the listing can end here.
+    /// Whether the listing can end here, where the mode was given.
     fn can_end(&self) -> bool
-        ensures { result ≡ (is_reported self.now.mode && (nat_lt 0 self.now.count && is_kept_settled self.now)) }
+        ensures { result ≡ (nat_lt 0 self.now.count && is_kept_settled self.now) }
     {
-        if !self.is_settled() {
-            return false;
-        }
-        self.has_mode() && self.count > 0
+        self.count > 0 && self.is_settled()
     }
 
-    /// The mode and the content of all frames, or their first fault.
-    fn close(self) -> Result<(Mode, Content), RasterFault>
-        requires { kept_cause self end_line ≡ None }
-        ensures { (mode : Mode) → self.mode ≡ Some mode → result ≡ frames_or mode self.fault self.frames }
+    /// The mode and the content of all frames, or their first fault; or why the listing cannot end here.
+    #[tactic(auto, unfolding(crate::specs::ContentKept::kept_cause))]
+    fn close(self) -> Result<Result<(Mode, Content), RasterFault>, Refusal>
+        ensures cause { AnswersCause (kept_cause self end_line) result }
+        ensures ok { (mode : Mode) → self.mode ≡ Some mode → IfOk result (λ whole. whole ≡ frames_or mode self.fault self.frames) }
     {
+        let can_end = self.can_end();
         match (self.mode, self.fault) {
-            (_, Some(fault)) => Err(fault),
-            (Some(mode), None) => Ok((mode, self.content)),
-            (None, None) => unreachable!(),
+            (Some(_), Some(fault)) if can_end => Ok(Err(fault)),
+            (Some(mode), None) if can_end => Ok(Ok((mode, self.content))),
+            _ => Err(Refusal::Cause(ListCause::Order)),
         }
     }
-}
-
-/// Whether the form is that of the line `end`.
-fn is_end_form(form: ContentForm<'_>) -> bool
-    ensures { (reported : ContentLine) → IsContentForm form.entry reported → result ≡ is_content_end reported }
-{
-    matches!(form, ContentForm::End)
 }
 
 /// Appends a sample.
