@@ -6,9 +6,9 @@ use Rattle.source_end.specs.Framings.{link_rules, dvi_rules, IsFraming}
 use Rattle.source_end.proofs.Faults.{push_fault_is, dvi_push_fault_is}
 use Rattle.source_end.proofs.Follows.{control_columns, dvi_control_columns}
 use Rattle.source_end.proofs.ItemFronts.{period_spelled}
-use Rattle.source_end.proofs.Turns.{nothing_yet, no_columns, more_columns}
-use Rattle.source_end.proofs.DviTurns.{dvi_nothing_yet, dvi_no_columns, dvi_more_columns}
-use Rattle.source_end.proofs.Pushes.{pushed, closed, dvi_pushed, dvi_closed}
+use Rattle.source_end.proofs.Turns.{no_columns, more_columns}
+use Rattle.source_end.proofs.DviTurns.{dvi_no_columns, dvi_more_columns}
+use Rattle.source_end.proofs.Pushes.{nothing_yet, pushed, closed, dvi_nothing_yet, dvi_pushed, dvi_closed}
 use Rattle.source_end.proofs.Sendable.{sendable_all, period_length, dvi_sendable_all, dvi_period_length, dvi_period_spelled}
 
 pub link_is_framing : IsFraming link_rules SpellsPeriod Spells

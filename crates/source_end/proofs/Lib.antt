@@ -9,6 +9,7 @@ pub mod Streams
 pub mod Fronts
 pub mod ItemFronts
 pub mod DviTurns
+pub mod Alternating
 pub mod Pushes
 pub mod Sendable
 pub mod FramingLaws
