@@ -1,6 +1,6 @@
 -- The outcomes that the commands end with.
 use Rattle.std.proofs.Common.{◌≡◌, ◌⊎◌, ℕ, ◌<◌, ◌≤◌, List, [], ◌∷◌, ◌++◌, map, refl, ap, sym, ◌∙◌, subst, inl, inr, arith}
-use Rattle.std.specs.Prelude.{Option, Some, Result, Ok, Err, OnOk, IfErr, All, codes}
+use Rattle.std.specs.Prelude.{Option, Some, None, Result, Ok, Err, OnOk, IfErr, All, codes}
 use Rattle.outside_io.specs.Causes.{Rose}
 use Rattle.std.specs.Io.KnownBytes.{Appends, Keeps, IsAtEnd}
 use Rattle.std.proofs.KnownBytes.{Appends-nil}
@@ -26,7 +26,7 @@ use Rattle.capture_file.specs.Taps.{tapped_capture}
 use Rattle.capture_file.specs.declared.writing.Tap.{Tap}
 use Rattle.island_pack.specs.Periods.{Period}
 use Rattle.island_pack.specs.Spelling.{Spells}
-use Rattle.listing_reader.specs.Answers.{Answers as AnswersReading}
+use Rattle.listing_reader.specs.Answers.{Answers as AnswersReading, IsCaused as IsListCaused}
 use Rattle.listing_reader.specs.Reading.{reads_as}
 use Rattle.listing_reader.specs.DviReading.{dvi_reads_as}
 use Rattle.listing_reader.specs.LineSteps.{Read, accepts, refuses}
@@ -42,6 +42,7 @@ use Rattle.source_end.specs.declared.refusal.RasterFault.{RasterFault}
 use Rattle.source_end.specs.declared.refusal.RasterFault.TheVariants.{Row, NoRoom, Long, NoMemory as NoRaster}
 use Rattle.listing_reader.specs.declared.fault.ListFault.{ListFault}
 use Rattle.listing_reader.specs.declared.fault.ListError.{ListError}
+use Rattle.listing_reader.specs.declared.fault.ListError.TheVariants as lists
 use Rattle.listing_reader.specs.declared.fault.ListError.TheVariants.{Bad as BadListing}
 use Rattle.hdmi_cli.specs.Notes.{listing_note, raster_note, capture_note, frames_note, place_note}
 use Rattle.hdmi_cli.specs.Commands.{hit_asked, tap_asked}
@@ -52,40 +53,20 @@ use Rattle.command_line.specs.Commands.{IsCommand as IsLine, IsVersion}
 use Rattle.hdmi_cli.specs.Outcome.{RunOutcome, MakesLink, MakesStream, MakesRaster, MakesContent, Does}
 use Rattle.sampling.specs.Counts.{counts_text}
 use Rattle.hdmi_cli.specs.Samples.{IsSampleWhole}
-use Rattle.hdmi_cli.specs.Endings.{Devices, IsAnswered, Answers, Parts, Ends, EndsWriteFailed, ColumnsEnd, StreamEnds, damage_ending, frames_ending, raster_ending, slip_ending}
+use Rattle.hdmi_cli.specs.Endings.{Devices, IsAnswered, Answers, Parts, Ends, EndsReadFailed, EndsWriteFailed, ColumnsEnd, ListingEnds, StreamEnds, damage_ending, frames_ending, raster_ending, slip_ending}
 use Rattle.hdmi_cli.specs.Manners.{WritesOn}
 use Rattle.command_line.specs.declared.command.Command.{Command}
 use Rattle.command_line.specs.declared.command.Command.TheVariants.{MakeLink, MakeContent, MakeDvi, RecoverBiphase, Slip, ReadBiphase, Damage, Sample}
 use Rattle.hdmi_cli.specs.declared.ending.Ending.{Ending}
 use Rattle.hdmi_cli.specs.declared.ending.Ending.TheVariants.{Done, Faulty, Usage, Listing, Raster, Capture, Place, Frames, TooLong, ReadFailed, WriteFailed, NoMemory, Unaligned}
 
--- `make link`
+-- `make link` and `make dvi`
 
 pub bad_listing : {T : Type 0} (reading : Read T) (r : Result T ListError) (e : ListError) (f : ListFault) → AnswersReading reading r → r ≡ Err e → e ≡ BadListing f → reading ≡ refuses f.line f.cause
 bad_listing reading r e f answers is bad = subst (λ x. AnswersReading reading x) (is ∙ ap Err bad) answers
 
 same_held : (old new : Option (List ℕ)) → new ≡ old → Appends old new []
 same_held old new kept = subst (λ h. Appends old h []) (sym kept) (Appends-nil old)
-
-pub listing_refused : (words : TapWords) (fault : ListFault) (before after : Devices) (text : List ℕ) → reads_as text ≡ refuses fault.line fault.cause → after.held ≡ before.held
-    → IsAnswered (MakeLink words) (Listing fault) before after text
-listing_refused words fault before after text read kept = record {
-  outcome = record { status = 3; output = []; note = listing_note fault.line fault.cause };
-  does = subst (λ r. MakesLink Spells (tap_asked words) r (record { status = 3; output = []; note = listing_note fault.line fault.cause })) (sym read) refl;
-  status = refl;
-  note = refl;
-  written = same_held before.held after.held kept;
-}
-
-pub dvi_refused : (words : TapWords) (fault : ListFault) (before after : Devices) (text : List ℕ) → dvi_reads_as text ≡ refuses fault.line fault.cause → after.held ≡ before.held
-    → IsAnswered (MakeDvi words) (Listing fault) before after text
-dvi_refused words fault before after text read kept = record {
-  outcome = record { status = 3; output = []; note = listing_note fault.line fault.cause };
-  does = subst (λ r. MakesLink DviSpells (tap_asked words) r (record { status = 3; output = []; note = listing_note fault.line fault.cause })) (sym read) refl;
-  status = refl;
-  note = refl;
-  written = same_held before.held after.held kept;
-}
 
 -- a stream that is written ends a command that makes it
 pub stream_ends : (spells : List Period → List Column → Type 0) (command : Command) (tap : Tap) (ps : List Period) (e : Ending) (before after : Devices)
@@ -125,11 +106,36 @@ stream_ends spells command tap ps TooLong before after makes unwritten other end
 stream_ends spells command tap ps ReadFailed before after makes unwritten other end is = absurd is
 stream_ends spells command tap ps Unaligned before after makes unwritten other end is = absurd is
 
-pub makes_link : (words : TapWords) (ps : List Period) (text : List ℕ) (o : RunOutcome) → reads_as text ≡ accepts ps → MakesStream Spells (tap_asked words) ps o → Does (MakeLink words) text o
-makes_link words ps text o read made = subst (λ r. MakesLink Spells (tap_asked words) r o) (sym read) made
+same_kept : (old new : Option (List ℕ)) → new ≡ old → Keeps old new
+same_kept None new same = tt
+same_kept (Some xs) new same = subst (λ h. Keeps (Some xs) h) (sym same) refl
 
-pub makes_dvi : (words : TapWords) (ps : List Period) (text : List ℕ) (o : RunOutcome) → dvi_reads_as text ≡ accepts ps → MakesStream DviSpells (tap_asked words) ps o → Does (MakeDvi words) text o
-makes_dvi words ps text o read made = subst (λ r. MakesLink DviSpells (tap_asked words) r o) (sym read) made
+listing_refused : (spells : List Period → List Column → Type 0) (command : Command) (tap : Tap) (reading : Read (List Period)) (fault : ListFault) (before after : Devices) (text : List ℕ)
+    → ((o : RunOutcome) → MakesLink spells tap reading o → Does command text o) → reading ≡ refuses fault.line fault.cause → after.held ≡ before.held → IsAnswered command (Listing fault) before after text
+listing_refused spells command tap reading fault before after text does read kept = record {
+  outcome = record { status = 3; output = []; note = listing_note fault.line fault.cause };
+  does = does (record { status = 3; output = []; note = listing_note fault.line fault.cause }) (subst (λ r. MakesLink spells tap r (record { status = 3; output = []; note = listing_note fault.line fault.cause })) (sym read) refl);
+  status = refl;
+  note = refl;
+  written = same_held before.held after.held kept;
+}
+
+-- a listing that is read and written, or is not, ends a command that makes it
+pub listing_ends : (spells : List Period → List Column → Type 0) (command : Command) (reads : List ℕ → Read (List Period)) (words : TapWords) (read : Result (List Period) ListError) (e : Ending) (before after : Devices)
+    → ((text : List ℕ) (o : RunOutcome) → MakesLink spells (tap_asked words) (reads text) o → Does command text o)
+    → (Parts command before after → EndsWriteFailed command before after) → (Keeps before.held after.held → EndsReadFailed command before after) → (WritesOn command → ⊥)
+    → ((text : List ℕ) → before.left ≡ Some text → AnswersReading (reads text) read) → OnOk read (IsAtEnd after.left) → IfErr read (λ error. IsListCaused before.input_faults after.input_faults error)
+    → ListingEnds spells (tap_asked words) read e before.held after.held before.output_faults after.output_faults → Ends command e before after
+listing_ends spells command reads words (Ok ps) e before after does unwritten unread other answers end caused is =
+    stream_ends spells command (tap_asked words) ps e before after
+    (λ text o left made. does text o (subst (λ r. MakesLink spells (tap_asked words) r o) (sym (answers text left)) made)) unwritten other end is
+listing_ends spells command reads words (Err (lists.Bad fault)) e before after does unwritten unread other answers end caused is =
+    subst (λ x. Ends command x before after) (sym is.0)
+    (same_kept before.held after.held is.1, λ text left. listing_refused spells command (tap_asked words) (reads text) fault before after text (does text) (answers text left) is.1)
+listing_ends spells command reads words (Err lists.Read) e before after does unwritten unread other answers end caused is =
+    subst (λ x. Ends command x before after) (sym is.0) (caused, unread (same_kept before.held after.held is.1))
+listing_ends spells command reads words (Err lists.NoMemory) e before after does unwritten unread other answers end caused is =
+    subst (λ x. Ends command x before after) (sym is.0) (same_kept before.held after.held is.1, λ reads. absurd (other reads))
 
 -- a stream that was spelled into columns
 

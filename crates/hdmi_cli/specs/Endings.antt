@@ -12,6 +12,8 @@ use Rattle.biphase_listing.specs.declared.fault.BiphaseError.{BiphaseError}
 use Rattle.biphase_listing.specs.declared.fault.BiphaseError.TheVariants as biphases
 use Rattle.capture_file.specs.declared.damaging.DamageError.{DamageError}
 use Rattle.capture_file.specs.declared.damaging.DamageError.TheVariants as damages
+use Rattle.listing_reader.specs.declared.fault.ListError.{ListError}
+use Rattle.listing_reader.specs.declared.fault.ListError.TheVariants as lists
 use Rattle.period_grammar.specs.Exact.{faultless}
 use Rattle.relay.specs.Relayed.{relayed}
 use Rattle.relay.specs.declared.relaying.RelayFault.{RelayFault}
@@ -170,6 +172,12 @@ pub record TracksPart (before after : Devices) : Type 0 where
       ⊎ ((epochs aligned : ℕ) × IsAtEnd after.left × ((bytes : List ℕ) → before.left ≡ Some bytes → IsCaptureOf fed.blue fed.green fed.red bytes)
       × IsTrack fed epochs aligned track_events × IsWrittenPast (track_lines first) (track_text track_events) before.held after.held)
 
+-- how a command ends whose listing was not read
+abbrev pub list_ending : ListError → Ending
+list_ending (lists.Bad fault) = Listing fault
+list_ending lists.Read = ReadFailed
+list_ending lists.NoMemory = NoMemory
+
 -- how a command ends that wrote a slipped capture, or none
 abbrev pub slip_ending : Result (Unit {0}) SlipError → Ending
 slip_ending (Ok done) = Done
@@ -219,6 +227,11 @@ StreamEnds spells tap periods Done old new before after = IsWhole spells tap per
 StreamEnds spells tap periods WriteFailed old new before after = Rose before after × IsCut spells tap periods old new
 StreamEnds spells tap periods NoMemory old new before after = Keeps old new
 StreamEnds spells tap periods _ old new before after = ⊥
+
+-- the same of a listing that was read, or was not
+abbrev pub ListingEnds : (List Period → List Column → Type 0) → Tap → Result (List Period) ListError → Ending → Option (List ℕ) → Option (List ℕ) → ℕ → ℕ → Type 0
+ListingEnds spells tap (Ok periods) ending old new before after = StreamEnds spells tap periods ending old new before after
+ListingEnds spells tap (Err error) ending old new before after = (ending ≡ list_ending error) × (new ≡ old)
 
 -- what is relayed of events was written, whole or in part, or nothing of it
 abbrev pub RelayEnds : List Event → Ending → Option (List ℕ) → Option (List ℕ) → ℕ → ℕ → Type 0

@@ -3,7 +3,7 @@ ghost use Rattle.std.specs.Prelude.{◌≡◌};
 
 use biphase_listing::BiphaseFault;
 use capture_file::CaptureFault;
-use listing_reader::ListFault;
+use listing_reader::{ListError, ListFault};
 use source_end::RasterFault;
 
 /// How a run ends.
@@ -58,6 +58,21 @@ impl Ending {
             Ending::WriteFailed => 5,
             Ending::NoMemory => 6,
             Ending::Unaligned => 7,
+        }
+    }
+}
+
+/// How a command ends whose listing was not read.
+impl From<ListError> for Ending {
+    ghost use Rattle.hdmi_cli.specs.Endings.{list_ending};
+
+    ghost from_gives = { λ error ending. ending ≡ list_ending error };
+
+    fn from(error: ListError) -> Ending {
+        match error {
+            ListError::Bad(fault) => Ending::Listing(fault),
+            ListError::Read => Ending::ReadFailed,
+            ListError::NoMemory => Ending::NoMemory,
         }
     }
 }

@@ -1,14 +1,32 @@
 //! Writes the capture of a tap of columns.
 ghost use Rattle.std.specs.Prelude.{◌≡◌, ◌⊎◌, ◌≤◌};
 ghost use Rattle.hdmi_cli.specs.Commands.{tap_asked};
-ghost use Rattle.hdmi_cli.specs.Endings.{ColumnsEnd, StreamEnds};
+ghost use Rattle.hdmi_cli.specs.Endings.{ColumnsEnd, ListingEnds, StreamEnds};
 
 use crate::ending::Ending;
 use capture_file::{Lanes, Tap, write_capture};
 use command_line::TapWords;
+use listing_reader::ListError;
 use outside_io::Sink;
 use source_end::{FramedStream, Framing};
 use std::alloc::Global;
+
+/// Writes the capture of a tap of a listing that was read, with guard bands or without them.
+pub(crate) fn write_listing<F: Framing, K: Sink>(
+    alloc: Global,
+    read: Result<FramedStream<F>, ListError>,
+    words: &TapWords,
+    output: &mut K,
+) -> Ending
+    requires version { (words.now.version ≡ 1) ⊎ (words.now.version ≡ 2) }
+    ensures ends { ListingEnds F.spells (tap_asked words.now) read result (K.held output.old) (K.held output.new) (K.faults output.old) (K.faults output.new) }
+    ensures later { K.faults output.old ≤ K.faults output.new }
+{
+    match read {
+        Ok(stream) => write_stream(alloc, &stream, &tap_of(words), output),
+        Err(error) => Ending::from(error),
+    }
+}
 
 /// Writes the capture of a tap of the columns of a stream.
 pub(crate) fn write_stream<F: Framing, K: Sink>(

@@ -5,9 +5,9 @@ ghost use Rattle.hdmi_cli.specs.Endings.{Ends, seen};
 ghost use Rattle.command_line.specs.declared.command.Command.TheVariants.{MakeDvi};
 
 use crate::ending::Ending;
-use crate::writing::{tap_of, write_stream};
+use crate::writing::write_listing;
 use command_line::TapWords;
-use listing_reader::{ListError, read_dvi};
+use listing_reader::read_dvi;
 use outside_io::{Sink, Source};
 use std::alloc::Global;
 
@@ -26,10 +26,5 @@ pub(crate) fn make_dvi<S: Source, K: Sink>(
     ensures input_later { S.faults input.old ≤ S.faults input.new }
     ensures output_later { K.faults output.old ≤ K.faults output.new }
 {
-    match read_dvi(alloc, input) {
-        Ok(stream) => write_stream(alloc, &stream, &tap_of(words), output),
-        Err(ListError::Bad(fault)) => Ending::Listing(fault),
-        Err(ListError::Read) => Ending::ReadFailed,
-        Err(ListError::NoMemory) => Ending::NoMemory,
-    }
+    write_listing(alloc, read_dvi(alloc, input), words, output)
 }

@@ -5,9 +5,9 @@ ghost use Rattle.hdmi_cli.specs.Endings.{Ends, seen};
 ghost use Rattle.command_line.specs.declared.command.Command.TheVariants.{MakeLink};
 
 use crate::ending::Ending;
-use crate::writing::{tap_of, write_stream};
+use crate::writing::write_listing;
 use command_line::TapWords;
-use listing_reader::{ListError, read_link};
+use listing_reader::read_link;
 use outside_io::{Sink, Source};
 use std::alloc::Global;
 
@@ -26,10 +26,5 @@ pub(crate) fn make_link<S: Source, K: Sink>(
     ensures input_later { S.faults input.old ≤ S.faults input.new }
     ensures output_later { K.faults output.old ≤ K.faults output.new }
 {
-    match read_link(alloc, input) {
-        Ok(stream) => write_stream(alloc, &stream, &tap_of(words), output),
-        Err(ListError::Bad(fault)) => Ending::Listing(fault),
-        Err(ListError::Read) => Ending::ReadFailed,
-        Err(ListError::NoMemory) => Ending::NoMemory,
-    }
+    write_listing(alloc, read_link(alloc, input), words, output)
 }
