@@ -6,7 +6,7 @@ ghost use Rattle.source_end.specs.ItemPeriods.{period_of};
 ghost use Rattle.source_end.specs.Refusals.{close_fault, last_period, is_control_last, is_in_range, is_long_enough};
 ghost use Rattle.listing_reader.specs.Causes.{caused, announces_island, run_cause_after};
 ghost use Rattle.listing_reader.specs.Drafts.{with_run};
-ghost use Rattle.listing_reader.specs.Reported.{AnswersCause, RefusesAs, with_open};
+ghost use Rattle.listing_reader.specs.Reported.{AnswersCause, with_open};
 
 use crate::ListCause;
 use crate::teller::Refusal;
@@ -115,10 +115,8 @@ impl<F: Framing> Periods<F> {
     {
         let alloc = self.alloc;
         let mut items = closed(self.items, self.runs)?;
-        match items.push(item) {
-            Ok(()) => Ok(renewed(alloc, items)),
-            Err(fault) => Err(refusal_of(fault)),
-        }
+        items.push(item)?;
+        Ok(renewed(alloc, items))
     }
 
     /// The stream of all items, or why they cannot end here.
@@ -127,10 +125,7 @@ impl<F: Framing> Periods<F> {
         ensures ok { IfOk result (λ stream. stream ≡ self) }
     {
         let items = closed(self.items, self.runs)?;
-        match items.close() {
-            Ok(stream) => Ok(stream),
-            Err(fault) => Err(refusal_of(fault)),
-        }
+        Ok(items.close()?)
     }
 }
 
@@ -160,22 +155,24 @@ fn closed<F: Framing>(items: FramedItems<F>, runs: Runs) -> Result<FramedItems<F
     if runs.as_slice().is_empty() {
         return Ok(all);
     }
-    match all.push(Item::Control(runs)) {
-        Ok(()) => Ok(all),
-        Err(fault) => Err(refusal_of(fault)),
-    }
+    all.push(Item::Control(runs))?;
+    Ok(all)
 }
 
 /// The cause that a fault of an item is in a listing.
-fn refusal_of(fault: ItemFault) -> Refusal
-    ensures { RefusesAs fault result }
-{
-    match fault {
-        ItemFault::Range => Refusal::Cause(ListCause::Range),
-        ItemFault::Order => Refusal::Cause(ListCause::Order),
-        ItemFault::Control => Refusal::Cause(ListCause::Control),
-        ItemFault::Preamble => Refusal::Cause(ListCause::Preamble),
-        ItemFault::Long => Refusal::Cause(ListCause::Long),
-        ItemFault::NoMemory => Refusal::NoMemory,
+impl From<ItemFault> for Refusal {
+    ghost use Rattle.listing_reader.specs.Reported.{RefusesAs};
+
+    ghost from_gives = { RefusesAs };
+
+    fn from(fault: ItemFault) -> Refusal {
+        match fault {
+            ItemFault::Range => Refusal::Cause(ListCause::Range),
+            ItemFault::Order => Refusal::Cause(ListCause::Order),
+            ItemFault::Control => Refusal::Cause(ListCause::Control),
+            ItemFault::Preamble => Refusal::Cause(ListCause::Preamble),
+            ItemFault::Long => Refusal::Cause(ListCause::Long),
+            ItemFault::NoMemory => Refusal::NoMemory,
+        }
     }
 }
