@@ -15,6 +15,5 @@ mod tap;
 
 pub use command::{Command, read_command};
 pub use damage::{DamageWord, Damages};
-pub use options::OptionName;
 pub use slip::SlipWord;
 pub use tap::TapWords;
