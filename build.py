@@ -2,6 +2,7 @@
 """Proves the crates that the program stands on and builds it; ./vabgrot calls this where the program is missing or old.
 
     build.py
+    build.py library    the archive of the C library in place of the program, of which library/build makes libvabgrot
 
 Crates are proved side by side, each once those below it are. The one with the most code left above it goes first, at all
 processors, and each gives way to those with more, since they decide when the last crate can begin. The kit's prover is called crate
@@ -19,6 +20,7 @@ import functools
 import hashlib
 import os
 import re
+import shutil
 import signal
 import subprocess
 import sys
@@ -29,6 +31,7 @@ from pathlib import Path
 
 TOP = Path(__file__).resolve().parent
 PROGRAM = "hdmi_cli"
+LIBRARY = "vabgrot_c"  # a static library
 BUILT = TOP / "crates" / PROGRAM / "out" / PROGRAM
 RECORD = BUILT.with_name("kit")  # says which kit built the program; `./vabgrot --version` reads it
 TARGET = "x86_64-unknown-linux-gnu"
@@ -100,9 +103,14 @@ class Crate:
         return self.name == PROGRAM
 
     @property
+    def is_archive(self):
+        return self.name == LIBRARY
+
+    @property
     def made(self):
-        """What a check of the crate writes: a library, or the program before it is linked."""
-        return self.folder / "out/built" / (f"{self.name}.o" if self.is_program else f"{self.name}.rlib")
+        """What a check of the crate writes: a library, the program before it is linked, or the archive of the C library."""
+        name = f"{self.name}.o" if self.is_program else f"lib{self.name}.a" if self.is_archive else f"{self.name}.rlib"
+        return self.folder / "out/built" / name
 
     @property
     def made_from(self):
@@ -151,12 +159,13 @@ class Crate:
             words += ["--extern", f"{used.name}={used.made}"]
         for folder in (self.kit.libraries, *(it.made.parent for it in self.below)):
             words += ["-L", f"dependency={folder}"]
-        words += ["--backend", "llvm", *self.kit.compiler] if self.is_program else ["--statements"]
+        words += ["--crate-type", "staticlib"] if self.is_archive else []
+        words += ["--backend", "llvm", *self.kit.compiler] if self.is_program or self.is_archive else ["--statements"]
         return [str(it) for it in (*words, "-o", self.made)]
 
 
-def read_crates(kit):
-    """The crates below the program and the program, lowest first."""
+def read_crates(kit, top):
+    """The crates below the program, or below the C library, and itself, lowest first."""
     lines = (TOP / "crates.txt").read_text(encoding="utf-8").splitlines()
     rows = [row for row in (re.match(r"(\w+)[^:#]*:?([^#]*)", line) for line in lines) if row]
     named = {row[1]: Crate(kit, row[1], row[0]) for row in rows}
@@ -164,7 +173,7 @@ def read_crates(kit):
         uses = row[2].split()
         named[row[1]].uses = [named[it] for it in uses if it in named]
         named[row[1]].libraries = [it for it in uses if it not in named]
-    return [*named[PROGRAM].below, named[PROGRAM]]
+    return [*named[top].below, named[top]]
 
 
 def ways_up(crates):
@@ -267,9 +276,9 @@ class Building:
         return self.failed
 
 
-def build(kit):
-    """Proves all crates and links the program; what was said of a crate that is not proved is shown."""
-    crates = read_crates(kit)
+def build(kit, top):
+    """Proves all crates and links the program, if it is one; what was said of a crate that is not proved is shown."""
+    crates = read_crates(kit, top)
     held = [os.open(it.folder, os.O_RDONLY) for it in crates]
     for it in held:
         fcntl.flock(it, fcntl.LOCK_EX)  # as `rt` does: one of these works in a crate at a time
@@ -277,6 +286,8 @@ def build(kit):
     if failed:
         sys.stderr.write(failed.log.read_text(encoding="utf-8", errors="replace"))
         return 1
+    if not crates[-1].is_program:
+        return 0
     linked = subprocess.run(kit.link(crates[-1].made, BUILT), capture_output=True, text=True, check=False)
     if linked.returncode:
         sys.stderr.write(linked.stdout + linked.stderr)
@@ -292,7 +303,20 @@ def build_by_rt():
     return 0 if is_built else 1
 
 
+def build_library_by_rt():
+    """Has `rt lib` build the archive, and puts it where a build by the prover does."""
+    folder = TOP / "crates" / LIBRARY / "out"
+    ran = subprocess.run(["rt", "lib"], cwd=folder.parent, stdin=subprocess.DEVNULL, capture_output=True, text=True)
+    if ran.returncode:
+        sys.stderr.write(ran.stdout + ran.stderr)
+        return 1
+    (folder / "built").mkdir(parents=True, exist_ok=True)
+    shutil.copy(folder / f"lib{LIBRARY}.a", folder / "built")
+    return 0
+
+
 def main():
+    is_library = sys.argv[1:] == ["library"]
     try:
         kit = Kit.found()
     except (OSError, subprocess.CalledProcessError):
@@ -301,7 +325,9 @@ def main():
     for end in ENDS:
         signal.signal(end, lambda *_: sys.exit(1))
     began = time.time()
-    status = build(kit) if kit.is_known() else build_by_rt()
+    if is_library:
+        return build(kit, LIBRARY) if kit.is_known() else build_library_by_rt()
+    status = build(kit, PROGRAM) if kit.is_known() else build_by_rt()
     if status == 0:
         os.utime(BUILT, (began, began))  # what was changed since is newer
         with contextlib.suppress(OSError):  # a kit may have its identity elsewhere

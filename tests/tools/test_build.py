@@ -32,10 +32,10 @@ def building(tmp_path, kit):
     (top / "crates.txt").write_text(CRATES)
     shutil.copy(TOP / "build.py", top)
 
-    def run():
+    def run(*words):
         (tmp_path / "log").write_text("")
         env = {"PATH": f"{tmp_path / 'path'}:/usr/bin:/bin"}
-        came = subprocess.run([top / "build.py"], env=env, capture_output=True, text=True, stdin=subprocess.DEVNULL)
+        came = subprocess.run([top / "build.py", *words], env=env, capture_output=True, text=True, stdin=subprocess.DEVNULL)
         assert came.stdout == ""
         return came.returncode, came.stderr, (tmp_path / "log").read_text().splitlines()
 
@@ -142,3 +142,15 @@ def test_a_kit_with_its_parts_elsewhere(building, tmp_path):
     assert building() == (0, "", []) and (tmp_path / "top/crates/hdmi_cli/out/hdmi_cli").read_text() == "by rt\n"
     (tmp_path / "path/rt").write_text(rt.format(tmp_path, "echo 'logic=not-proved'\nexit 1\n"))
     assert building() == (1, "logic=not-proved\n", [])
+
+
+def test_the_library(building, tmp_path):
+    """`build.py library` proves what the C library stands on, and makes its archive; the program is not built."""
+    top = tmp_path / "top"
+    (top / "crates" / "vabgrot_c" / "src").mkdir(parents=True)
+    (top / "crates" / "vabgrot_c" / "src" / "lib.rt").write_text("//! vabgrot_c\n")
+    (top / "crates.txt").write_text(CRATES + "vabgrot_c staticlib: apart\n")
+    status, said, log = building("library")
+    assert (status, said) == (0, "") and names(log, "end") == ["low", "apart", "vabgrot_c"]
+    words = (top / "crates/vabgrot_c/out/built/libvabgrot_c.a").read_text()
+    assert "--crate-type staticlib --backend llvm" in words and not (top / "crates/hdmi_cli/out").exists()

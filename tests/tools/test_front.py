@@ -102,6 +102,32 @@ def test_installed(front, tmp_path):
         assert (local / "share" / name).is_file()
 
 
+LIBRARY = """#!/bin/sh
+[ -f "${0%/*}/../crates/vabgrot_c/out/built/libvabgrot_c.a" ] && mkdir -p "$1" &&
+  echo shared > "$1/libvabgrot.so.1" && echo static > "$1/libvabgrot.a"
+"""
+
+
+def test_the_installed_library(front, tmp_path):
+    """The C library is put beside the program once its archive is proved and built; where it cannot be made it alone is left out."""
+    top, prefix = tmp_path / "top", tmp_path / "prefix"
+    shutil.copytree(TOP / "library", top / "library")
+    (top / "library" / "build").write_text(LIBRARY)
+    (top / "crates" / "vabgrot_c" / "src").mkdir(parents=True)
+    (top / "crates" / "vabgrot_c" / "src" / "lib.rt").write_text("//! a library\n")
+    (top / "crates.txt").write_text("hdmi_cli:\nvabgrot_c staticlib:\n")
+    (tmp_path / "fails.vabgrot_c").write_text("")
+    status, _, said = front("install", prefix)
+    assert status == 0 and "the C library is left out" in said and not (prefix / "include").exists()
+    (tmp_path / "fails.vabgrot_c").unlink()
+    assert front("install", prefix)[0] == 0
+    for name in ("include/vabgrot.h", "lib/libvabgrot.a", "share/man/man3/vabgrot.3", "share/doc/vabgrot/examples/c/listing.c"):
+        assert (prefix / name).is_file()
+    assert (prefix / "lib/libvabgrot.so").read_text() == "shared\n" and (prefix / "lib/libvabgrot.so").is_symlink()
+    described = (prefix / "lib/pkgconfig/vabgrot.pc").read_text()
+    assert "Version: 1.0.0\n" in described and str(tmp_path) not in described
+
+
 def test_installed_elsewhere(front, tmp_path):
     assert front("install", tmp_path / "other")[0] == 0 and (tmp_path / "other" / "bin" / "vabgrot-report").exists()
     (tmp_path / "file").write_text("")

@@ -1,0 +1,161 @@
+-- How many columns come with so many bits of each lane, and what they report in addition.
+use Rattle.std.proofs.Common.{◌≡◌, ◌⊎◌, ℕ, ◌+◌, ◌-◌, ◌/◌, ◌<◌, ◌≤◌, min, Bool, true, false, List, [], ◌∷◌, ◌++◌, length, ap, sym, ◌∙◌, arith, inl, inr}
+use Rattle.std.proofs.lemmas.Bool.{cases_lt}
+use Rattle.std.proofs.lemmas.List.{append-nil, length-append}
+use Rattle.tmds_word.specs.Column.{Column}
+use Rattle.tmds_word.specs.Words.{columns_of}
+use Rattle.lane_align.specs.Lanes.{IsEdge}
+use Rattle.lane_align.specs.Words.{words_from}
+use Rattle.lane_align.proofs.Edges.{edge_within}
+use Rattle.lane_align.proofs.Words.{length-words_from}
+use Rattle.lane_deskew.specs.Aligned.{aligned_columns}
+use Rattle.lane_deskew.specs.Growing.{HasGrown}
+use Rattle.lane_deskew.specs.Triples.{IsTriple, IsFirst}
+use Rattle.lane_deskew.proofs.Fed.{first_stays}
+use Rattle.lane_deskew.proofs.First.{one_first}
+use Rattle.lane_deskew.proofs.Growth.{edge_before}
+use Rattle.period_grammar.specs.Events.{Event}
+use Rattle.link_sink.specs.Grammar.{Grammar}
+use Rattle.link_sink.specs.Hearings.{IsGrammar}
+use Rattle.link_sink.specs.Alignment.{reported_under}
+use Rattle.link_sink.specs.Sinks.{Fed, IsReportedBy, IsGainBy, IsLastBy}
+use Rattle.link_sink.specs.declared.hear.Outcome.{Outcome}
+use Rattle.link_sink.proofs.Alone.{none_alone}
+use Rattle.link_sink.proofs.Decided.{reported_so_far}
+use Rattle.link_sink.proofs.Prefixes.{columns_grow}
+use Rattle.c_room.specs.Rooms.{IsBounded}
+use Rattle.c_room.specs.Written.{all_bytes}
+
+-- a lane grew by at most so many bits
+pub record GrewBy (n : ℕ) (xs us : List Bool) : Type 0 where
+  pub grown : HasGrown xs us
+  pub most : length us ≤ length xs + n
+
+-- three lanes did
+pub record HaveGrownBy (n : ℕ) (before now : Fed) : Type 0 where
+  pub blue : GrewBy n before.blue now.blue
+  pub green : GrewBy n before.green now.green
+  pub red : GrewBy n before.red now.red
+
+-- how many columns there are of three lanes of characters
+pub length-columns_of : (bs gs rs : List ℕ) → length (columns_of bs gs rs) ≡ min (length bs) (min (length gs) (length rs))
+unfolding columns_of
+length-columns_of [] gs rs = omega arith
+length-columns_of (b ∷ bs) [] rs = omega arith
+length-columns_of (b ∷ bs) (g ∷ gs) [] = omega arith
+length-columns_of (b ∷ bs) (g ∷ gs) (r ∷ rs) = let e = length-columns_of bs gs rs in omega (arith, e)
+
+many : (xs ys zs : List Bool) (d e f : ℕ)
+    → length (aligned_columns xs ys zs d e f) ≡ min ((length xs - (d - 120)) / 10) (min ((length ys - (e - 120)) / 10) ((length zs - (f - 120)) / 10))
+unfolding aligned_columns
+many xs ys zs d e f =
+    omega (
+      arith,
+      length-columns_of (words_from xs (d - 120)) (words_from ys (e - 120)) (words_from zs (f - 120)),
+      length-words_from xs (d - 120),
+      length-words_from ys (e - 120),
+      length-words_from zs (f - 120),
+    )
+
+-- of lanes that were aligned before: one column more than there are whole characters, at most
+more_aligned : (n : ℕ) (xs ys zs us vs ws : List Bool) (d e f : ℕ) → GrewBy n xs us → GrewBy n ys vs → GrewBy n zs ws
+    → length (aligned_columns us vs ws d e f) ≤ length (aligned_columns xs ys zs d e f) + (n + 9) / 10
+more_aligned n xs ys zs us vs ws d e f p q r = omega (arith, many xs ys zs d e f, many us vs ws d e f, p.most, q.most, r.most)
+
+-- an edge of the grown lane is one of the lane before it, or lies past all but nine of its bits
+edge_past : (n : ℕ) (xs us : List Bool) (d : ℕ) → GrewBy n xs us → IsEdge us d → IsEdge xs d ⊎ (length xs < d + 10)
+edge_past n xs us d g edge =
+    elim (cases_lt (length xs) (d + 10)) [
+      | inl past ↦ inr past
+      | inr within ↦ inl (edge_before xs us d g.grown (omega (arith, within)) edge)
+    ]
+
+-- of lanes that are aligned only now
+first_aligned : (n : ℕ) (before now : Fed) (d e f : ℕ) → HaveGrownBy n before now → ((p q r : ℕ) → IsTriple before.blue before.green before.red p q r → ⊥)
+    → IsFirst now.blue now.green now.red d e f → length (aligned_columns now.blue now.green now.red d e f) ≤ (n + 129) / 10
+first_aligned n before now d e f g none first =
+    let t = first.triple in
+    let count = many now.blue now.green now.red d e f in
+    let x = t.blue in
+    let y = t.green in
+    let z = t.red in
+    elim (edge_past n before.blue now.blue d g.blue x) [
+      | inr p ↦ omega (arith, p, count, g.blue.most, x.past, edge_within now.blue d x)
+      | inl a ↦ elim (edge_past n before.green now.green e g.green y) [
+        | inr p ↦ omega (arith, p, count, g.green.most, y.past, edge_within now.green e y)
+        | inl b ↦ elim (edge_past n before.red now.red f g.red z) [
+          | inr p ↦ omega (arith, p, count, g.red.most, z.past, edge_within now.red f z)
+          | inl c ↦ absurd (none d e f (record { blue = a; green = b; red = c; blue_green = t.blue_green; green_red = t.green_red; blue_red = t.blue_red }))
+        ]
+      ]
+    ]
+
+-- what is reported in addition is what so many columns report after others
+pub record IsOfColumns (g : Grammar) (n : ℕ) (events : List Event) : Type 0 where
+  pub before : List Column
+  pub more : List Column
+  pub few : length more ≤ (n + 129) / 10
+  pub reported : g.so_far (before ++ more) ≡ g.so_far before ++ events
+
+by_columns : (g : Grammar) → IsGrammar g → (n : ℕ) (before now : Fed) (us events : List Event) → HaveGrownBy n before now
+    → IsReportedBy g before us → IsReportedBy g now (us ++ events) → IsOfColumns g n events
+by_columns g h n before now us events grew (inl a) (inl b) =
+    let d = a.0 in
+    let e = a.1 in
+    let f = a.2 in
+    let stays = first_stays before.blue before.green before.red now.blue now.green now.red d e f grew.blue.grown grew.green.grown grew.red.grown a.3 in
+    let same = one_first now.blue now.green now.red d e f b.0 b.1 b.2 stays b.3 in
+    let was = aligned_columns before.blue before.green before.red d e f in
+    let is = aligned_columns now.blue now.green now.red d e f in
+    let more = columns_grow before.blue before.green before.red now.blue now.green now.red d e f grew.blue.grown grew.green.grown grew.red.grown in
+    let few = more_aligned n before.blue before.green before.red now.blue now.green now.red d e f grew.blue grew.green grew.red in
+    record {
+      before = was;
+      more = more.0;
+      few = omega (arith, few, ap length more.1, length-append was more.0);
+      reported = ap g.so_far (sym more.1) ∙ (λ i. g.so_far (aligned_columns now.blue now.green now.red (same.0 i) (same.1 i) (same.2 i))) ∙ sym b.4 ∙ ap (λ ts. ts ++ events) a.4;
+    }
+by_columns g h n before now us events grew (inl a) (inr b) =
+    absurd (b.0 a.0 a.1 a.2 (first_stays before.blue before.green before.red now.blue now.green now.red a.0 a.1 a.2 grew.blue.grown grew.green.grown grew.red.grown a.3).triple)
+by_columns g h n before now us events grew (inr a) (inl b) =
+    let is = aligned_columns now.blue now.green now.red b.0 b.1 b.2 in
+    record {
+      before = [];
+      more = is;
+      few = first_aligned n before now b.0 b.1 b.2 grew a.0 b.3;
+      reported = sym b.4 ∙ ap (λ ts. ts ++ events) (a.1 ∙ sym (none_alone g h));
+    }
+by_columns g h n before now us events grew (inr a) (inr b) =
+    let none : events ≡ [] = sym (ap (λ ts. ts ++ events) a.1) ∙ b.1 in
+    record {
+      before = [];
+      more = [];
+      few = omega arith;
+      reported = sym (append-nil (g.so_far [])) ∙ ap (λ ts. g.so_far [] ++ ts) (sym none);
+    }
+
+pub gain_of_columns : (g : Grammar) → IsGrammar g → (n : ℕ) (before now : Fed) (events : List Event) → HaveGrownBy n before now → IsGainBy g before now events → IsOfColumns g n events
+gain_of_columns g h n before now events grew gain =
+    let was = reported_so_far g before in
+    by_columns g h n before now was.0 events grew was.1 (gain was.0 was.1)
+
+-- what is reported at the end is one event with no bytes, at most
+by_last : (g : Grammar) → IsBounded g → (fed : Fed) (aligned : Bool) (count : ℕ) (us events : List Event) → IsReportedBy g fed us
+    → reported_under g aligned fed.blue fed.green fed.red count (us ++ events) → (length events ≤ 1) × (length (all_bytes events) ≤ 0)
+unfolding all_bytes
+by_last g h fed true count us events (inl a) w =
+    let same = one_first fed.blue fed.green fed.red w.blue w.green w.red a.0 a.1 a.2 w.first a.3 in
+    let cs = aligned_columns fed.blue fed.green fed.red a.0 a.1 a.2 in
+    let e : g.whole cs ≡ g.so_far cs ++ events =
+    sym (w.reported ∙ (λ i. g.whole (aligned_columns fed.blue fed.green fed.red (same.0 i) (same.1 i) (same.2 i)))) ∙ ap (λ ts. ts ++ events) a.4 in
+    (h.last_event cs events e, omega (arith, h.last_bytes cs events e))
+by_last g h fed false count us events (inl a) w = absurd (w.nowhere a.0 a.1 a.2 a.3.triple)
+by_last g h fed true count us events (inr a) w = absurd (a.0 w.blue w.green w.red w.first.triple)
+by_last g h fed false count us events (inr a) w =
+    let none : events ≡ [] = sym (ap (λ ts. ts ++ events) a.1) ∙ w.reported in
+    (omega (arith, ap length none), omega (arith, ap (λ ts. length (all_bytes ts)) none))
+
+pub last_of_columns : (g : Grammar) → IsBounded g → (fed : Fed) (outcome : Outcome) (events : List Event) → IsLastBy g fed outcome events → (length events ≤ 1) × (length (all_bytes events) ≤ 0)
+last_of_columns g h fed outcome events last =
+    let was = reported_so_far g fed in
+    by_last g h fed outcome.aligned outcome.columns was.0 events was.1 (last was.0 was.1)

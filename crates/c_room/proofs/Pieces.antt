@@ -1,0 +1,188 @@
+-- The pieces of lanes that are lent.
+use Rattle.std.proofs.Common.{◌≡◌, ◌⊎◌, ℕ, ◌+◌, ◌-◌, ◌*◌, ◌%◌, ◌<◌, ◌≤◌, min, max, Bool, List, [], ◌∷◌, ◌++◌, length, take, drop, slice_index, refl, ap, ap₂, sym, ◌∙◌, subst, arith, inl, inr, append_assoc}
+use Rattle.std.proofs.Math.Seq.{take-add}
+use Rattle.std.proofs.lemmas.Bool.{cases_lt}
+use Rattle.std.proofs.lemmas.List.{append-nil, length-append, length-take, length-drop, take-append-drop, take-append-le}
+use Rattle.tmds_word.specs.Bits.{bytes_bits}
+use Rattle.tmds_word.specs.Column.{Column}
+use Rattle.tmds_word.specs.declared.TheConstants.{MOST_BITS}
+use Rattle.tmds_word.proofs.Lists.{length-bytes_bits, bytes_bits-append}
+use Rattle.tmds_word.specs.declared.lane_bits.LaneBits.{LaneBits}
+use Rattle.lane_align.proofs.Feeding.{bytes_drop}
+use Rattle.period_grammar.specs.Events.{Event}
+use Rattle.link_sink.specs.Ears.{StopsIn}
+use Rattle.link_sink.specs.Received.{CanFeed, CanFeedLanes, AreFedMore}
+use Rattle.link_sink.specs.Sinks.{Fed, grown_by, IsReportedOf, IsGainOf}
+use Rattle.link_sink.specs.Streams.{LaneSinkSeen, bits_fed, most_bits}
+use Rattle.link_sink.proofs.Parts.{length-take-most}
+use Rattle.c_room.specs.declared.lanes.BitCounts.{BitCounts}
+use Rattle.c_room.specs.declared.lanes.LentLanes.{LentLanes}
+use Rattle.c_room.specs.declared.room.EventRoom.{EventRoom}
+use Rattle.c_room.specs.Stands.{AreFed}
+use Rattle.c_room.specs.Takes.{most_of, no_counts, counts_to, plus, grown_to, IsPiece, MayTake, MayTakeLanes, AreFew}
+use Rattle.c_room.specs.Written.{event_bytes, all_bytes, HasFilled, HasNoRoom}
+use Rattle.c_room.specs.WrittenLaws.{bytes_append}
+use Rattle.c_room.proofs.Gains.{GrewBy, HaveGrownBy}
+
+-- a lane that took its bits before a place may be fed the piece from there on
+lane_can : (fed longest x at size now most count : ℕ) (bytes piece : List ℕ) → MayTake fed longest bytes x → fed + x < MOST_BITS → at % 8 ≡ 0 → size ≤ 32768
+    → now ≡ fed + min x at → most ≤ longest + at → now ≤ most → IsPiece bytes x at size piece count → CanFeed now most piece count
+lane_can fed longest x at size now most count bytes piece may few even small is a b p =
+    elim (cases_lt at x) [
+      | inl past ↦ elim may.going [
+        | inl none ↦ absurd (omega (arith, none, past))
+        | inr going ↦ elim may.whole [
+          | inl none ↦ absurd (omega (arith, none, past))
+          | inr whole ↦ record {
+            most = omega (arith, p.count_is, small);
+            bytes_given = p.long;
+            whole = inr (omega (arith, is, past, whole, even));
+            going = inr (omega (arith, is, past, going, a, b));
+            total = omega (arith, is, past, few, p.count_is);
+          }
+        ]
+      ]
+      | inr over ↦ record {
+        most = omega (arith, p.count_is, small);
+        bytes_given = p.long;
+        whole = inl (omega (arith, p.count_is, over));
+        going = inl (omega (arith, p.count_is, over));
+        total = omega (arith, is, over, few, p.count_is);
+      }
+    ]
+
+-- the pieces of three lanes
+pub record ArePieces (lanes : LentLanes) (at size : ℕ) (piece : LaneBits) : Type 0 where
+  pub blue : IsPiece lanes.blue.now lanes.bits.blue at size piece.blue.now (slice_index piece.bits 0)
+  pub green : IsPiece lanes.green.now lanes.bits.green at size piece.green.now (slice_index piece.bits 1)
+  pub red : IsPiece lanes.red.now lanes.bits.red at size piece.red.now (slice_index piece.bits 2)
+
+most_is : {H : Type 0} (sink : LaneSinkSeen H) → most_bits sink ≡ max (bits_fed sink 0) (max (bits_fed sink 1) (bits_fed sink 2))
+most_is sink = refl
+
+pub piece_can : {H : Type 0} (sink : LaneSinkSeen H) (fed : BitCounts) (lanes : LentLanes) (at size : ℕ) (piece : LaneBits) → AreFed sink (plus fed (counts_to at lanes.bits))
+    → MayTakeLanes fed lanes → AreFew fed lanes.bits → at % 8 ≡ 0 → size ≤ 32768 → ArePieces lanes at size piece → CanFeedLanes (bits_fed sink) (most_bits sink) piece
+piece_can sink fed lanes at size piece are may few even small p =
+    let longest = most_of fed in
+    let e = most_is sink in
+    let a : most_bits sink ≤ longest + at = omega (arith, e, are.blue, are.green, are.red) in
+    let x : bits_fed sink 0 ≤ most_bits sink = omega (arith, e) in
+    let y : bits_fed sink 1 ≤ most_bits sink = omega (arith, e) in
+    let z : bits_fed sink 2 ≤ most_bits sink = omega (arith, e) in
+    record {
+      blue = lane_can fed.blue longest lanes.bits.blue at size _ _ _ lanes.blue.now piece.blue.now may.blue few.blue even small are.blue a x p.blue;
+      green = lane_can fed.green longest lanes.bits.green at size _ _ _ lanes.green.now piece.green.now may.green few.green even small are.green a y p.green;
+      red = lane_can fed.red longest lanes.bits.red at size _ _ _ lanes.red.now piece.red.now may.red few.red even small are.red a z p.red;
+    }
+
+-- how many bits a lane was fed then
+lane_fed : (fed x at size count before now : ℕ) → count ≡ min (x - at) size → before ≡ fed + min x at → now ≡ before + count → now ≡ fed + min x (at + size)
+lane_fed fed x at size count before now e f g = omega (arith, e, f, g)
+
+pub piece_fed : {H : Type 0} (old new : LaneSinkSeen H) (fed : BitCounts) (lanes : LentLanes) (at size : ℕ) (piece : LaneBits) → ArePieces lanes at size piece
+    → AreFedMore (bits_fed old) (bits_fed new) piece → AreFed old (plus fed (counts_to at lanes.bits)) → AreFed new (plus fed (counts_to (at + size) lanes.bits))
+piece_fed old new fed lanes at size piece p more are = record {
+  blue = lane_fed fed.blue lanes.bits.blue at size _ _ _ p.blue.count_is are.blue more.blue;
+  green = lane_fed fed.green lanes.bits.green at size _ _ _ p.green.count_is are.green more.green;
+  red = lane_fed fed.red lanes.bits.red at size _ _ _ p.red.count_is are.red more.red;
+}
+
+-- the bits of a lane after a piece
+lane_grown : (xs bs ps : List Bool) (x at size count : ℕ) → count ≡ min (x - at) size → take count ps ≡ take count (drop at bs)
+    → (xs ++ take (min x at) bs) ++ take count ps ≡ xs ++ take (min x (at + size)) bs
+lane_grown xs bs ps x at size count e same =
+    append_assoc xs (take (min x at) bs) (take count ps)
+    ∙ ap (λ t. xs ++ t) (
+    elim (cases_lt at x) [
+      | inl past ↦
+          let a : min x at ≡ at = omega (arith, past) in
+          let b : at + count ≡ min x (at + size) = omega (arith, e, past) in
+          ap₂ (λ n ys. take n bs ++ ys) a same ∙ sym (take-add at count bs) ∙ ap (λ n. take n bs) b
+      | inr over ↦
+          let a : count ≡ 0 = omega (arith, e, over) in
+          let b : min x at ≡ min x (at + size) = omega (arith, over) in
+          ap (λ n. take (min x at) bs ++ take n ps) a ∙ append-nil (take (min x at) bs) ∙ ap (λ n. take n bs) b
+    ])
+
+pub piece_grown : (fed : Fed) (lanes : LentLanes) (at size : ℕ) (piece : LaneBits) → ArePieces lanes at size piece
+    → grown_by (grown_to (counts_to at lanes.bits) fed lanes) piece ≡ grown_to (counts_to (at + size) lanes.bits) fed lanes
+piece_grown fed lanes at size piece p =
+    let b = lane_grown fed.blue (bytes_bits lanes.blue.now) (bytes_bits piece.blue.now) lanes.bits.blue at size _ p.blue.count_is p.blue.same in
+    let g = lane_grown fed.green (bytes_bits lanes.green.now) (bytes_bits piece.green.now) lanes.bits.green at size _ p.green.count_is p.green.same in
+    let r = lane_grown fed.red (bytes_bits lanes.red.now) (bytes_bits piece.red.now) lanes.bits.red at size _ p.red.count_is p.red.same in
+    λ i. record { blue = b i; green = g i; red = r i }
+
+-- each lane grows by no more bits than a piece has
+lane_grew : (xs ps : List Bool) (x at size count : ℕ) → count ≡ min (x - at) size → GrewBy size xs (xs ++ take count ps)
+lane_grew xs ps x at size count e = record {
+  grown = (take count ps, refl);
+  most = omega (arith, e, length-append xs (take count ps), length-take-most count ps);
+}
+
+pub piece_grew : (before : Fed) (lanes : LentLanes) (at size : ℕ) (piece : LaneBits) → ArePieces lanes at size piece → HaveGrownBy size before (grown_by before piece)
+piece_grew before lanes at size piece p = record {
+  blue = lane_grew before.blue (bytes_bits piece.blue.now) lanes.bits.blue at size _ p.blue.count_is;
+  green = lane_grew before.green (bytes_bits piece.green.now) lanes.bits.green at size _ p.green.count_is;
+  red = lane_grew before.red (bytes_bits piece.red.now) lanes.bits.red at size _ p.red.count_is;
+}
+
+-- where there is room for so many events and bytes an ear does not stop in the midst of them
+pub no_stop : (x y : EventRoom) (events : List Event) (n m : ℕ) → length events ≤ n → length (all_bytes events) ≤ m → x.count + n ≤ length x.records.now → x.used + m ≤ length x.bytes.now
+    → StopsIn HasFilled (λ u v t. HasNoRoom u t) x y events → ⊥
+unfolding all_bytes
+no_stop x y events n m few small a b s =
+    let w = s.took_some in
+    let many = ap length s.events_are ∙ length-append s.taken (s.next ∷ s.rest) in
+    let bytes = ap (λ ts. length (all_bytes ts)) s.events_are ∙ ap length (bytes_append s.taken (s.next ∷ s.rest)) ∙ length-append (all_bytes s.taken) (all_bytes (s.next ∷ s.rest)) in
+    let next = length-append (event_bytes s.next) (all_bytes s.rest) in
+    elim s.broke_then [
+      | inl none ↦ omega (arith, none, few, a, many, w.count_is, w.records_long)
+      | inr none ↦ omega (arith, none, small, b, bytes, next, w.used_is, w.bytes_long)
+    ]
+
+-- the first bits of the bytes from a place on
+pub same_bits : (bytes : List ℕ) (at i m bits : ℕ) → at ≡ 8 * i → bits ≤ 8 * m → bits ≤ 8 * (length bytes - i) → take bits (bytes_bits (take m (drop i bytes))) ≡ take bits (drop at (bytes_bits bytes))
+same_bits bytes at i m bits e few within =
+    let xs = drop i bytes in
+    let long = length-bytes_bits (take m xs) in
+    let a : bits ≤ length (bytes_bits (take m xs)) = omega (arith, long, length-take m xs, length-drop i bytes, few, within) in
+    sym (take-append-le bits (bytes_bits (take m xs)) (bytes_bits (drop m xs)) a)
+    ∙ ap (take bits) (sym (bytes_bits-append (take m xs) (drop m xs)) ∙ ap bytes_bits (take-append-drop m xs) ∙ sym (bytes_drop i bytes) ∙ ap (λ n. drop n (bytes_bits bytes)) (sym e))
+
+-- before any piece
+pub none_fed : {H : Type 0} (sink : LaneSinkSeen H) (fed bits : BitCounts) → AreFed sink fed → AreFed sink (plus fed (counts_to 0 bits))
+none_fed sink fed bits are = record { blue = omega (arith, are.blue); green = omega (arith, are.green); red = omega (arith, are.red) }
+
+lane_none : (xs bs : List Bool) (n : ℕ) → n ≡ 0 → xs ++ take n bs ≡ xs
+lane_none xs bs n e = ap (λ k. xs ++ take k bs) e ∙ append-nil xs
+
+pub none_grown : (fed : Fed) (lanes : LentLanes) (taken : BitCounts) → taken.blue ≡ 0 → taken.green ≡ 0 → taken.red ≡ 0 → grown_to taken fed lanes ≡ fed
+none_grown fed lanes taken x y z =
+    let b = lane_none fed.blue (bytes_bits lanes.blue.now) taken.blue x in
+    let g = lane_none fed.green (bytes_bits lanes.green.now) taken.green y in
+    let r = lane_none fed.red (bytes_bits lanes.red.now) taken.red z in
+    λ i. record { blue = b i; green = g i; red = r i }
+
+-- nothing more is no gain, and a gain after another is one
+pub gain_none : {T : Type 0} (so_far : List Column → List T) (fed : Fed) → IsGainOf so_far fed fed []
+gain_none so_far fed = λ reported h. subst (IsReportedOf so_far fed) (sym (append-nil reported)) h
+
+pub gain_both : {T : Type 0} (so_far : List Column → List T) (a b c : Fed) (us vs : List T) → IsGainOf so_far a b us → IsGainOf so_far b c vs → IsGainOf so_far a c (us ++ vs)
+gain_both so_far a b c us vs first then = λ reported h. subst (IsReportedOf so_far c) (append_assoc reported us vs) (then (reported ++ us) (first reported h))
+
+-- a piece is in whole bytes or all that is left, and so begins in whole bytes
+pub part_or_all : (at size rest most : ℕ) → at + rest ≡ most → size ≤ rest → (size < rest → size % 8 ≡ 0) → (at + size ≡ most) ⊎ (size % 8 ≡ 0)
+part_or_all at size rest most e le part =
+    elim (cases_lt size rest) [
+      | inl less ↦ inr (part less)
+      | inr over ↦ inl (omega (arith, e, le, over))
+    ]
+
+pub even_then : (at size next most : ℕ) → (size ≡ 0) ⊎ (at % 8 ≡ 0) → (at + size ≡ most) ⊎ (size % 8 ≡ 0) → 0 < size → at + size + next ≤ most → (next ≡ 0) ⊎ ((at + size) % 8 ≡ 0)
+even_then at size next most (inl none) last some within = absurd (omega (arith, none, some))
+even_then at size next most (inr even) (inl all) some within = inl (omega (arith, all, within))
+even_then at size next most (inr even) (inr whole) some within = inr (omega (arith, even, whole))
+
+-- where nothing was taken
+pub nothing_grown : (taken : BitCounts) → taken ≡ no_counts → (fed : Fed) (lanes : LentLanes) → grown_to taken fed lanes ≡ fed
+nothing_grown taken e fed lanes = none_grown fed lanes taken (ap (λ b. b.blue) e) (ap (λ b. b.green) e) (ap (λ b. b.red) e)

@@ -1,0 +1,9 @@
+pub mod Handles
+pub mod Owned
+pub mod Rooms
+pub mod Stands
+pub mod StatusLaws
+pub mod Statuses
+pub mod Takes
+pub mod Written
+pub mod WrittenLaws

@@ -1,0 +1,86 @@
+//! Feeds what C keeps, with room that C lends.
+ghost use Rattle.std.specs.Prelude.{◌≡◌, ◌⊎◌, ◌+◌, ◌<◌, ◌≤◌, List, length, take, true, false};
+ghost use Rattle.period_grammar.specs.Events.{Event, EventAt, all_at};
+ghost use Rattle.link_sink.specs.Grammar.{link_grammar};
+ghost use Rattle.link_sink.specs.Sinks.{Fed, IsGainAt, IsLast};
+ghost use Rattle.c_room.specs.Stands.{Stands};
+ghost use Rattle.c_room.specs.Statuses.{IsFeedStatus, IsEndStatus};
+ghost use Rattle.c_room.specs.Takes.{no_counts, grown_to, MayTakeLanes, AreFew};
+ghost use Rattle.c_room.specs.Written.{AreWritten};
+ghost use Rattle.c_room.specs.declared.status.Status.TheVariants.{Done, Full, Misuse, TooMany};
+
+use crate::kept::{Ended, Kept};
+use crate::lanes::{BitCounts, LentLanes};
+use crate::record::Record;
+use crate::room::EventRoom;
+use crate::status::Status;
+
+/// What a feed answers: its status, how many events and bytes it wrote, and how many bits of each lane it took.
+#[derive(Clone, Copy, Drop)]
+pub struct FeedAnswer {
+    pub status: Status,
+    pub events: usize,
+    pub bytes: usize,
+    pub taken: BitCounts,
+}
+
+/// What an end answers: how many events and bytes it wrote too.
+#[derive(Clone, Copy, Drop)]
+pub struct EndAnswer {
+    pub ended: Ended,
+    pub events: usize,
+    pub bytes: usize,
+}
+
+/// Takes bits of each lane, and writes the events that they decide.
+#[tactic(auto, using(crate::specs::WrittenLaws::written_count, crate::specs::WrittenLaws::written_used))]
+pub fn feed_into(
+    kept: &mut Kept,
+    lanes: LentLanes<'_>,
+    records: &mut [Record],
+    bytes: &mut [u8],
+) -> FeedAnswer
+    requires { (fed : Fed) × Stands kept.old fed }
+    ensures stands { (fed : Fed) → Stands kept.old fed → Stands kept.new (grown_to result.taken fed lanes.entry) }
+    ensures reported { (fed : Fed) → Stands kept.old fed
+        → (events : List EventAt) × IsGainAt link_grammar fed (grown_to result.taken fed lanes.entry) events
+        × AreWritten events result.events records.new result.bytes bytes.new }
+    ensures done { result.status ≡ Done → result.taken ≡ lanes.entry.bits }
+    ensures full { result.status ≡ Full → (length records.new < result.events + 104) ⊎ (length bytes.new < result.bytes + 12327) }
+    ensures misuse { result.status ≡ Misuse → kept.old.sink.is_open ≡ true → MayTakeLanes kept.old.fed lanes.entry → ⊥ }
+    ensures many { result.status ≡ TooMany → AreFew kept.old.fed lanes.entry.bits → ⊥ }
+    ensures refused { (result.status ≡ Misuse) ⊎ (result.status ≡ TooMany) → (kept.new ≡ kept.old) × (result.taken ≡ no_counts) }
+    ensures kinds { IsFeedStatus result.status }
+{
+    let mut room = EventRoom::open(records, bytes);
+    let taken = kept.feed(lanes, &mut room);
+    FeedAnswer {
+        status: taken.status,
+        events: room.count(),
+        bytes: room.used(),
+        taken: taken.bits,
+    }
+}
+
+/// Writes the event that is left at the end.
+#[tactic(auto, using(crate::specs::WrittenLaws::written_count, crate::specs::WrittenLaws::written_used))]
+pub fn finish_into(kept: &mut Kept, records: &mut [Record], bytes: &mut [u8]) -> EndAnswer
+    requires { (fed : Fed) × Stands kept.old fed }
+    ensures stands { (fed : Fed) → Stands kept.old fed → Stands kept.new fed }
+    ensures reported { (fed : Fed) → Stands kept.old fed → result.ended.status ≡ Done
+        → (events : List Event) × IsLast fed result.ended.outcome events
+        × AreWritten (all_at result.ended.outcome.columns events) result.events records.new result.bytes bytes.new }
+    ensures done { result.ended.status ≡ Done → kept.new.sink.is_open ≡ false }
+    ensures full { result.ended.status ≡ Full → length records.new ≤ 0 }
+    ensures misuse { result.ended.status ≡ Misuse → kept.old.sink.is_open ≡ false }
+    ensures refused { (result.ended.status ≡ Misuse) ⊎ (result.ended.status ≡ Full) → (kept.new ≡ kept.old) × (result.events ≡ 0) }
+    ensures kinds { IsEndStatus result.ended.status }
+{
+    let mut room = EventRoom::open(records, bytes);
+    let ended = kept.finish(&mut room);
+    EndAnswer {
+        ended,
+        events: room.count(),
+        bytes: room.used(),
+    }
+}

@@ -1,0 +1,151 @@
+//! What C holds: a receiver, or none.
+ghost use Rattle.std.specs.Prelude.{◌≡◌, ◌⊎◌, ◌+◌, ◌<◌, ◌≤◌, List, length, take, true, false, Some, None};
+ghost use Rattle.period_grammar.specs.Events.{Event, EventAt, all_at};
+ghost use Rattle.link_sink.specs.Grammar.{link_grammar};
+ghost use Rattle.link_sink.specs.Sinks.{Fed, IsGainAt, IsLast};
+ghost use Rattle.link_sink.specs.Pieces.{no_bits};
+ghost use Rattle.c_room.specs.Handles.{IsHandle, Holds, IsOpen, MayFeed, AreFewMore};
+ghost use Rattle.c_room.specs.Statuses.{IsFeedStatus, IsEndStatus};
+ghost use Rattle.c_room.specs.Takes.{no_counts, grown_to};
+ghost use Rattle.c_room.specs.Written.{AreWritten};
+ghost use Rattle.c_room.specs.declared.status.Status.TheVariants.{Done, Full, Misuse, TooMany, NoMemory};
+
+use crate::calls::{EndAnswer, FeedAnswer, feed_into, finish_into};
+use crate::kept::{Ended, Kept};
+use crate::lanes::{BitCounts, LentLanes};
+use crate::record::Record;
+use crate::slot::Slot;
+use crate::status::Status;
+use std::alloc::Global;
+
+/// What C holds: all bytes are 0 where there is no receiver.
+#[repr(C)]
+#[derive(Drop)]
+pub struct Handle {
+    slot: Slot,
+    /// Whose memory it is. It takes no bytes.
+    alloc: Global,
+    /// 1 where there is one, 0 where there is none.
+    held: u64,
+}
+
+/// The kind of receiver that there is: that of a link.
+const LINK: u32 = 0;
+
+impl Handle {
+    /// Makes a receiver of a kind that was fed nothing, with all memory that it ever has. `Misuse` where there is one already, or
+    /// no such kind; `NoMemory` where the memory is not there.
+    pub fn open(&mut self, alloc: Global, kind: u32) -> Status
+        requires { IsHandle self.old }
+        ensures handle { IsHandle self.new }
+        ensures done { result ≡ Done → Holds self.new.slot.value no_bits }
+        ensures misuse { result ≡ Misuse → (self.old.held ≡ 1) ⊎ (0 < kind) }
+        ensures refused { (result ≡ Done → ⊥) → self.new.slot.value ≡ self.old.slot.value }
+    {
+        if self.held != 0 || kind != LINK {
+            return Status::Misuse;
+        }
+        let Ok(kept) = Kept::open(alloc) else {
+            return Status::NoMemory;
+        };
+        match Box::new(alloc, kept) {
+            Ok(kept) => {
+                self.slot.put(kept);
+                self.held = 1;
+                Status::Done
+            }
+            Err(_) => Status::NoMemory,
+        }
+    }
+
+    /// Takes bits of each lane, and writes the events that they decide: `Kept::feed`. `Misuse` where there is no receiver, too.
+    pub fn feed(
+        &mut self,
+        lanes: LentLanes<'_>,
+        records: &mut [Record],
+        bytes: &mut [u8],
+    ) -> FeedAnswer
+        requires { IsHandle self.old }
+        ensures handle { IsHandle self.new }
+        ensures stands { (fed : Fed) → Holds self.old.slot.value fed → Holds self.new.slot.value (grown_to result.taken fed lanes.entry) }
+        ensures reported { (fed : Fed) → Holds self.old.slot.value fed
+            → (events : List EventAt) × IsGainAt link_grammar fed (grown_to result.taken fed lanes.entry) events
+            × AreWritten events result.events records.new result.bytes bytes.new }
+        ensures done { result.status ≡ Done → result.taken ≡ lanes.entry.bits }
+        ensures full { result.status ≡ Full → (length records.new < result.events + 104) ⊎ (length bytes.new < result.bytes + 12327) }
+        ensures misuse { result.status ≡ Misuse → MayFeed self.old.slot.value lanes.entry → ⊥ }
+        ensures many { result.status ≡ TooMany → AreFewMore self.old.slot.value lanes.entry.bits → ⊥ }
+        ensures refused { (result.status ≡ Misuse) ⊎ (result.status ≡ TooMany) → (self.new.slot.value ≡ self.old.slot.value) × (result.taken ≡ no_counts) }
+        ensures kinds { IsFeedStatus result.status }
+    {
+        if self.held == 0 {
+            return FeedAnswer {
+                status: Status::Misuse,
+                events: 0,
+                bytes: 0,
+                taken: BitCounts::none(),
+            };
+        }
+        let mut kept = self.slot.take(self.alloc);
+        let answer = feed_into(&mut kept, lanes, records, bytes);
+        self.slot.put(kept);
+        answer
+    }
+
+    /// Writes the event that is left at the end: `Kept::finish`. `Misuse` where there is no receiver, too.
+    pub fn finish(&mut self, records: &mut [Record], bytes: &mut [u8]) -> EndAnswer
+        requires { IsHandle self.old }
+        ensures handle { IsHandle self.new }
+        ensures stands { (fed : Fed) → Holds self.old.slot.value fed → Holds self.new.slot.value fed }
+        ensures reported { (fed : Fed) → Holds self.old.slot.value fed → result.ended.status ≡ Done
+            → (events : List Event) × IsLast fed result.ended.outcome events
+            × AreWritten (all_at result.ended.outcome.columns events) result.events records.new result.bytes bytes.new }
+        ensures done { result.ended.status ≡ Done → IsOpen self.new.slot.value → ⊥ }
+        ensures full { result.ended.status ≡ Full → length records.new ≤ 0 }
+        ensures misuse { result.ended.status ≡ Misuse → IsOpen self.old.slot.value → ⊥ }
+        ensures refused { (result.ended.status ≡ Misuse) ⊎ (result.ended.status ≡ Full) → (self.new.slot.value ≡ self.old.slot.value) × (result.events ≡ 0) }
+        ensures kinds { IsEndStatus result.ended.status }
+    {
+        if self.held == 0 {
+            return EndAnswer {
+                ended: Ended::refused(Status::Misuse),
+                events: 0,
+                bytes: 0,
+            };
+        }
+        let mut kept = self.slot.take(self.alloc);
+        let answer = finish_into(&mut kept, records, bytes);
+        self.slot.put(kept);
+        answer
+    }
+
+    /// Makes the receiver as after `open`, also where it was finished. `Misuse` where there is none. It takes no memory.
+    pub fn restart(&mut self) -> Status
+        requires { IsHandle self.old }
+        ensures handle { IsHandle self.new }
+        ensures done { result ≡ Done → Holds self.new.slot.value no_bits }
+        ensures misuse { result ≡ Misuse → self.old.slot.value ≡ None }
+        ensures kinds { (result ≡ Done) ⊎ (result ≡ Misuse) }
+    {
+        if self.held == 0 {
+            return Status::Misuse;
+        }
+        let mut kept = self.slot.take(self.alloc);
+        kept.restart();
+        self.slot.put(kept);
+        Status::Done
+    }
+
+    /// Frees the receiver, if there is one.
+    pub fn close(&mut self)
+        requires { IsHandle self.old }
+        ensures handle { IsHandle self.new }
+        ensures none { self.new.slot.value ≡ None }
+    {
+        if self.held == 0 {
+            return;
+        }
+        drop(self.slot.take(self.alloc));
+        self.held = 0;
+    }
+}

@@ -1,0 +1,173 @@
+//! What C keeps from call to call.
+ghost use Rattle.std.specs.Prelude.{◌≡◌, ◌⊎◌, ℕ, ◌<◌, ◌≤◌, ◌^◌, List, [], true, false, IfOk, Some, None};
+ghost use Rattle.period_grammar.specs.Events.{Event, EventAt, all_at};
+ghost use Rattle.link_sink.specs.Grammar.{link_grammar};
+ghost use Rattle.link_sink.specs.Sinks.{Fed, IsGainAt, IsLast};
+ghost use Rattle.link_sink.specs.Pieces.{no_bits};
+ghost use Rattle.c_room.specs.Rooms.{IsFull, HasNoOne};
+ghost use Rattle.c_room.specs.Stands.{Stands};
+ghost use Rattle.c_room.specs.Statuses.{IsFeedStatus, IsEndStatus};
+ghost use Rattle.c_room.specs.Takes.{no_counts, most_of, counts_to, grown_to, MayTakeLanes, AreFew};
+ghost use Rattle.c_room.specs.Written.{HasTaken};
+ghost use Rattle.c_room.specs.declared.status.Status.TheVariants.{Done, Full, Misuse, TooMany};
+
+use crate::feeding::{feed_lanes, finish_sink};
+use crate::lanes::{BitCounts, LentLanes};
+use crate::room::EventRoom;
+use crate::status::Status;
+use link_sink::{LinkSink, Outcome};
+use outside_io::NoMemory;
+use std::alloc::Global;
+
+/// A sink, and how many bits of each lane it was fed.
+#[derive(Drop)]
+pub struct Kept {
+    sink: LinkSink,
+    fed: BitCounts,
+}
+
+/// What a feed took: its status, and how many bits of each lane.
+#[derive(Clone, Copy, Drop)]
+pub struct Taken {
+    pub status: Status,
+    pub bits: BitCounts,
+}
+
+impl Taken {
+    /// Nothing was taken.
+    fn nothing(status: Status) -> Taken
+        ensures status { result.status ≡ status }
+        ensures bits { result.bits ≡ no_counts }
+    {
+        Taken {
+            status,
+            bits: BitCounts::none(),
+        }
+    }
+
+    /// Of each lane the bits before a place were taken.
+    fn until(at: u64, bits: BitCounts) -> Taken
+        ensures bits { result.bits ≡ counts_to at bits }
+        ensures done { result.status ≡ Done → most_of bits ≤ at }
+        ensures full { result.status ≡ Full → at < most_of bits }
+        ensures kinds { (result.status ≡ Done) ⊎ (result.status ≡ Full) }
+    {
+        let status = if at < bits.most() {
+            Status::Full
+        } else {
+            Status::Done
+        };
+        Taken {
+            status,
+            bits: bits.first(at),
+        }
+    }
+}
+
+/// What an end answers: its status, and what is said of the lanes where it is `Done`.
+#[derive(Clone, Copy, Drop)]
+pub struct Ended {
+    pub status: Status,
+    pub outcome: Outcome,
+}
+
+impl Ended {
+    /// Nothing was ended.
+    pub fn refused(status: Status) -> Ended
+        ensures { result.status ≡ status }
+    {
+        Ended {
+            status,
+            outcome: Outcome {
+                aligned: false,
+                columns: 0,
+            },
+        }
+    }
+}
+
+impl Kept {
+    /// One that was fed nothing, with all memory that it ever has.
+    pub fn open(alloc: Global) -> Result<Kept, NoMemory>
+        ensures { IfOk result (λ kept. Stands kept no_bits) }
+    {
+        Ok(Kept {
+            sink: LinkSink::open(alloc)?,
+            fed: BitCounts::none(),
+        })
+    }
+
+    /// Takes bits of each lane, and writes the events that they decide. `Done` where it took all; `Full` where the room did not
+    /// suffice: the rest of the bits goes on; `Misuse` where it was finished, where a lane has fewer bytes than bits, and where
+    /// bits come after a part of a byte or after fewer bits than another lane had; `TooMany` where there would be too many.
+    pub fn feed(&mut self, lanes: LentLanes<'_>, room: &mut EventRoom<'_>) -> Taken
+        requires { (fed : Fed) × Stands self.old fed }
+        ensures stands { (fed : Fed) → Stands self.old fed → Stands self.new (grown_to result.bits fed lanes.entry) }
+        ensures reported { (fed : Fed) → Stands self.old fed
+            → (events : List EventAt) × IsGainAt link_grammar fed (grown_to result.bits fed lanes.entry) events × HasTaken room.old room.new events }
+        ensures done { result.status ≡ Done → result.bits ≡ lanes.entry.bits }
+        ensures full { result.status ≡ Full → IsFull room.new }
+        ensures misuse { result.status ≡ Misuse → self.old.sink.is_open ≡ true → MayTakeLanes self.old.fed lanes.entry → ⊥ }
+        ensures many { result.status ≡ TooMany → AreFew self.old.fed lanes.entry.bits → ⊥ }
+        ensures refused { (result.status ≡ Misuse) ⊎ (result.status ≡ TooMany) → (self.new ≡ self.old) × (result.bits ≡ no_counts) }
+        ensures kinds { IsFeedStatus result.status }
+    {
+        if !self.sink.is_open() || !lanes.may_follow(self.fed) {
+            return Taken::nothing(Status::Misuse);
+        }
+        if !self.fed.are_few(lanes.bits) {
+            return Taken::nothing(Status::TooMany);
+        }
+        let at = self.feed_open(lanes, room);
+        Taken::until(at, lanes.bits)
+    }
+
+    /// The same of lanes that may be taken. Answers before which bit of each lane it stopped.
+    fn feed_open(&mut self, lanes: LentLanes<'_>, room: &mut EventRoom<'_>) -> u64
+        requires open { self.old.sink.is_open ≡ true }
+        requires stands { (fed : Fed) × Stands self.old fed }
+        requires may { MayTakeLanes self.old.fed lanes }
+        requires few { AreFew self.old.fed lanes.bits }
+        ensures full { result < most_of lanes.entry.bits → IsFull room.new }
+        ensures stands { (fed : Fed) → Stands self.old fed → Stands self.new (grown_to (counts_to result lanes.entry.bits) fed lanes.entry) }
+        ensures reported { (fed : Fed) → Stands self.old fed
+            → (events : List EventAt) × IsGainAt link_grammar fed (grown_to (counts_to result lanes.entry.bits) fed lanes.entry) events × HasTaken room.old room.new events }
+    {
+        let at = feed_lanes(&mut self.sink, lanes, room);
+        self.fed = self.fed.plus(lanes.bits.first(at));
+        at
+    }
+
+    /// Writes the event that is left at the end, and answers whether the lanes were aligned and how many columns they have; it is
+    /// then finished. `Full` where there is no room for one event, `Misuse` where it was finished before: then nothing is changed.
+    pub fn finish(&mut self, room: &mut EventRoom<'_>) -> Ended
+        requires { (fed : Fed) × Stands self.old fed }
+        ensures stands { (fed : Fed) → Stands self.old fed → Stands self.new fed }
+        ensures reported { (fed : Fed) → Stands self.old fed → result.status ≡ Done
+            → (events : List Event) × IsLast fed result.outcome events × HasTaken room.old room.new (all_at result.outcome.columns events) }
+        ensures done { result.status ≡ Done → self.new.sink.is_open ≡ false }
+        ensures full { result.status ≡ Full → HasNoOne room.old }
+        ensures misuse { result.status ≡ Misuse → self.old.sink.is_open ≡ false }
+        ensures refused { (result.status ≡ Misuse) ⊎ (result.status ≡ Full) → (self.new ≡ self.old) × HasTaken room.old room.new [] }
+        ensures kinds { IsEndStatus result.status }
+    {
+        if !self.sink.is_open() {
+            return Ended::refused(Status::Misuse);
+        }
+        if !room.has_one() {
+            return Ended::refused(Status::Full);
+        }
+        Ended {
+            status: Status::Done,
+            outcome: finish_sink(&mut self.sink, room),
+        }
+    }
+
+    /// Makes it as after `open`. It takes no memory.
+    pub fn restart(&mut self)
+        ensures { Stands self.new no_bits }
+    {
+        self.sink.restart();
+        self.fed = BitCounts::none();
+    }
+}

@@ -1,0 +1,147 @@
+//! The receiver of a link for C: `vabgrot.h` says what each call does, and what C owes.
+#![tactic(auto)]
+
+ghost use Rattle.std.specs.Prelude.{◌≡◌, ◌⊎◌, ◌+◌, ◌<◌, ◌≤◌, ℤ, pos, List, length, cond, None};
+ghost use Rattle.period_grammar.specs.Events.{Event, EventAt, all_at};
+ghost use Rattle.link_sink.specs.Grammar.{link_grammar};
+ghost use Rattle.link_sink.specs.Sinks.{Fed, IsGainAt, IsLast};
+ghost use Rattle.link_sink.specs.Pieces.{no_bits};
+ghost use Rattle.link_sink.specs.declared.hear.Outcome.{Outcome as OutcomeValue};
+ghost use Rattle.c_room.specs.Handles.{IsHandle, Holds, IsOpen, MayFeedAll, AreFewMore};
+ghost use Rattle.c_room.specs.Statuses.{code_of};
+ghost use Rattle.c_room.specs.Takes.{no_counts, grown_first};
+ghost use Rattle.c_room.specs.Written.{AreWritten};
+ghost use Rattle.c_room.specs.declared.status.Status.TheVariants.{Done, Full, Misuse, TooMany, NoMemory};
+
+use c_room::{BitCounts, Handle, LentLanes, Record};
+use std::alloc::Global;
+
+/// What a call says beside its status.
+#[repr(C)]
+#[derive(Clone, Copy, Drop)]
+pub struct Answer {
+    /// How many events it wrote.
+    pub events: u64,
+    /// How many bytes it wrote.
+    pub bytes: u64,
+    /// How many bits of each lane it took.
+    pub taken: BitCounts,
+    /// At the end: how many columns there were.
+    pub columns: u64,
+    /// At the end: 1 where the lanes were aligned.
+    pub aligned: u64,
+}
+
+/// Makes a receiver of a kind that was fed nothing, with all memory that it ever has.
+#[tactic(auto, using(c_room::specs::StatusLaws::code_is))]
+#[unsafe(no_mangle)]
+pub extern "C" fn vabgrot_open(alloc: Global, handle: &mut Handle, kind: u32) -> i32
+    requires { IsHandle handle.old }
+    ensures handle { IsHandle handle.new }
+    ensures done { result ≡ code_of Done → Holds handle.new.slot.value no_bits }
+    ensures misuse { result ≡ code_of Misuse → (handle.old.held ≡ 1) ⊎ (0 < kind) }
+    ensures refused { (result ≡ code_of Done → ⊥) → handle.new.slot.value ≡ handle.old.slot.value }
+{
+    handle.open(alloc, kind).code()
+}
+
+/// Takes bits of each lane, and writes the events that they decide.
+#[tactic(auto, using(c_room::specs::StatusLaws::code_is))]
+#[unsafe(no_mangle)]
+pub extern "C" fn vabgrot_feed(
+    handle: &mut Handle,
+    blue: &[u8],
+    green: &[u8],
+    red: &[u8],
+    bits: &BitCounts,
+    events: &mut [Record],
+    bytes: &mut [u8],
+    answer: &mut Answer,
+) -> i32
+    requires { IsHandle handle.old }
+    ensures handle { IsHandle handle.new }
+    ensures stands { (fed : Fed) → Holds handle.old.slot.value fed → Holds handle.new.slot.value (grown_first answer.new.taken fed blue.now green.now red.now) }
+    ensures reported { (fed : Fed) → Holds handle.old.slot.value fed
+        → (reported : List EventAt) × IsGainAt link_grammar fed (grown_first answer.new.taken fed blue.now green.now red.now) reported
+        × AreWritten reported answer.new.events events.new answer.new.bytes bytes.new }
+    ensures done { result ≡ code_of Done → answer.new.taken ≡ bits.now }
+    ensures full { result ≡ code_of Full → (length events.new < answer.new.events + 104) ⊎ (length bytes.new < answer.new.bytes + 12327) }
+    ensures misuse { result ≡ code_of Misuse → MayFeedAll handle.old.slot.value blue.now green.now red.now bits.now → ⊥ }
+    ensures many { result ≡ code_of TooMany → AreFewMore handle.old.slot.value bits.now → ⊥ }
+    ensures refused { (result ≡ code_of Misuse) ⊎ (result ≡ code_of TooMany) → (handle.new.slot.value ≡ handle.old.slot.value) × (answer.new.taken ≡ no_counts) }
+    ensures memory { result ≡ code_of NoMemory → ⊥ }
+{
+    let lanes = LentLanes {
+        blue,
+        green,
+        red,
+        bits: *bits,
+    };
+    let said = handle.feed(lanes, events, bytes);
+    *answer = Answer {
+        events: said.events as u64,
+        bytes: said.bytes as u64,
+        taken: said.taken,
+        columns: 0,
+        aligned: 0,
+    };
+    said.status.code()
+}
+
+/// Writes the event that is left at the end.
+#[tactic(auto, using(c_room::specs::StatusLaws::code_is))]
+#[unsafe(no_mangle)]
+pub extern "C" fn vabgrot_finish(
+    handle: &mut Handle,
+    events: &mut [Record],
+    bytes: &mut [u8],
+    answer: &mut Answer,
+) -> i32
+    requires { IsHandle handle.old }
+    ensures handle { IsHandle handle.new }
+    ensures stands { (fed : Fed) → Holds handle.old.slot.value fed → Holds handle.new.slot.value fed }
+    ensures reported { (fed : Fed) → Holds handle.old.slot.value fed → result ≡ code_of Done
+        → (outcome : OutcomeValue) × (reported : List Event) × IsLast fed outcome reported
+        × AreWritten (all_at outcome.columns reported) answer.new.events events.new answer.new.bytes bytes.new
+        × (answer.new.columns ≡ outcome.columns) × (answer.new.aligned ≡ cond outcome.aligned 1 0) }
+    ensures done { result ≡ code_of Done → IsOpen handle.new.slot.value → ⊥ }
+    ensures full { result ≡ code_of Full → length events.new ≤ 0 }
+    ensures misuse { result ≡ code_of Misuse → IsOpen handle.old.slot.value → ⊥ }
+    ensures refused { (result ≡ code_of Misuse) ⊎ (result ≡ code_of Full) → (handle.new.slot.value ≡ handle.old.slot.value) × (answer.new.events ≡ 0) }
+    ensures others { (result ≡ code_of NoMemory) ⊎ (result ≡ code_of TooMany) → ⊥ }
+{
+    let said = handle.finish(events, bytes);
+    *answer = Answer {
+        events: said.events as u64,
+        bytes: said.bytes as u64,
+        taken: BitCounts::none(),
+        columns: said.ended.outcome.columns,
+        aligned: u64::from(said.ended.outcome.aligned),
+    };
+    said.ended.status.code()
+}
+
+/// Makes the receiver as after `vabgrot_open`.
+#[tactic(auto, using(c_room::specs::StatusLaws::code_is))]
+#[unsafe(no_mangle)]
+pub extern "C" fn vabgrot_restart(handle: &mut Handle) -> i32
+    requires { IsHandle handle.old }
+    ensures handle { IsHandle handle.new }
+    ensures done { result ≡ code_of Done → Holds handle.new.slot.value no_bits }
+    ensures misuse { result ≡ code_of Misuse → handle.old.slot.value ≡ None }
+    ensures kinds { (result ≡ code_of Done) ⊎ (result ≡ code_of Misuse) }
+{
+    handle.restart().code()
+}
+
+/// Frees the receiver.
+#[unsafe(no_mangle)]
+pub extern "C" fn vabgrot_close(handle: &mut Handle) -> i32
+    requires { IsHandle handle.old }
+    ensures handle { IsHandle handle.new }
+    ensures none { handle.new.slot.value ≡ None }
+    ensures done { result ≡ code_of Done }
+{
+    handle.close();
+    0
+}

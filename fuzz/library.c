@@ -1,0 +1,124 @@
+/*
+** A fuzzer of the C library for libFuzzer. The input is a row of calls: a byte says which, and for a feed three more bytes say how many
+** bits each lane has, whose bytes follow. Room is as large as the second byte of the input says. What no input may break: each call
+** answers a status that its state allows; what it says that it wrote lies within the room; events come in the order of their columns, and
+** one after another in the buffer; a feed takes no more bits than it is given.
+**
+**     clang -g -O1 -fsanitize=fuzzer,address,undefined -I library fuzz/library.c DIR/libvabgrot.a -o fuzzer && ./fuzzer -max_total_time=60
+*/
+#include <stdlib.h>
+#include <string.h>
+
+#include <vabgrot.h>
+
+enum { OPEN, FEED, FINISH, RESTART, CLOSE, CALLS, MOST_EVENTS = 600, MOST_BYTES = 16000 };
+
+int LLVMFuzzerTestOneInput(const uint8_t *data, size_t size);
+
+struct state {
+  vabgrot receiver;
+  int is_open, is_finished;
+  uint64_t column;
+  vabgrot_event *events;
+  uint8_t *bytes;
+  size_t event_room, byte_room;
+};
+
+static void need(int holds) {
+  if (!holds) abort();
+}
+
+/* What a call says that it wrote. */
+static void check_events(struct state *it, const vabgrot_answer *answer) {
+  uint64_t end = 0;
+  need(answer->events <= it->event_room && answer->bytes <= it->byte_room);
+  for (uint64_t i = 0; i < answer->events; i++) {
+    const vabgrot_event *event = &it->events[i];
+    need(event->kind <= VABGROT_GUARD && event->offset == end && event->column >= it->column);
+    need(event->kind != VABGROT_LINE || (event->size % 3 == 0 && event->size >= 3 && event->size <= 12288));
+    need(event->kind != VABGROT_PACKET || event->size == 63);
+    it->column = event->column;
+    end += event->size;
+  }
+  need(end == answer->bytes);
+}
+
+/* Feeds the bits of three lanes, and answers how many bytes of the input it used. */
+static size_t feed(struct state *it, const uint8_t *data, size_t size) {
+  uint64_t bits[3], taken[3];
+  uint8_t *lanes[3];
+  size_t sizes[3], used = 3;
+  vabgrot_answer answer;
+  if (size < 3) return size;
+  for (int i = 0; i < 3; i++) {
+    bits[i] = data[i] < 128 ? 8U * data[i] : data[i] - 128U;
+    sizes[i] = (size_t)((bits[i] + 7) / 8);
+    if (sizes[i] > size - used) {
+      sizes[i] = size - used;
+      bits[i] = 8 * sizes[i];
+    }
+    lanes[i] = malloc(sizes[i] + 1); /* of exactly its size, so that a read past it is seen */
+    need(lanes[i] != NULL);
+    memcpy(lanes[i], data + used, sizes[i]);
+    used += sizes[i];
+  }
+  const vabgrot_bits all = {bits[0], bits[1], bits[2]};
+  const int status = vabgrot_feed(&it->receiver, lanes[0], sizes[0], lanes[1], sizes[1], lanes[2], sizes[2], &all, it->events,
+                                  it->event_room, it->bytes, it->byte_room, &answer);
+  need(status == VABGROT_OK || status == VABGROT_FULL || status == VABGROT_MISUSE);
+  need(status == VABGROT_MISUSE || (it->is_open && !it->is_finished));
+  taken[0] = answer.taken.blue;
+  taken[1] = answer.taken.green;
+  taken[2] = answer.taken.red;
+  for (int i = 0; i < 3; i++) {
+    need(taken[i] <= bits[i] && (status != VABGROT_OK || taken[i] == bits[i]) && (status != VABGROT_MISUSE || taken[i] == 0));
+    free(lanes[i]);
+  }
+  check_events(it, &answer);
+  return used;
+}
+
+static void finish(struct state *it) {
+  vabgrot_answer answer;
+  const int status = vabgrot_finish(&it->receiver, it->events, it->event_room, it->bytes, it->byte_room, &answer);
+  const int may = it->is_open && !it->is_finished;
+  need(status == (!may ? VABGROT_MISUSE : it->event_room == 0 ? VABGROT_FULL : VABGROT_OK));
+  check_events(it, &answer);
+  if (status == VABGROT_OK) it->is_finished = 1;
+}
+
+int LLVMFuzzerTestOneInput(const uint8_t *data, size_t size) {
+  struct state it = {VABGROT_INIT, 0, 0, 0, NULL, NULL, 0, 0};
+  size_t at = 2;
+  if (size < 2) return 0;
+  it.event_room = data[0] * MOST_EVENTS / 255;
+  it.byte_room = data[1] * MOST_BYTES / 255;
+  it.events = malloc((it.event_room + 1) * sizeof *it.events);
+  it.bytes = malloc(it.byte_room + 1);
+  need(it.events != NULL && it.bytes != NULL);
+  need(vabgrot_open(&it.receiver, VABGROT_LINK) == VABGROT_OK);
+  it.is_open = 1;
+  while (at < size) {
+    const int call = data[at++] % (2 * CALLS);
+    if (call == OPEN) {
+      need(vabgrot_open(&it.receiver, VABGROT_LINK) == (it.is_open ? VABGROT_MISUSE : VABGROT_OK));
+      if (!it.is_open) it.is_finished = 0, it.column = 0;
+      it.is_open = 1;
+    } else if (call == FINISH) {
+      finish(&it);
+    } else if (call == RESTART) {
+      need(vabgrot_restart(&it.receiver) == (it.is_open ? VABGROT_OK : VABGROT_MISUSE));
+      it.is_finished = 0;
+      it.column = 0;
+    } else if (call == CLOSE) {
+      need(vabgrot_close(&it.receiver) == VABGROT_OK);
+      it.is_open = 0;
+    } else {
+      at += feed(&it, data + at, size - at);
+    }
+  }
+  need(vabgrot_close(&it.receiver) == VABGROT_OK);
+  free(it.events);
+  free(it.bytes);
+  return 0;
+}

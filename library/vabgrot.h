@@ -1,0 +1,201 @@
+/*
+** vabgrot.h: the receiver of one HDMI TMDS link as a C library.
+**
+** A receiver is fed the raw bits of three serial lanes, blue (lane 0), green (lane 1) and red (lane 2), with unknown bit offset
+** and up to 70 bits of skew between the lanes, in pieces of any size. It finds where characters begin on each lane, lines the
+** lanes up, and writes what they carry as events into an array of the caller's: runs of control columns, lines of pixels,
+** packets of data islands, and what is wrong with them. A column is one pixel clock: one character of each lane.
+**
+** What the calls write is proved: of all bits that were fed, exactly the events that the program's `recover link` lists, in
+** whatever pieces they were fed. docs/proof/PROVED.md of the project has the theorem, and what it owes to the caller.
+**
+** Memory. vabgrot_open takes 63,600 bytes from malloc, in seven blocks; no other call takes any; vabgrot_close frees them.
+**
+** Threads. The library keeps nothing outside the handle and starts no thread. Calls on different handles may run side by side.
+** Calls on one handle must not overlap; between calls a handle may pass to another thread, as any memory does.
+**
+** What the caller owes. A handle is all zero before vabgrot_open (VABGROT_INIT) and is neither changed nor copied while it is
+** open; it may be moved in memory between calls. No pointer is NULL, also where a length is 0; the array and buffers of one call
+** overlap neither each other nor the handle, and have the lengths that the call says. Everything else is tested: each call may
+** come in any order, and answers a status.
+*/
+#ifndef VABGROT_H
+#define VABGROT_H
+
+#include <stddef.h>
+#include <stdint.h>
+
+#ifdef __cplusplus
+extern "C" {
+#endif
+
+/*
+** A receiver. Its fields are the library's own.
+*/
+typedef struct vabgrot {
+  void *receiver;
+  uint64_t held;
+} vabgrot;
+
+#define VABGROT_INIT {NULL, 0}
+
+/*
+** What a call answers.
+*/
+enum vabgrot_status {
+  VABGROT_OK = 0,     /* all was done */
+  VABGROT_FULL = 1,   /* there is no room for what the rest may report; what was done stands */
+  VABGROT_MISUSE = 2, /* the call does not fit the calls before it, or its bits those before them; nothing was done */
+  VABGROT_TOOBIG = 3, /* a lane would have 2^60 bits or more; nothing was done */
+  VABGROT_NOMEM = 4   /* malloc answered NULL; nothing was done */
+};
+
+/*
+** Kinds of receivers.
+*/
+enum vabgrot_kind {
+  VABGROT_LINK = 0 /* a link with guard bands and preambles (HDMI 1.4, chapter 5) */
+};
+
+/*
+** How many bits of each lane. Bit i of a lane is bit i % 8 of its byte i / 8, the lowest first.
+*/
+typedef struct vabgrot_bits {
+  uint64_t blue;
+  uint64_t green;
+  uint64_t red;
+} vabgrot_bits;
+
+/*
+** An event, 48 bytes. What it has of bytes lies in the buffer of the same call, from `offset` on. Columns are counted from 0 at the
+** first aligned column; no event has a `column` below that of the event before it.
+*/
+typedef struct vabgrot_event {
+  uint64_t column; /* the column at which it is reported, which is the first that decides it */
+  uint64_t named;  /* the column that it names, as said below; else 0 */
+  uint64_t count;  /* how many columns or characters, as said below; else 0 */
+  uint64_t offset; /* where its bytes begin */
+  uint32_t size;   /* how many bytes it has */
+  uint32_t kind;   /* one of the following */
+  uint32_t value;  /* as said below; else 0 */
+  uint32_t second; /* as said below; else 0 */
+} vabgrot_event;
+
+/*
+** The kinds of events. From VABGROT_WORD on they are faults.
+*/
+enum vabgrot_event_kind {
+  /* `count` control columns of one value: bit 0 HSYNC, bit 1 VSYNC, bits 2 to 5 CTL0 to CTL3. Reported at the column after them. */
+  VABGROT_RUN = 0,
+  /* The pixels of a video period, at most 4,096: bytes red, green, blue of each. Reported at the control column after it. */
+  VABGROT_LINE = 1,
+  /* The guard that opens a data island: of its two columns (`value`, `second`) HSYNC plus twice VSYNC. Reported at the second. */
+  VABGROT_OPEN = 2,
+  /* A packet, mended where that could be: `named` its first column, `count` characters that are no TERC4 characters; 63 bytes: three
+  ** of the header, four bodies of seven, and of each of its 32 columns HSYNC plus twice VSYNC. Reported at its last column. */
+  VABGROT_PACKET = 3,
+  /* The guard that closes a data island: as VABGROT_OPEN. */
+  VABGROT_CLOSE = 4,
+  /* At the end: `named` is the first column of which nothing whole was reported. */
+  VABGROT_CUT = 5,
+  /* A character of lane `value` in the control column `named` that is no control character. */
+  VABGROT_WORD = 6,
+  /* Fewer than twelve control columns before the period that is opened at `named`. */
+  VABGROT_SHORT = 7,
+  /* Not the eight columns of its preamble before the period that is opened at `named`. */
+  VABGROT_PREAMBLE = 8,
+  /* Columns from `named` on that open nothing. */
+  VABGROT_NOISE = 9,
+  /* A video period with no pixel, or an island with no packet, opened at `named`. */
+  VABGROT_EMPTY = 10,
+  /* The first character of the line on lane `value`, at `named`, that does not code its own byte. */
+  VABGROT_CODE = 11,
+  /* More than 4,096 pixels in the video period that is opened at `named`. */
+  VABGROT_LONG_LINE = 12,
+  /* `count` of the 96 characters of the packet at `named` are no TERC4 characters. */
+  VABGROT_SYMBOLS = 13,
+  /* Block `value` of the packet at `named` (0 to 3 its bodies, 4 its header) had bit `second` wrong; it was turned over. */
+  VABGROT_MENDED = 14,
+  /* Block `value` of the packet at `named` has more wrong bits. */
+  VABGROT_LOST = 15,
+  /* The packet at `named` is its island's nineteenth. */
+  VABGROT_LONG_ISLAND = 16,
+  /* A packet or a closing guard at `named` that control columns cut short. */
+  VABGROT_BROKEN = 17,
+  /* The column `named` of an opening or closing guard is no guard column. */
+  VABGROT_GUARD = 18
+};
+
+/*
+** What a call says beside its status.
+*/
+typedef struct vabgrot_answer {
+  uint64_t events;    /* how many events it wrote, from the first of the array on */
+  uint64_t bytes;     /* how many bytes it wrote, from the first of the buffer on */
+  vabgrot_bits taken; /* vabgrot_feed: how many bits of each lane it took */
+  uint64_t columns;   /* vabgrot_finish: how many columns there were from the first full alignment on */
+  uint64_t aligned;   /* vabgrot_finish: 1 where the lanes were aligned, 0 where they were not */
+} vabgrot_answer;
+
+/*
+** With so many events and so many bytes of room vabgrot_feed takes at least a byte of each lane that has one.
+*/
+#define VABGROT_LEAST_EVENTS 104
+#define VABGROT_LEAST_BYTES 12327
+
+/*
+** With so many events and so many bytes of room it feeds 4,096 bytes of a lane at a time, which is quickest.
+*/
+#define VABGROT_QUICK_EVENTS 26312
+#define VABGROT_QUICK_BYTES 22155
+
+/*
+** Opens a receiver of a kind. It was fed nothing. It holds its memory until vabgrot_close.
+**
+** VABGROT_MISUSE: the handle is open already, or there is no such kind. VABGROT_NOMEM: malloc answered NULL.
+*/
+int vabgrot_open(vabgrot *v, uint32_t kind);
+
+/*
+** Takes bits of each lane, any number of each, and writes the events that they decide. A byte of a lane has room for eight bits,
+** so `blue_size` is at least (bits->blue + 7) / 8, and so on. It costs some 9 cycles a column of pixels, and some 50 of a data island.
+**
+** A lane whose bits are no whole bytes, or are fewer than another lane's, has ended with this call: no more bits of it are taken,
+** and the columns end with the shortest lane.
+**
+** Events are written only where there is room for all that a piece of the bits can report (eight events a column, and the pixels
+** of a line); `answer->taken` says how many bits of each lane were taken. Where these are not all the status is VABGROT_FULL: take
+** the events out, and call again with the rest of the bits. `answer->taken` of a lane is then a multiple of eight, or all of it.
+**
+** VABGROT_FULL: less than VABGROT_LEAST_EVENTS or VABGROT_LEAST_BYTES of the room is left.
+** VABGROT_MISUSE: the handle is not open, or was finished; a lane has fewer bytes than bits; or it had ended and has bits.
+** VABGROT_TOOBIG: a lane would have 2^60 bits or more since vabgrot_open or vabgrot_restart: ten years of HDMI 1.4's fastest link.
+*/
+int vabgrot_feed(vabgrot *v, const uint8_t *blue, size_t blue_size, const uint8_t *green, size_t green_size,
+                 const uint8_t *red, size_t red_size, const vabgrot_bits *bits, vabgrot_event *events, size_t event_room,
+                 uint8_t *bytes, size_t byte_room, vabgrot_answer *answer);
+
+/*
+** Ends the lanes: writes the one event that is left, if any (the last run, or VABGROT_CUT), and says whether the lanes were
+** aligned and how many columns they had. The receiver is then finished: it takes no bits until vabgrot_restart.
+**
+** VABGROT_FULL: `event_room` is 0. VABGROT_MISUSE: the handle is not open, or was finished. Then nothing was done.
+*/
+int vabgrot_finish(vabgrot *v, vabgrot_event *events, size_t event_room, uint8_t *bytes, size_t byte_room,
+                   vabgrot_answer *answer);
+
+/*
+** Makes an open receiver as vabgrot_open left it, in whatever state it is. VABGROT_MISUSE: the handle is not open.
+*/
+int vabgrot_restart(vabgrot *v);
+
+/*
+** Frees the receiver. The handle is then as before vabgrot_open. Nothing is done where it is not open. It answers VABGROT_OK.
+*/
+int vabgrot_close(vabgrot *v);
+
+#ifdef __cplusplus
+}
+#endif
+
+#endif

@@ -1,0 +1,74 @@
+"""The shared library by ctypes, as vabgrot.h declares it."""
+
+import ctypes
+from ctypes import POINTER, Structure, byref, c_int, c_size_t, c_uint8, c_uint32, c_uint64, c_void_p
+
+OK, FULL, MISUSE, TOOBIG, NOMEM = range(5)
+LEAST_EVENTS, LEAST_BYTES = 104, 12327
+LINK = 0
+
+
+class Handle(Structure):
+    _fields_ = (("receiver", c_void_p), ("held", c_uint64))
+
+
+class Bits(Structure):
+    _fields_ = (("blue", c_uint64), ("green", c_uint64), ("red", c_uint64))
+
+
+class Event(Structure):
+    _fields_ = (*((name, c_uint64) for name in ("column", "named", "count", "offset")),
+                *((name, c_uint32) for name in ("size", "kind", "value", "second")))
+
+
+class Answer(Structure):
+    _fields_ = (("events", c_uint64), ("bytes", c_uint64), ("taken", Bits), ("columns", c_uint64), ("aligned", c_uint64))
+
+
+def loaded(path):
+    """The library with the types of its calls."""
+    calls = ctypes.CDLL(str(path))
+    lane = (POINTER(c_uint8), c_size_t)
+    room = (POINTER(Event), c_size_t, POINTER(c_uint8), c_size_t, POINTER(Answer))
+    feed = (*lane * 3, POINTER(Bits), *room)
+    for name, types in (("open", (c_uint32,)), ("feed", feed), ("finish", room), ("restart", ()), ("close", ())):
+        call = getattr(calls, f"vabgrot_{name}")
+        call.argtypes, call.restype = (POINTER(Handle), *types), c_int
+    return calls
+
+
+class Receiver:
+    """A handle, with room for so many events and bytes."""
+
+    def __init__(self, calls, events=1000, size=1 << 16):
+        self.calls, self.handle, self.answer = calls, Handle(), Answer()
+        self.events, self.bytes = (Event * max(1, events))(), (c_uint8 * max(1, size))()
+        self.room = self.events, events, self.bytes, size, byref(self.answer)
+
+    def open(self, kind=LINK):
+        return self.calls.vabgrot_open(byref(self.handle), kind)
+
+    def feed(self, lanes, bits=None, sizes=None):
+        """Feeds bytes of each lane, all their bits or so many."""
+        bits = bits or [8 * len(it) for it in lanes]
+        sizes = sizes or [len(it) for it in lanes]
+        words = [word for it, size in zip(lanes, sizes) for word in ((c_uint8 * max(1, len(it)))(*it), size)]
+        return self.calls.vabgrot_feed(byref(self.handle), *words, byref(Bits(*bits)), *self.room)
+
+    def finish(self):
+        return self.calls.vabgrot_finish(byref(self.handle), *self.room)
+
+    def restart(self):
+        return self.calls.vabgrot_restart(byref(self.handle))
+
+    def close(self):
+        return self.calls.vabgrot_close(byref(self.handle))
+
+    def written(self):
+        """The events that the last call wrote, each its column, its kind, its numbers and its bytes."""
+        for at in range(self.answer.events):
+            it = self.events[at]
+            yield it.column, it.kind, it.named, it.count, it.value, it.second, bytes(self.bytes[it.offset : it.offset + it.size])
+
+    def taken(self):
+        return self.answer.taken.blue, self.answer.taken.green, self.answer.taken.red

@@ -1,0 +1,133 @@
+"""Calls of the shared library in every order, with too little room or memory, and on two threads."""
+
+import itertools
+import threading
+
+import pytest
+
+from tests.library import bound
+from tests.library.bound import FULL, MISUSE, OK, Receiver
+from tests.models import hearing, model
+from tests.support import LISTING, TOP, ran
+
+# The calls, each by what a handle is before it: what it answers, and what the handle is then.
+CLOSED, EMPTY, FED, ENDED, FINISHED = "closed", "open", "fed", "one lane ended", "finished"
+STATES = (CLOSED, EMPTY, FED, ENDED, FINISHED)
+OPEN = (EMPTY, FED, ENDED)
+CALLS = {
+    "open": lambda it: (it.open(), {CLOSED: (OK, EMPTY)}),
+    "open no kind": lambda it: (it.open(9), {}),
+    "feed": lambda it: (it.feed([b"ab", b"cd", b"ef"]), {EMPTY: (OK, FED), FED: (OK, FED)}),
+    "feed nothing": lambda it: (it.feed([b"", b"", b""]), {state: (OK, state) for state in OPEN}),
+    "end a lane": lambda it: (it.feed([b"ab", b"c", b"ef"], [11, 5, 16]), {EMPTY: (OK, ENDED), FED: (OK, ENDED)}),
+    "more bits than bytes": lambda it: (it.feed([b"ab", b"cd", b"ef"], [16, 17, 16]), {}),
+    "finish": lambda it: (it.finish(), {state: (OK, FINISHED) for state in OPEN}),
+    "restart": lambda it: (it.restart(), {state: (OK, EMPTY) for state in STATES[1:]}),
+    "close": lambda it: (it.close(), {state: (OK, CLOSED) for state in STATES}),
+}
+
+
+@pytest.fixture(scope="module")
+def calls(library):
+    return bound.loaded(library / "libvabgrot.so.1")
+
+
+def lanes_of(text, skews=(0, 0, 0)):
+    """The bytes of each lane of the columns of a listing, and how many bits they are."""
+    rows = zip(*hearing.sent_columns(text))
+    bits = [model.sent_bits(row)[skew:] for row, skew in zip(rows, skews)]
+    return [int(row[::-1], 2).to_bytes((len(row) + 7) // 8, "little") for row in bits], [len(row) for row in bits]
+
+
+def test_orders(calls, compare):
+    """Every five calls one after another answer a status, and what is refused changes nothing."""
+
+    def cases():
+        for names in itertools.product(CALLS, repeat=4):
+            it, state, came, wanted = Receiver(calls), CLOSED, [], []
+            for name in names:
+                status, does = CALLS[name](it)
+                came.append(status)
+                answer, state = does.get(state, (MISUSE, state))
+                wanted.append(answer)
+            it.close()
+            yield " ".join(names), came, wanted
+
+    compare(cases())
+
+
+def test_room(calls, compare):
+    """A feed takes nothing with one event or one byte less than the least room, and a byte of each lane with the least."""
+
+    def cases():
+        for events, size, status, taken in (
+            (bound.LEAST_EVENTS - 1, 1 << 20, FULL, 0),
+            (1 << 12, bound.LEAST_BYTES - 1, FULL, 0),
+            (bound.LEAST_EVENTS, bound.LEAST_BYTES, OK, 8),
+        ):
+            it = Receiver(calls, events, size)
+            assert it.open() == OK
+            came = it.feed([b"a", b"b", b"c"])
+            yield f"{events} events, {size} bytes", (came, it.taken()), (status, (taken,) * 3)
+            it.close()
+        it = Receiver(calls, 0, 0)
+        assert it.open() == OK
+        yield "an end with no room", (it.finish(), it.restart()), (FULL, OK)
+        it.close()
+
+    compare(cases())
+
+
+def test_too_many(calls):
+    """2^60 bits and more are refused before any byte is read."""
+    it = Receiver(calls)
+    assert it.open() == OK
+    assert it.feed([b"a", b"b", b"c"], [1 << 60, 0, 0], [1 << 57, 0, 0]) == bound.TOOBIG
+    assert it.taken() == (0, 0, 0) and it.feed([b"a", b"b", b"c"]) == OK and it.close() == OK
+
+
+def test_events(calls):
+    """What is written of a small stream, each event at its column; the same again after a restart."""
+    lanes, bits = lanes_of(LISTING)
+    wanted = [(4, 0, 0, 4, 0, 0, b""), (12, 0, 0, 8, 4, 0, b""), (15, 1, 0, 0, 0, 0, b"\xff\0\0")]
+    it = Receiver(calls)
+    assert it.open() == OK
+    for _ in range(2):
+        assert it.feed(lanes, bits) == OK
+        assert list(it.written()) == wanted
+        assert it.finish() == OK
+        assert list(it.written()) == [(27, 0, 0, 12, 0, 0, b"")]
+        assert (it.answer.aligned, it.answer.columns) == (1, 27)
+        assert it.restart() == OK
+    it.close()
+
+
+def test_threads(calls):
+    """Two handles on two threads say what each says alone."""
+    lanes, bits = lanes_of((TOP / "examples" / "skewed.link").read_bytes(), (0, 70, 35))
+    alone, found = [], {}  # what is written of a stream, and by each thread of many
+
+    def hear(found, count):
+        it = Receiver(calls)
+        assert it.open() == OK
+        for _ in range(count):
+            assert it.feed(lanes, bits) == OK
+            found += it.written()
+            assert it.finish() == OK
+            found += it.written()
+            assert it.restart() == OK
+        it.close()
+
+    hear(alone, 1)
+    threads = [threading.Thread(target=hear, args=(found.setdefault(at, []), 200)) for at in range(2)]
+    for it in threads:
+        it.start()
+    for it in threads:
+        it.join()
+    assert alone and all(found[at] == alone * 200 for at in range(2))
+
+
+def test_refused_memory(compiled):
+    """Each allocation of an opening is refused in turn: it answers so, and frees what it had; no other call allocates."""
+    came = ran([compiled(TOP / "tests" / "library" / "refused.c", "-Wl,--wrap=malloc,--wrap=realloc,--wrap=free")], b"")
+    assert came.returncode == 0, came.stdout + came.stderr
