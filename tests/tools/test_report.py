@@ -15,127 +15,14 @@ from vabgrot.formats.rules import RULES
 from tests.support import HANGS, built, ran
 
 webdriver = pytest.importorskip("selenium.webdriver", reason="Debian's package python3-selenium is missing")
-from selenium.webdriver.chrome.service import Service  # noqa: E402
 from selenium.webdriver.common.by import By  # noqa: E402
 from selenium.webdriver.common.keys import Keys  # noqa: E402
 from selenium.webdriver.support.ui import Select, WebDriverWait  # noqa: E402
 
-CHROMIUM, DRIVER = "/usr/bin/chromium", "/usr/bin/chromedriver"
 MODE = "32,8,16,64,24,2,2,2,1"
 ACROSS, DOWN, FIRST_PIXEL, FIRST_ROW = 120, 30, 80, 4
 STATUS = [(4 if bit == 2 else 0) for bit in range(192)]  # of both sides: consumer, linear PCM, no copyright asserted
 NULL = "000000 " + " ".join(["0" * 14] * 4)
-
-
-@pytest.fixture(scope="module")
-def driver():
-    if not (os.path.exists(CHROMIUM) and os.path.exists(DRIVER)):
-        pytest.skip("Debian's packages chromium and chromium-driver are missing")
-    options = webdriver.ChromeOptions()
-    for word in ("headless=new", "no-sandbox", "disable-gpu", "disable-dev-shm-usage", "window-size=1280,1000"):
-        options.add_argument(f"--{word}")
-    options.binary_location = CHROMIUM
-    options.set_capability("goog:loggingPrefs", {"browser": "ALL"})
-    found = webdriver.Chrome(options=options, service=Service(DRIVER))
-    found.set_page_load_timeout(HANGS)
-    found.set_script_timeout(HANGS)
-    yield found
-    found.quit()
-
-
-class Page:
-    """A page in the browser."""
-
-    def __init__(self, driver, path):
-        self.driver = driver
-        driver.get_log("browser")
-        driver.get(f"file://{path}")
-        WebDriverWait(driver, HANGS).until(lambda _: self.run("return document.documentElement.dataset.ready") == "yes")
-
-    def run(self, text, *words):
-        return self.driver.execute_script(text, *words)
-
-    def text(self, id):
-        return self.run("return document.getElementById(arguments[0])?.textContent", id)
-
-    def count(self, name):
-        return int((self.text(f"count-{name}") or "0").replace(",", ""))
-
-    def click(self, id):
-        self.run("document.getElementById(arguments[0]).click()", id)
-
-    def rows(self, id):
-        """The cells of a table, of all its pages, each cell the texts in it."""
-        self.run(
-            "const bar = document.querySelector(`#${arguments[0]} .bar`);"
-            "while (!bar.querySelectorAll('button')[0].disabled) bar.querySelectorAll('button')[0].click()",
-            id,
-        )
-        found = []
-        while True:
-            found += self.run(
-                "return [...document.querySelectorAll(`#${arguments[0]} tbody tr`)].map((row) => [...row.cells].map((cell) =>"
-                " [...cell.childNodes].map((one) => one.textContent).join(' | ')))",
-                id,
-            )
-            if self.run(
-                "const on = document.querySelectorAll(`#${arguments[0]} .bar button`)[1]; if (on.disabled) return true; on.click()",
-                id,
-            ):
-                return found
-
-    def lines(self):
-        """The listing, page after page."""
-        found = []
-        while True:
-            found += self.run(
-                "return [...document.querySelectorAll('#lines li')].map((line) => line.lastChild.textContent)"
-            )
-            if self.run(
-                "const on = [...document.querySelectorAll('#lines .bar button')].at(-1); if (on.disabled) return true; on.click()"
-            ):
-                return found
-
-    def frames(self):
-        """The pictures of the whole frames, as they are shown."""
-        found = []
-        for button in self.driver.find_elements(By.CSS_SELECTOR, "#strip button"):
-            if not button.text.startswith("Frame"):
-                continue
-            self.run("arguments[0].click()", button)
-            WebDriverWait(self.driver, HANGS).until(lambda _: button.get_attribute("aria-current"))
-            width, height, data = self.run(
-                "const one = document.getElementById('picture'); return [one.width, one.height,"
-                " [...one.getContext('2d').getImageData(0, 0, one.width, one.height).data].filter((_, at) => at % 4 < 3)]"
-            )
-            found.append(Image.frombytes("RGB", (width, height), bytes(data)))
-        return found
-
-    def check(self):
-        """Nothing went wrong in the page, nothing was loaded, and what is shown has a name."""
-        assert [entry for entry in self.driver.get_log("browser") if entry["level"] == "SEVERE"] == []
-        loaded = self.run("return performance.getEntriesByType('resource').map((one) => one.name.slice(0, 5))")
-        assert set(loaded) <= {"data:", "blob:"}
-        nameless = """return [...document.querySelectorAll('button, a, select, input, canvas, img, svg, table, audio')].filter((one) =>
-            one.getAttribute('aria-hidden') !== 'true' && !(one.textContent.trim() || one.getAttribute('aria-label') || one.labels?.length
-            || one.tagName === 'AUDIO' || one.getAttribute('alt') === '')).map((one) => one.outerHTML.slice(0, 80))"""
-        assert self.run(nameless) == []
-
-
-@pytest.fixture
-def report(tool, program, driver, tmp_path):
-    """The page of a capture, and the program's listings of it: link (or track, where the program has it) and
-    content."""
-
-    def show(capture, status=0, *words):
-        (tmp_path / "a.tmc").write_bytes(capture)
-        page = tmp_path / "a.html"
-        tool("report", tmp_path / "a.tmc", "-o", page, *words, status=status)
-        shown = Page(driver, page)
-        shown.check()
-        return shown
-
-    return show
 
 
 def has_track():

@@ -10,6 +10,7 @@ from vabgrot.formats.audio import BLOCK
 from vabgrot.formats.characters import TEN
 from vabgrot.formats.faults import LANED, OF_PACKET, UNCOUNTED
 from vabgrot.link import Frame, Frames, Thing
+from vabgrot.report.fields import Fields
 from vabgrot.video import images
 from vabgrot.video.colours import Signal
 from vabgrot.video.signals import Signals
@@ -186,6 +187,7 @@ class Findings(Generic[Shown]):
     def __init__(self, show: Show[Shown], is_dvi: bool | None = None) -> None:
         self.show, self.frames_of, self.text, self.sound = show, Frames(is_dvi), Text(), Sound()
         self.meter, self.signals = Meter(), Signals()
+        self.fields = Fields()
         self.colour_notes: dict[str, None] = {}  # what is assumed of whole frames, once each
         self.periods = Periods(kind=[], at=[], columns=[], line=[], value=[])
         self.faults = Faults(kind=[], lane=[], at=[], epoch=[], column=[], line=[], more=[], frame=[], x=[], y=[], rgb=[])
@@ -309,6 +311,7 @@ class Findings(Generic[Shown]):
             self.is_certain &= thing.is_exact
             self.epochs.append(Epoch(self.columns, numbers[0]))
             self.sound.lose()
+            self.fields.end()
             self.cut, self.unknown = None, -1
         elif thing.columns or kind in UNCOUNTED:
             self.unknown = len(self.periods["at"])
@@ -349,6 +352,7 @@ class Findings(Generic[Shown]):
         ragged = sum(len(row) != len(frame.rows[0]) for row in frame.rows)
         other = frame.is_whole and packets.is_other_size(self.vic, signal.sent(frame.width), len(frame.rows))
         self.content_counts.update({"ragged": ragged * frame.is_whole, "vic": int(other)})
+        self.fields.take(number, frame, signal.pixels(frame.width))
         self.frames.append(self.show(frame, at, ragged, self.vic if other else None, signal))
 
     def signal(self, frame: Frame) -> Signal:
@@ -379,6 +383,7 @@ class Findings(Generic[Shown]):
         frame = self.frames_of.finish()
         if frame:
             self.end_frame(frame, self.columns)
+        self.fields.end()
         if is_whole and len(self.epochs) > 1:
             self.hide(bits)
 

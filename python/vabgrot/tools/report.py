@@ -19,7 +19,7 @@ from tqdm import tqdm
 from vabgrot import command, listing, packets, pcm, place, program
 from vabgrot.errors import Refused
 from vabgrot.formats.faults import BY_ROW, CONTENT, OF_SKEW
-from vabgrot.formats.modes import VICS
+from vabgrot.formats.modes import VICS, of_vic
 from vabgrot.infoframes import Row, mode_name
 from vabgrot.lanes import openings
 from vabgrot.judging.verdicts import total_of
@@ -29,7 +29,7 @@ from vabgrot.report import bursts, judged
 from vabgrot.report.album import Album
 from vabgrot.report.findings import Findings, Sound
 from vabgrot.video.colours import DEPTHS, Signal
-from vabgrot.video.matching import SIZES, Rate, change_note, timings
+from vabgrot.video.matching import SIZES, Rate, Timing, change_note, timings
 from vabgrot.video.timings import PARTS
 
 TEXT = """Writes a page that shows what a capture carried: the verdict, the video timing as `tools/timing` has it, each
@@ -370,6 +370,7 @@ def data_of(name: str, found: Found, album: Album, characters: list[str]) -> str
         "bursts": [burst._asdict() for burst in bursts.bursts_of(found.faults, found.periods)],
         "kinds": {fault.kind: (fault.row, fault.says) for fault in BY_ROW},
         "frames": found.frames,
+        "shown": found.fields.shown(),
         "thumbs": [small for _, small in sorted(album.numbers.values())],
         "packets": table,
         "packetNames": packets.NAMES,
@@ -388,7 +389,7 @@ def counts_of(found: Found, bits: list[int], size: int, slips: Slips | None) -> 
     counts = [
         ("faults", f"{sum(found.counts.values()):,}", "lines of the listing"),
         ("columns", f"{found.aligned_columns:,}", "" if found.is_certain else "about, since some could not be counted"),
-        ("frames", f"{whole:,}", f"and {parts} not whole" if parts else "whole"),
+        ("frames", f"{whole:,}", frames_in_words(found, parts)),
         ("rows", f"{found.rows:,}", "of pixels"),
         ("packets", f"{len(found.packets):,}", f"{hurt:,} damaged" if hurt else "none damaged"),
         ("samples", f"{found.sound.samples:,}", "of two channels"),
@@ -401,7 +402,22 @@ def counts_of(found: Found, bits: list[int], size: int, slips: Slips | None) -> 
     return counts
 
 
-def notes_of(found: Found, words: list[str], album: Album) -> list[str]:
+def frames_in_words(found: Found, parts: int) -> str:
+    """What the frames are, of which so many are not whole."""
+    woven = found.fields.woven
+    is_whole = f"and {parts} not whole" if parts else "whole"
+    return f"{is_whole}: {2 * woven:,} fields in {woven:,} pictures" if woven else is_whole
+
+
+def interlaced_by(found: Found, measured: list[Timing]) -> str:
+    """Who says that the video is interlaced; "" where none does."""
+    known = found.signals.avi and of_vic(found.signals.avi.vic)
+    if known and known.interlaced:
+        return f"The AVI InfoFrame says ({known.name})"
+    return "VSYNC says" if any(one.raster.interlaced for one in measured) else ""
+
+
+def notes_of(found: Found, words: list[str], album: Album, measured: list[Timing]) -> list[str]:
     """What is to be known of the page: what is not shown, or otherwise than it was."""
     notes = []
     if found.cut:
@@ -416,6 +432,7 @@ def notes_of(found: Found, words: list[str], album: Album) -> list[str]:
         notes.append(
             "So that the page stays small some pictures are not exact; where they are enlarged, damaged pixels are."
         )
+    notes.extend(found.fields.notes(interlaced_by(found, measured)))
     notes.extend(f"Of the pictures: {note}." for note in found.colour_notes)
     return notes
 
@@ -476,7 +493,7 @@ def page_of(path: Path, words: list[str], found: Found, album: Album, run: progr
         parts=PARTS,
         timings=measured[:SIZES],
         change=change_note(measured),
-        notes=notes_of(found, words, album) if found.columns else [],
+        notes=notes_of(found, words, album, measured) if found.columns else [],
         slips=slips,
         made=f"{place.named('tools/report')} {path.name}",
         style=Markup((PAGE / "report.css").read_text("utf-8")),
@@ -513,6 +530,7 @@ def plain_of(path: Path, words: list[str], found: Found, run: program.Run, bits:
             {"width": it["width"], "height": it["height"], "whole": it["whole"], "faults": it["faults"], "says": it["says"]}
             for it in found.frames
         ],
+        "pictures": [one["frames"] for one in found.fields.shown()],
         "faults": [
             {"kind": kind, "lane": lane, "column": at, "line": line, "numbers": more, "characters": words}
             for kind, lane, at, line, more, words in zip(

@@ -54,7 +54,8 @@ function columnText(at) {
 
 /* ---- the pictures ---- */
 
-const viewer = { frame: -1, x: 0, y: 0, image: null, pixels: null, loaded: new Map() };
+/* A picture is a frame, or two fields of one, woven: `fields` are their numbers among data.frames, of two the upper first. */
+const viewer = { picture: -1, x: 0, y: 0, isDrawn: false, pictures: [], pictureOf: [], sides: [], marks: [], places: [], changed: [], loaded: new Map() };
 
 async function bitmap(number) {
   if (!viewer.loaded.has(number)) {
@@ -66,66 +67,146 @@ async function bitmap(number) {
   return viewer.loaded.get(number);
 }
 
-function marksOf(number) {
-  return viewer.marks[number] || [];
+function isInterlaced() {
+  return data.shown.some((one) => one.frames.length > 1);
+}
+
+/* What is shown as one picture: as the frames were woven, or each frame and field by itself. */
+function startShown(isWoven) {
+  let whole = 0;
+  for (const { frames } of data.shown) if (frames.length > 1) [viewer.sides[frames[0]], viewer.sides[frames[1]]] = ["upper", "lower"];
+  const shown = isWoven ? data.shown : data.frames.map((_, number) => ({ frames: [number], isField: isInterlaced() }));
+  viewer.pictures = shown.map(({ frames, isField }) => {
+    const first = data.frames[frames[0]];
+    const number = isWoven ? whole : first.number;
+    whole += first.whole;
+    const name = !isField ? `Frame ${number}` : isWoven ? `Frame ${number}, one field` : `Field ${number}`;
+    return {
+      fields: frames, name: first.whole ? name : "Part of a frame", label: first.whole ? String(number) : "part",
+      width: first.width, height: first.height * frames.length, whole: first.whole,
+      isExact: frames.every((one) => data.frames[one].kind === "png"),
+    };
+  });
+  viewer.pictures.forEach((picture, number) => picture.fields.forEach((field) => { viewer.pictureOf[field] = number; }));
+  viewer.marks = viewer.pictures.map(() => []);
+  data.faults.kind.forEach((kind, mark) => {
+    const field = data.faults.frame[mark];
+    if (kind === "code" && field >= 0) viewer.marks[viewer.pictureOf[field]].push(mark);
+  });
+  const order = (one, other) => rowOf(one) - rowOf(other) || data.faults.x[one] - data.faults.x[other];
+  viewer.places = viewer.marks.flatMap((marks) => marks.filter((mark) => data.faults.x[mark] >= 0).sort(order));
+}
+
+/* The row of a mark in the picture that it is in: a field's rows are every second one of a woven frame. */
+function rowOf(mark) {
+  const { fields } = viewer.pictures[viewer.pictureOf[data.faults.frame[mark]]];
+  return data.faults.y[mark] * fields.length + fields.indexOf(data.faults.frame[mark]);
+}
+
+/* Which field of its frame one of data.frames is; "" where that is not known, or it is none. */
+function sideOf(frame) {
+  return viewer.sides[frame] || "";
 }
 
 function frameName(frame) {
-  return frame.whole ? `Frame ${frame.number}` : "Part of a frame";
+  const side = sideOf(frame);
+  return `${viewer.pictures[viewer.pictureOf[frame]].name}${side && `, ${side} field`}`;
 }
 
-function frameFaults(frame) {
-  return Object.entries(frame.faults).map(([kind, times]) => `${count(times)} ${kind}`).join(", ");
+function frameLabel(frame) {
+  const { label } = viewer.pictures[viewer.pictureOf[frame]];
+  return sideOf(frame) ? `${label} ${sideOf(frame)}` : label;
 }
 
-async function showFrame(number, x, y) {
-  if (number < 0 || number >= data.frames.length) return;
-  const frame = data.frames[number];
-  const image = await bitmap(frame.picture);
+function pictureFaults(picture) {
+  const counts = new Map();
+  for (const field of picture.fields) {
+    for (const [kind, times] of Object.entries(data.frames[field].faults)) counts.set(kind, (counts.get(kind) || 0) + times);
+  }
+  return [...counts].map(([kind, times]) => `${count(times)} ${kind}`).join(", ");
+}
+
+/* Draws a picture of such files: of two fields the rows of the upper one are rows 0, 2, 4 and so on. */
+function drawPicture(picture, images) {
   const canvas = by("picture");
-  viewer.frame = number;
-  viewer.image = image;
-  canvas.width = frame.width;
-  canvas.height = frame.height;
+  canvas.width = picture.width;
+  canvas.height = picture.height;
   const pen = canvas.getContext("2d", { willReadFrequently: true });
   pen.imageSmoothingEnabled = false;
-  pen.drawImage(image, 0, 0, frame.width, frame.height);
-  by("stage").classList.toggle("large", frame.width < 1000);
-  const faults = frameFaults(frame);
-  canvas.setAttribute("aria-label", `${frameName(frame)}, ${frame.width} by ${frame.height} pixels, ${faults || "no faults"}`);
+  const high = picture.height / images.length;
+  if (images.length === 1) {
+    pen.drawImage(images[0], 0, 0, picture.width, high);
+    return;
+  }
+  const woven = pen.createImageData(picture.width, picture.height);
+  const wide = 4 * picture.width;
+  images.forEach((image, side) => {
+    pen.drawImage(image, 0, 0, picture.width, high);
+    const field = pen.getImageData(0, 0, picture.width, high).data;
+    for (let row = 0; row < high; row++) woven.data.set(field.subarray(row * wide, (row + 1) * wide), (2 * row + side) * wide);
+  });
+  pen.putImageData(woven, 0, 0);
+}
+
+function sayPicture(picture) {
+  const faults = pictureFaults(picture);
+  by("picture").setAttribute("aria-label", `${picture.name}, ${picture.width} by ${picture.height} pixels, ${faults || "no faults"}`);
   by("frame-says").replaceChildren(
-    made("b", {}, frameName(frame)), ` ${frame.width} × ${frame.height}: `,
-    faults ? made("span", { className: "bad" }, faults) : "no faults", made("br"),
-    `${frame.says}, `, lineLink(frame.line),
+    made("b", {}, picture.name), ` ${picture.width} × ${picture.height}: `,
+    faults ? made("span", { className: "bad" }, faults) : "no faults",
   );
+  for (const field of picture.fields) {
+    const { says, line } = data.frames[field];
+    by("frame-says").append(made("br"), sideOf(field) && `${sideOf(field)} field `, `${says}, `, lineLink(line));
+  }
+}
+
+async function showPicture(number, x, y) {
+  if (number < 0 || number >= viewer.pictures.length) return;
+  const picture = viewer.pictures[number];
+  viewer.picture = number;
+  const images = await Promise.all(picture.fields.map((field) => bitmap(data.frames[field].picture)));
+  if (viewer.picture !== number) return;
+  drawPicture(picture, images);
+  viewer.isDrawn = true;
+  by("stage").classList.toggle("large", picture.width < 1000);
+  sayPicture(picture);
   by("frame-back").disabled = number === 0;
-  by("frame-on").disabled = number === data.frames.length - 1;
+  by("frame-on").disabled = number === viewer.pictures.length - 1;
   by("pixel-back").disabled = by("pixel-on").disabled = !viewer.places.length;
   for (const button of by("strip").querySelectorAll("button")) {
     if (Number(button.dataset.frame) === number) button.setAttribute("aria-current", "true");
     else button.removeAttribute("aria-current");
   }
   drawMarks();
-  const mark = marksOf(number).find((one) => data.faults.x[one] >= 0);
-  const place = x !== undefined ? [x, y] : mark !== undefined ? [data.faults.x[mark], data.faults.y[mark]] : [frame.width >> 1, frame.height >> 1];
+  const mark = viewer.marks[number].find((one) => data.faults.x[one] >= 0);
+  const place = x !== undefined ? [x, y] : mark !== undefined ? [data.faults.x[mark], rowOf(mark)] : [picture.width >> 1, picture.height >> 1];
   enlarge(...place);
+}
+
+/* Shows the picture of a mark, enlarged about it. */
+function showMark(mark) {
+  const number = viewer.pictureOf[data.faults.frame[mark]];
+  const [x, y] = [data.faults.x[mark], rowOf(mark)];
+  return number === viewer.picture ? enlarge(x, y) : showPicture(number, x, y);
 }
 
 function drawMarks() {
   const canvas = by("marks");
-  const frame = data.frames[viewer.frame];
+  const picture = viewer.pictures[viewer.picture];
   const box = by("picture").getBoundingClientRect();
   const dense = window.devicePixelRatio || 1;
   canvas.width = Math.round(box.width * dense);
   canvas.height = Math.round(box.height * dense);
   const pen = canvas.getContext("2d");
-  const scale = canvas.width / frame.width;
+  const scale = canvas.width / picture.width;
   if (!by("show-marks").checked) return;
+  const marks = viewer.marks[viewer.picture];
   const half = Math.max(4 * dense, scale * 0.5 + 2 * dense);
-  const strokes = marksOf(viewer.frame).length > 100 ? [["#ff9500", dense]] : [["#000", 3 * dense], ["#ff9500", 1.5 * dense]];
-  for (const mark of marksOf(viewer.frame)) {
-    const [x, y] = [data.faults.x[mark], data.faults.y[mark]];
-    const boxes = x >= 0 ? [[x, half]] : [[0, half], [frame.width - 1, half]];
+  const strokes = marks.length > 100 ? [["#ff9500", dense]] : [["#000", 3 * dense], ["#ff9500", 1.5 * dense]];
+  for (const mark of marks) {
+    const [x, y] = [data.faults.x[mark], rowOf(mark)];
+    const boxes = x >= 0 ? [[x, half]] : [[0, half], [picture.width - 1, half]];
     for (const [at] of boxes) {
       for (const [style, width] of strokes) {
         pen.strokeStyle = style;
@@ -137,9 +218,9 @@ function drawMarks() {
 }
 
 function enlarge(x, y) {
-  const frame = data.frames[viewer.frame];
-  viewer.x = clamp(Math.floor(x), 0, frame.width - 1);
-  viewer.y = clamp(Math.floor(y), 0, frame.height - 1);
+  const picture = viewer.pictures[viewer.picture];
+  viewer.x = clamp(Math.floor(x), 0, picture.width - 1);
+  viewer.y = clamp(Math.floor(y), 0, picture.height - 1);
   const loupe = by("loupe");
   const pen = loupe.getContext("2d");
   const [size, half] = [12, 10];
@@ -149,11 +230,11 @@ function enlarge(x, y) {
   const [left, top] = [viewer.x - half, viewer.y - half];
   pen.drawImage(by("picture"), left, top, 21, 21, 0, 0, loupe.width, loupe.height);
   let here = [];
-  for (const mark of marksOf(viewer.frame)) {
-    const [at, row] = [data.faults.x[mark], data.faults.y[mark]];
+  for (const mark of viewer.marks[viewer.picture]) {
+    const [at, row] = [data.faults.x[mark], rowOf(mark)];
     if (row === viewer.y && (at === viewer.x || at < 0)) here.push(mark);
     if (at < left || at > left + 20 || row < top || row > top + 20) continue;
-    if (frame.kind !== "png") {
+    if (!picture.isExact) {
       pen.fillStyle = `#${data.faults.rgb[mark]}`;
       pen.fillRect((at - left) * size, (row - top) * size, size, size);
     }
@@ -164,57 +245,68 @@ function enlarge(x, y) {
   pen.strokeStyle = "#fff";
   pen.lineWidth = 1;
   pen.strokeRect(half * size + 0.5, half * size + 0.5, size - 1, size - 1);
-  sayPixel(frame, here);
+  sayPixel(picture, here);
 }
 
-function sayPixel(frame, here) {
+function sayPixel(picture, here) {
   const exact = here.find((mark) => data.faults.rgb[mark]);
   const read = by("picture").getContext("2d").getImageData(viewer.x, viewer.y, 1, 1).data;
   const digits = exact !== undefined ? data.faults.rgb[exact] : [...read.slice(0, 3)].map((one) => one.toString(16).padStart(2, "0")).join("");
-  const about = exact === undefined && frame.kind !== "png" ? "about " : "";
+  const about = exact === undefined && !picture.isExact ? "about " : "";
   const swatch = made("span", { className: "swatch" });
   swatch.style.background = `#${digits}`;
-  const line = frame.lines[viewer.y];
-  by("pixel-says").replaceChildren(`Pixel ${viewer.x}, row ${viewer.y}: ${about}`, swatch, made("code", {}, digits), made("br"), "row in ", lineLink(line));
+  const [fields, sides] = [picture.fields, picture.fields.length];
+  const field = fields[viewer.y % sides];
+  const row = Math.floor(viewer.y / sides);
+  const where = sides > 1 ? `row ${row} of the ${sideOf(field)} field in ` : "row in ";
+  const line = data.frames[field].lines[row];
+  by("pixel-says").replaceChildren(`Pixel ${viewer.x}, row ${viewer.y}: ${about}`, swatch, made("code", {}, digits), made("br"), where, lineLink(line));
   for (const mark of here) {
-    const where = data.faults.x[mark] < 0 ? "somewhere in this row" : "here";
-    by("pixel-says").append(made("br"), made("span", { className: "bad" }, `${LANES[data.faults.lane[mark]]} damaged ${where}: `), lineLink(data.faults.line[mark]));
+    const place = data.faults.x[mark] < 0 ? "somewhere in this row" : "here";
+    by("pixel-says").append(made("br"), made("span", { className: "bad" }, `${LANES[data.faults.lane[mark]]} damaged ${place}: `), lineLink(data.faults.line[mark]));
   }
 }
 
 async function stepFault(step) {
-  const places = viewer.places;
   const isPast = (mark) => {
-    const [frame, y, x] = [data.faults.frame[mark], data.faults.y[mark], data.faults.x[mark]];
-    return frame - viewer.frame || y - viewer.y || x - viewer.x;
+    const [picture, y, x] = [viewer.pictureOf[data.faults.frame[mark]], rowOf(mark), data.faults.x[mark]];
+    return picture - viewer.picture || y - viewer.y || x - viewer.x;
   };
+  const places = viewer.places;
   const next = step > 0 ? places.find((mark) => isPast(mark) > 0) : places.findLast((mark) => isPast(mark) < 0);
   const mark = next ?? (step > 0 ? places[0] : places.at(-1));
-  if (mark === undefined) return;
-  const [frame, x, y] = [data.faults.frame[mark], data.faults.x[mark], data.faults.y[mark]];
-  if (frame !== viewer.frame) await showFrame(frame, x, y);
-  else enlarge(x, y);
+  if (mark !== undefined) await showMark(mark);
+}
+
+/* The strip of small pictures: of two fields the upper one's, as high as both. */
+function drawStrip() {
+  by("strip").replaceChildren(...viewer.pictures.map((picture, number) => {
+    const faults = pictureFaults(picture);
+    const image = made("img", { src: data.thumbs[data.frames[picture.fields[0]].picture], alt: "", loading: "lazy" });
+    if (picture.fields.length > 1) image.style.cssText = `object-fit: fill; width: min(100%, ${(5 * picture.width) / picture.height}rem); margin-inline: auto`;
+    const says = made("span", {}, picture.name, made("br"), faults ? made("em", {}, faults) : "no faults");
+    const button = made("button", { type: "button", onclick: () => showPicture(number) }, image, says);
+    button.dataset.frame = number;
+    button.classList.toggle("small", picture.width < 192);
+    return made("li", {}, button);
+  }));
+}
+
+/* Shows fields woven or apart, about the one that is in view. */
+async function switchFields() {
+  const field = viewer.pictures[viewer.picture].fields[0];
+  startShown(!by("show-fields").checked);
+  drawStrip();
+  drawTime();
+  for (const change of viewer.changed) change();
+  await showPicture(viewer.pictureOf[field]);
 }
 
 function startPictures() {
   if (!data.frames.length) return;
-  viewer.marks = {};
-  viewer.places = [];
-  data.faults.kind.forEach((kind, mark) => {
-    const frame = data.faults.frame[mark];
-    if (kind !== "code" || frame < 0) return;
-    (viewer.marks[frame] ??= []).push(mark);
-    if (data.faults.x[mark] >= 0) viewer.places.push(mark);
-  });
-  data.frames.forEach((frame, number) => {
-    const faults = frameFaults(frame);
-    const image = made("img", { src: data.thumbs[frame.picture], alt: "", loading: "lazy" });
-    const says = made("span", {}, frameName(frame), made("br"), faults ? made("em", {}, faults) : "no faults");
-    const button = made("button", { type: "button", onclick: () => showFrame(number) }, image, says);
-    button.dataset.frame = number;
-    button.classList.toggle("small", frame.width < 192);
-    by("strip").append(made("li", {}, button));
-  });
+  drawStrip();
+  by("fields-switch").hidden = !isInterlaced();
+  by("show-fields").onchange = switchFields;
   const canvas = by("picture");
   const point = (event) => {
     const box = canvas.getBoundingClientRect();
@@ -229,15 +321,16 @@ function startPictures() {
     else return;
     event.preventDefault();
   });
-  by("frame-back").onclick = () => showFrame(viewer.frame - 1);
-  by("frame-on").onclick = () => showFrame(viewer.frame + 1);
+  by("frame-back").onclick = () => showPicture(viewer.picture - 1);
+  by("frame-on").onclick = () => showPicture(viewer.picture + 1);
   by("pixel-back").onclick = () => stepFault(-1);
   by("pixel-on").onclick = () => stepFault(1);
   by("show-marks").onchange = drawMarks;
-  new ResizeObserver(() => viewer.image && drawMarks()).observe(canvas);
-  const damaged = data.frames.findIndex((frame, number) => frame.whole && marksOf(number).length);
-  const first = damaged >= 0 ? damaged : data.frames.findIndex((frame) => frame.whole);
-  return showFrame(Math.max(0, first));
+  new ResizeObserver(() => viewer.isDrawn && drawMarks()).observe(canvas);
+  const damaged = viewer.pictures.findIndex((picture, number) => picture.whole && viewer.marks[number].length);
+  const sides = Math.max(...viewer.pictures.map((picture) => picture.fields.length));
+  const first = damaged >= 0 ? damaged : viewer.pictures.findIndex((picture) => picture.whole && picture.fields.length === sides);
+  return showPicture(Math.max(0, first));
 }
 
 /* ---- the timeline ---- */
@@ -313,7 +406,7 @@ function drawScale(pen, across, width, height) {
 }
 
 function drawFrames(pen, across, width) {
-  data.frames.forEach((frame) => {
+  data.frames.forEach((frame, number) => {
     const [left, right] = [Math.max(LABEL, across(frame.from)), Math.min(width, across(frame.to))];
     if (right < LABEL || left > width) return;
     pen.fillStyle = frame.whole ? colour("video") : colour("control");
@@ -321,7 +414,8 @@ function drawFrames(pen, across, width) {
     pen.fillRect(left, HEAD + 4, Math.max(1, right - left - 1), ROW - 8);
     pen.globalAlpha = 1;
     pen.fillStyle = colour("ink");
-    if (right - left > 24) pen.fillText(frame.whole ? String(frame.number) : "part", left + 4, HEAD + 18);
+    const label = right - left > 24 ? frameLabel(number) : "";
+    if (label.length < 6 || right - left > 8 + 7 * label.length) pen.fillText(label, left + 4, HEAD + 18);
   });
 }
 
@@ -412,7 +506,7 @@ function sayTime() {
   const place = placeOf(data.faultOrder.at, time.cursor);
   const at = [];
   for (let one = place; one >= 0 && data.faultOrder.at[one] === time.cursor; one--) at.push(data.faultOrder.fault[one]);
-  const parts = [columnText(time.cursor), text, frame >= 0 ? frameName(data.frames[frame]).toLowerCase() : ""].filter(Boolean);
+  const parts = [columnText(time.cursor), text, frame >= 0 ? frameName(frame).toLowerCase() : ""].filter(Boolean);
   const faults = at.reverse().map((fault) => faultText(fault));
   by("time").setAttribute("aria-valuenow", time.cursor);
   by("time").setAttribute("aria-valuetext", [...parts, ...faults].join(", "));
@@ -588,6 +682,7 @@ function startSound() {
 async function start() {
   data = await unpacked(by("data").textContent);
   if (data.columns) {
+    startShown(true);
     startTime();
     startRules();
     startFaults();

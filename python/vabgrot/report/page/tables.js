@@ -90,31 +90,31 @@ function faultText(fault) {
 }
 
 function placeText(fault) {
-  const [frame, x, y] = [data.faults.frame[fault], data.faults.x[fault], data.faults.y[fault]];
+  const [frame, x] = [data.faults.frame[fault], data.faults.x[fault]];
   if (data.faults.kind[fault] !== "code" || frame < 0) return "";
-  const name = frameName(data.frames[frame]);
-  return x < 0 ? `${name}, row ${y}` : `${name}, row ${y}, pixel ${x}`;
+  const name = viewer.pictures[viewer.pictureOf[frame]].name;
+  return x < 0 ? `${name}, row ${rowOf(fault)}` : `${name}, row ${rowOf(fault)}, pixel ${x}`;
 }
 
-const FAULT_HEADS = ["line", "fault", "lane", "alignment", "column", "text", "block", "bit", "characters", "place", "frame", "row", "pixel"];
+const FAULT_HEADS = ["line", "fault", "lane", "alignment", "column", "text", "block", "bit", "characters", "place", "frame", "row", "pixel", "field"];
 
 function faultFields(fault) {
   const [kind, lane, more] = [data.faults.kind[fault], data.faults.lane[fault], data.faults.more[fault]];
-  const [frame, x, y] = [data.faults.frame[fault], data.faults.x[fault], data.faults.y[fault]];
+  const [frame, x] = [data.faults.frame[fault], data.faults.x[fault]];
   const isPixel = kind === "code" && frame >= 0;
+  const picture = isPixel && viewer.pictures[viewer.pictureOf[frame]];
   const hasBlock = kind === "mended" || kind === "lost";
   return [
     data.faults.line[fault], kind, lane < 0 ? "" : lane, data.alignments[data.faults.epoch[fault]], data.faults.column[fault], faultText(fault),
     hasBlock ? data.blocks[more[0]] : "", kind === "mended" ? more[1] : "", kind === "symbols" ? more[0] : "", kind === "slip" ? more[0] : "",
-    isPixel && data.frames[frame].whole ? data.frames[frame].number : "", isPixel ? y : "", isPixel && x >= 0 ? x : "",
+    isPixel && picture.whole ? picture.label : "", isPixel ? rowOf(fault) : "", isPixel && x >= 0 ? x : "", isPixel ? sideOf(frame) : "",
   ];
 }
 
 function faultPlace(fault) {
-  const [frame, x, y] = [data.faults.frame[fault], data.faults.x[fault], data.faults.y[fault]];
   const text = placeText(fault);
-  if (!text || x < 0) return text;
-  const show = async () => { await showFrame(frame, x, y); by("pictures").scrollIntoView(); by("picture").focus({ preventScroll: true }); };
+  if (!text || data.faults.x[fault] < 0) return text;
+  const show = async () => { await showMark(fault); by("pictures").scrollIntoView(); by("picture").focus({ preventScroll: true }); };
   return made("button", { type: "button", className: "count", onclick: show }, text);
 }
 
@@ -202,6 +202,7 @@ function startFaults() {
     };
   }
   fill();
+  viewer.changed.push(() => paged.go(paged.page));
 }
 
 /* The header and the four bodies of a packet, hexadecimal digits, from its line of the listing. */
