@@ -206,12 +206,12 @@ class Heard:
         return np.where(found >> 23, found - (1 << 24), found).astype(np.int32)
 
     def names(self, allocation: int | None) -> tuple[str, ...]:
-        """The speakers of the channels, by an allocation or else by the InfoFrame's; and where none is told by the usual one for so
-        many channels."""
+        """The speakers of the channels, by an allocation or else by the InfoFrame's; and where none is told by the one that uses as
+        many."""
         count = len(self.sides)
         chosen = self.allocation if allocation is None else allocation
         if chosen is None:
-            chosen = speakers.USUAL[count]
+            chosen = speakers.SENT[count]
         names = speakers.speakers(chosen)
         if not names:
             raise Refused(f"the channel allocation {chosen} of the audio InfoFrame is reserved: give --allocation CA")

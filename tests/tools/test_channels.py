@@ -135,6 +135,21 @@ def test_by_pairs(tool, program, image, tmp_path):
     tool("sound", tmp_path / "d.wav", "--pairs", *["x"] * 5, status=2)
 
 
+def test_two_pairs(tool, program, image, tmp_path):
+    """Channels 1 to 4, which an audio InfoFrame would call FL FR LFE FC (CA 03), are all written where none is there."""
+    frames = noise(4, 400, 16)
+    (tmp_path / "a.wav").write_bytes(wav(frames, 16, 0))
+    words = [image, "--mode", MODE, *CLOCK, "--sound", tmp_path / "a.wav", "--allocation", 3]
+    capture = program("make", "content", source=tool("content", *words).stdout)
+    for pair in range(2):
+        (tmp_path / f"{pair}").write_bytes(
+            program("read", "biphase", source=program("recover", "biphase", pair, source=capture))
+        )
+    came = tool("sound", tmp_path / "b.wav", "--pairs", tmp_path / "0", tmp_path / "1")
+    assert read_wav(tmp_path / "b.wav") == (48000, 16, 0xF, frames)
+    assert b"no audio InfoFrame tells the speakers: allocation 3 is taken" in came.stderr
+
+
 def test_a_lost_packet(tool, program, image, tmp_path):
     """Two bits of a packet's body are wrong: its sample is left out of all channels, and counted."""
     frames = noise(8, 40, 16)

@@ -120,7 +120,7 @@ def test_a_clean_capture(report, tool, program, sent, tmp_path):
         and ["channel", "1, left", "2, right"] in status
         and ["word", "16 bits", "16 bits"] in status
     )
-    assert "supposed" in page.text("sound-says")  # a mode of one's own has no known pixel clock
+    assert "at 48,000 Hz, by the channel status" in page.text("sound-says")  # a mode of one's own has no known pixel clock
     WebDriverWait(page.driver, HANGS).until(lambda _: page.run("return document.getElementById('audio').readyState") > 0)
     assert page.run("return document.getElementById('audio').duration") == pytest.approx(
         content.count(b"\ns ") / 48000, abs=1e-4

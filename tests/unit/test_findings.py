@@ -65,7 +65,7 @@ def test_the_verdicts_of_a_packet(found):
 def test_samples_and_faults_of_contents(found):
     """122457h, low byte first, has nine ones, and its parity bit is 0; the bytes of the InfoFrame sum to 92h."""
     read = found(ISLAND.format(SAMPLES.format("57241200000000") + "\n" + PACKET.format("01000000000000")) + "c 00 12")
-    assert read.sound.left == bytes.fromhex("122457") and read.sound.right == bytes(3)
+    assert read.sound.read().values.tolist() == [[0x122457, 0]]
     assert read.content_counts == {"parity": 1, "checksum": 1}
 
 

@@ -107,6 +107,7 @@ USUAL = {
     7: 0x0F,
     8: 0x13,
 }  # the allocation of a sound of so many channels
+SENT = {2: 0x00, 4: 0x03, 6: 0x0B, 8: 0x13}  # the least one that uses all of the first so many channels of a link
 
 
 def speakers(allocation: int) -> tuple[str, ...]:

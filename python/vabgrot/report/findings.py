@@ -6,11 +6,11 @@ from dataclasses import dataclass, field
 from typing import Generic, Protocol, TypedDict, TypeVar
 
 from vabgrot import packets
-from vabgrot.formats.audio import BLOCK
 from vabgrot.formats.characters import TEN
 from vabgrot.formats.faults import LANED, OF_PACKET, UNCOUNTED
 from vabgrot.link import Frame, Frames, Thing
 from vabgrot.report.fields import Fields
+from vabgrot.report.sound import Sound
 from vabgrot.video import images
 from vabgrot.video.colours import Signal
 from vabgrot.video.signals import Signals
@@ -48,57 +48,6 @@ class Text:
     def lines(self) -> list[str]:
         """The lines, whole or short."""
         return self.full if self.is_whole else self.short
-
-
-class Blocks:
-    """Finds the channel status in the C bits of samples: 192 of them, from one that starts a block to the next."""
-
-    def __init__(self) -> None:
-        self.bits: tuple[list[int], list[int]] = ([], [])
-        self.found: Counter[tuple[tuple[int, ...], tuple[int, ...]]] = Counter()  # the bits of both channels
-
-    def take(self, sample: packets.Sample) -> None:
-        """The next sample."""
-        if sample.start:
-            self.bits = ([], [])
-        elif not self.bits[0]:
-            return
-        for bits, flags in zip(self.bits, (sample.left_flags, sample.right_flags)):
-            bits.append(flags >> 2 & 1)
-        if len(self.bits[0]) == BLOCK:
-            left, right = self.bits
-            self.found[tuple(left), tuple(right)] += 1
-            self.bits = ([], [])
-
-
-class Sound:
-    """The samples, the places of lost packets among them, and the first clock packet."""
-
-    def __init__(self) -> None:
-        self.left, self.right = bytearray(), bytearray()  # three bytes a sample, high byte first
-        self.gaps: list[int] = []
-        self.clock: tuple[int, int] | None = None  # N and CTS
-        self.vic = 0  # of the first AVI InfoFrame that names one
-        self.blocks = Blocks()
-        self.is_wide = False  # of more than two channels, of which the first two are kept
-
-    @property
-    def samples(self) -> int:
-        """How many samples of two channels there are."""
-        return len(self.left) // 3
-
-    def take(self, content: packets.Content) -> None:
-        """The samples of the next packet, if it has some."""
-        self.is_wide |= bool(content.pairs)
-        for sample in content.samples or content.pairs[:1]:
-            self.left += sample.left[::-1]
-            self.right += sample.right[::-1]
-            self.blocks.take(sample)
-
-    def lose(self) -> None:
-        """Samples may be missing before the next one."""
-        self.gaps.append(self.samples)
-        self.blocks.bits = ([], [])
 
 
 @dataclass
@@ -292,7 +241,9 @@ class Findings(Generic[Shown]):
         elif packet.kind == 0x82 and packet.header[1] == 2 and not content.faults:
             self.vic = packet.bytes[4] & 127
             self.sound.vic = self.sound.vic or self.vic
-        self.sound.take(content)
+        elif packet.kind == 0x84 and not content.faults:
+            self.sound.infoframe(packet)
+        self.sound.take(packet)
 
     def fault(self, thing: Thing) -> None:
         """A fault or a slip, with all that follows from it."""

@@ -16,10 +16,10 @@ import jinja2
 from markupsafe import Markup
 from tqdm import tqdm
 
-from vabgrot import command, listing, packets, pcm, place, program
+from vabgrot import command, listing, packets, place, program
 from vabgrot.errors import Refused
 from vabgrot.formats.faults import BY_ROW, CONTENT, OF_SKEW
-from vabgrot.formats.modes import VICS, of_vic
+from vabgrot.formats.modes import of_vic
 from vabgrot.infoframes import Row, mode_name
 from vabgrot.lanes import openings
 from vabgrot.judging.verdicts import total_of
@@ -27,7 +27,8 @@ from vabgrot.link import Frame
 from vabgrot.replacing import replacing
 from vabgrot.report import bursts, judged
 from vabgrot.report.album import Album
-from vabgrot.report.findings import Findings, Sound
+from vabgrot.report.findings import Findings
+from vabgrot.report.sound import Told
 from vabgrot.video.colours import DEPTHS, Signal
 from vabgrot.video.matching import SIZES, Rate, Timing, change_note, timings
 from vabgrot.video.timings import PARTS
@@ -38,7 +39,7 @@ row) and the listing. The verdict is clean, faulty, or that the link is clean an
 parity is wrong, or a frame has another size than its InfoFrame says). It is one file that needs no network. Bit slips
 are followed where the program has `recover track`."""
 PAGE = Path(bursts.__file__).resolve().parent / "page"
-SCRIPTS = ("tables.js", "report.js")
+SCRIPTS = ("tables.js", "sound.js", "report.js")
 PLACES = ("on lane 0 (blue)", "on lane 1 (green)", "on lane 2 (red)", "of no lane")
 BLOCKS = ("body 0", "body 1", "body 2", "body 3", "header")
 ENDS = {"vsync": "whole", "slip": "broken off by a slip", "end": "broken off by the end of the capture"}
@@ -61,7 +62,6 @@ not aligned."""
 LATER = """A lane likely lost or repeated whole characters between the places {last} and {first} of lane 0, which “recover track”
 cannot see: openings fit at the skew {found} before, and at {later} behind."""
 CUT = "“tools/lanes cut {name} --from {cut} > cut.tmc” begins where they fit; make the report of that."
-MOST_PEAKS, WAVE = 1200, 1200
 
 
 def header_of(path: Path) -> list[int]:
@@ -282,70 +282,12 @@ def infos_of(found: Found) -> list[Info]:
     return sorted(infos.values(), key=order)[:24]
 
 
-def rate_of(sound: Sound, clock: int | None, depth: int) -> tuple[int, bool]:
-    """The sampling rate by the clock packet, and whether it is not only supposed. The clock is that of columns, which come the more
-    often the more bits a pixel has."""
-    clock = clock or (VICS[sound.vic].clock * depth // 24 if sound.vic in VICS else None)
-    if not sound.clock or not all(sound.clock) or not clock:
-        return 48000, False
-    n, cycles = sound.clock
-    return pcm.rate_of(n, cycles, clock), True
+def told_of(found: Found, clock: int | None) -> Told | None:
+    """The sound with what is told of it; None where no samples came."""
+    return Told.of(found.sound, clock, DEPTHS.get(found.signals.depth or 4, 24)) if found.sound.samples else None
 
 
-def paths_of(data: bytearray, middle: int, size: int) -> str:
-    """The outline of one side's samples, as an SVG path: the greatest of each step, and back the least."""
-    steps = min(MOST_PEAKS, size)
-    above, below = [], []
-    for step in range(steps):
-        first, behind = step * size // steps, (step + 1) * size // steps
-        places = range(3 * first, 3 * behind, 3 * max(1, (behind - first) // 256))
-        values = [int.from_bytes(data[at : at + 2], "big", signed=True) for at in places]
-        x = (step + 0.5) * WAVE / steps
-        above.append(f"{x:.1f} {middle - max(values) * 46 / 32768:.1f}")
-        below.append(f"{x:.1f} {middle - min(values) * 46 / 32768:.1f}")
-    return f"M{'L'.join(above + below[::-1])}Z"
-
-
-def sound_of(found: Found, clock: int | None) -> dict[str, object] | None:
-    """What the page has of the sound."""
-    sound = found.sound
-    if not sound.samples:
-        return None
-    rate, is_told = rate_of(sound, clock, DEPTHS.get(found.signals.depth or 4, 24))
-    bits = 24 if any(sound.left[2::3]) or any(sound.right[2::3]) else 16
-    data = pcm.wav(pcm.Sound(rate, bits, bytes(sound.left), bytes(sound.right)))
-    seconds = sound.samples / rate
-    told = (
-        "by the clock packets"
-        if is_told
-        else "which is supposed, since no clock packet with a known pixel clock was received"
-    )
-    says = f"{sound.samples:,} samples of {bits} bits at {rate:,} Hz, {told}: {seconds:.3f} s."
-    if sound.is_wide:
-        says += " These are the first two of more channels; “tools/sound” writes all."
-    if sound.gaps:
-        says += f" {len(sound.gaps)} packets of samples were lost."
-    status = [
-        {
-            "times": times,
-            "rows": [(name, one, other) for (name, one), (_, other) in zip(*map(packets.channel_status, both))],
-        }
-        for both, times in sound.blocks.found.most_common(4)
-    ]
-    return {
-        "says": says,
-        "label": f"Waveform of {sound.samples} samples, left and right",
-        "left": paths_of(sound.left, 50, sound.samples),
-        "right": paths_of(sound.right, 150, sound.samples),
-        "gaps": [f"{gap * WAVE / sound.samples:.1f}" for gap in sound.gaps[:500]],
-        "width": WAVE,
-        "seconds": f"{seconds:.3f} s",
-        "status": status,
-        "file": b64encode(data).decode(),
-    }
-
-
-def data_of(name: str, found: Found, album: Album, characters: list[str]) -> str:
+def data_of(name: str, found: Found, album: Album, characters: list[str], sound: dict[str, Any] | None) -> str:
     """What the page's script reads: lists by column, packed; `characters` are in words those at each fault."""
     words: dict[str, int] = {}
     table = {
@@ -369,6 +311,7 @@ def data_of(name: str, found: Found, album: Album, characters: list[str]) -> str
         "faults": found.faults | {"characters": characters},
         "bursts": [burst._asdict() for burst in bursts.bursts_of(found.faults, found.periods)],
         "kinds": {fault.kind: (fault.row, fault.says) for fault in BY_ROW},
+        "limits": [kind for kind, fault in CONTENT.items() if fault.is_limit],
         "frames": found.frames,
         "shown": found.fields.shown(),
         "thumbs": [small for _, small in sorted(album.numbers.values())],
@@ -377,12 +320,13 @@ def data_of(name: str, found: Found, album: Album, characters: list[str]) -> str
         "words": list(words),
         "blocks": BLOCKS,
         "lines": found.text.lines,
+        "sound": {"choices": sound["choices"], "order": sound["order"]} if sound else None,
     }
     return b64encode(zlib.compress(json.dumps(data, separators=(",", ":")).encode(), 6)).decode()
 
 
-def counts_of(found: Found, bits: list[int], size: int, slips: Slips | None) -> list[tuple[str, str, str]]:
-    """The numbers at the top."""
+def counts_of(found: Found, bits: list[int], size: int, slips: Slips | None, channels: int) -> list[tuple[str, str, str]]:
+    """The numbers at the top; the sound has so many channels."""
     whole = sum(frame["whole"] for frame in found.frames)
     parts = len(found.frames) - whole
     hurt = sum(one.symbols > 0 or one.verdicts.count("clean") < 5 for one in found.packets)
@@ -392,7 +336,7 @@ def counts_of(found: Found, bits: list[int], size: int, slips: Slips | None) -> 
         ("frames", f"{whole:,}", frames_in_words(found, parts)),
         ("rows", f"{found.rows:,}", "of pixels"),
         ("packets", f"{len(found.packets):,}", f"{hurt:,} damaged" if hurt else "none damaged"),
-        ("samples", f"{found.sound.samples:,}", "of two channels"),
+        ("samples", f"{found.sound.samples:,}", f"of {channels} channels" if channels > 2 else "of two channels"),
         ("capture", f"{size / 1e6:,.1f} MB" if size >= 1e6 else f"{size:,} bytes", bits_of(bits)),
     ]
     if slips:
@@ -433,6 +377,8 @@ def notes_of(found: Found, words: list[str], album: Album, measured: list[Timing
             "So that the page stays small some pictures are not exact; where they are enlarged, damaged pixels are."
         )
     notes.extend(found.fields.notes(interlaced_by(found, measured)))
+    if not found.sound.samples:
+        notes.extend(f"{count:,} packets of {name} came, which are not played." for name, count in sorted(found.sound.others.items()))
     notes.extend(f"Of the pictures: {note}." for note in found.colour_notes)
     return notes
 
@@ -482,14 +428,15 @@ def page_of(path: Path, words: list[str], found: Found, album: Album, run: progr
     template = jinja2.Environment(loader=jinja2.FileSystemLoader(PAGE), autoescape=True).get_template("report.html")
     slips, measured = slips_of(found, bits), timings(found.meter, Rate(clock))
     record = judged.record_of(found)
-    characters = judged.Characters(path, found, record)
+    characters, told = judged.Characters(path, found, record), told_of(found, clock)
+    sound = told.page() if told else None
     rules = judged.rules_of(record, clock, measured) if words[1] != "dvi" and found.columns else []
     advice = advice_of(path, words, found, run, characters)
     return template.render(
         name=path.name,
         link="DVI" if words[1] == "dvi" else "HDMI",
         verdict=verdict_of(found, run, slips),
-        counts=counts_of(found, bits, path.stat().st_size, slips),
+        counts=counts_of(found, bits, path.stat().st_size, slips, len(sound["channels"]) if sound else 0),
         parts=PARTS,
         timings=measured[:SIZES],
         change=change_note(measured),
@@ -498,11 +445,11 @@ def page_of(path: Path, words: list[str], found: Found, album: Album, run: progr
         made=f"{place.named('tools/report')} {path.name}",
         style=Markup((PAGE / "report.css").read_text("utf-8")),
         script=Markup("".join((PAGE / name).read_text("utf-8") for name in SCRIPTS)),
-        data=data_of(path.stem, found, album, characters.at_faults()),
+        data=data_of(path.stem, found, album, characters.at_faults(), sound),
         pictures=album.pictures,
         rules=rules,
         rules_say=total_of(rules),
-        **sections_of(found, words, advice, sound_of(found, clock), bool(rules)),
+        **sections_of(found, words, advice, sound, bool(rules)),
     )
 
 
@@ -512,7 +459,7 @@ def plain_of(path: Path, words: list[str], found: Found, run: program.Run, bits:
     verdict = verdict_of(found, run, slips)
     rules = judged.rules_of(record, clock, measured) if words[1] != "dvi" and found.columns else []
     characters = judged.Characters(path, found, record)
-    faults, says = found.faults, characters.at_faults()
+    faults, says, told = found.faults, characters.at_faults(), told_of(found, clock)
     return {
         "capture": str(path),
         "faulty": bool(run.status or contents_in_words(found, False)),
@@ -521,6 +468,7 @@ def plain_of(path: Path, words: list[str], found: Found, run: program.Run, bits:
         "columns": found.aligned_columns,
         "rows": found.rows,
         "samples": found.sound.samples,
+        "sound": told.plain() if told else None,
         "bits": bits,
         "slips": str(slips) if slips else None,
         "advice": [place.named(line) for line in advice_of(path, words, found, run, characters)],
@@ -543,7 +491,7 @@ def plain_of(path: Path, words: list[str], found: Found, run: program.Run, bits:
 
 
 def sections_of(
-    found: Found, words: list[str], advice: tuple[str, ...], sound: dict[str, object] | None, has_rules: bool
+    found: Found, words: list[str], advice: tuple[str, ...], sound: dict[str, Any] | None, has_rules: bool
 ) -> dict[str, Any]:
     """What the template has of the sections, and their names and titles."""
     sections = [("timing", "Timing")] * bool(found.rows)

@@ -660,25 +660,6 @@ function startListing() {
   follow();
 }
 
-/* ---- the sound ---- */
-
-function startSound() {
-  const audio = by("audio");
-  if (!audio) return;
-  const wave = by("wave");
-  const width = wave.viewBox.baseVal.width;
-  const show = () => {
-    const x = audio.duration ? (audio.currentTime / audio.duration) * width : 0;
-    by("playing").setAttribute("d", `M${x} 0V200`);
-    if (!audio.paused) requestAnimationFrame(show);
-  };
-  for (const event of ["play", "seeked", "timeupdate"]) audio.addEventListener(event, show);
-  wave.addEventListener("click", (event) => {
-    const box = wave.getBoundingClientRect();
-    audio.currentTime = ((event.clientX - box.left) / box.width) * (audio.duration || 0);
-  });
-}
-
 async function start() {
   data = await unpacked(by("data").textContent);
   if (data.columns) {

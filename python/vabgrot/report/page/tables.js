@@ -241,7 +241,7 @@ function startPackets() {
   const paged = new Paged(place, "packets", 20, (numbers) => table("The packets in the order of the listing", ["packet", "column", "what it says", "header and bodies", "blocks", "listing"], numbers.map((number) => {
     const to = () => { pointTo(packets.at[number]); by("timeline").scrollIntoView(); by("time").focus({ preventScroll: true }); };
     const words = made("td", {}, data.words[packets.words[number]]);
-    for (const fault of packets.faults[number]) words.append(made("div", { className: "bad" }, fault));
+    for (const fault of packets.faults[number]) words.append(made("div", { className: data.limits.includes(fault.split(" ")[0]) ? "" : "bad" }, fault));
     return [packets.names[number], made("button", { type: "button", className: "count", onclick: to }, columnText(packets.at[number])), words, bytes(number), verdict(number), lineLink(packets.line[number])];
   })));
   const isHurt = (number) => packets.symbols[number] || packets.faults[number].length || packets.verdicts[number].some((one) => one !== "clean");
