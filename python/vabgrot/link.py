@@ -134,7 +134,7 @@ class Columns:
             columns = 0 if self.edge is None else self.column - self.edge
             if columns and (not self.period or columns < self.period):
                 self.period, self.periods = columns, 0
-            self.periods += columns == self.period
+            self.periods += 0 < columns == self.period
         elif self.periods > 1 and self.edge is not None:
             lines = -(-(self.column - self.edge) // self.period)
             self.anchor(self.edge + lines * self.period)

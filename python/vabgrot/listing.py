@@ -7,6 +7,8 @@ from vabgrot.errors import Refused
 
 Line = tuple[int, str, list[str]]  # its number from 1, its name, its fields
 MOST_COLUMNS = 20_000_000
+FAULT = b"\n! "
+ROW = b"v "  # how a row of a link listing begins; it is long, so that it is copied as seldom as can be
 CONTENT = frozenset("vic mode row frame avi audio spd info acr gcp s packet ! cut".split())
 SOUND = CONTENT | {"block"}
 LINK = frozenset("c v i p e ! cut".split())
@@ -23,8 +25,9 @@ def lines(source: IO[bytes], names: frozenset[str] = CONTENT, is_whole: bool = T
     for number, line in enumerate(source, 1):
         if not line.endswith(b"\n"):
             raise Refused(f"line {number}: the listing breaks off in it")
-        if raw_rows and line.startswith(b"v "):
-            yield number, "v", [line[2:-1].decode("latin-1")]
+        if line.startswith(ROW) and "v" in names:
+            text = str(memoryview(line)[len(ROW) : -1], "latin-1" if raw_rows else "ascii", "replace")
+            yield number, "v", [text] if raw_rows or " " not in text else text.split(" ")
             continue
         text = line[:-1].decode("ascii", "replace")
         name, *fields = text.split(" ")
@@ -40,6 +43,20 @@ def lines(source: IO[bytes], names: frozenset[str] = CONTENT, is_whole: bool = T
     if number == 0:
         raise Refused("the input is empty")
     raise Refused(f"the {KINDS[names]} breaks off after {number} lines, without its line `end`")
+
+
+def fault_lines(source: IO[bytes], size: int = 1 << 20) -> Iterator[bytes]:
+    """The fault lines of a listing that is none of faults mostly: blocks of so many bytes are searched for them."""
+    rest = b"\n"
+    while block := source.read(size):
+        text = rest + block
+        end = text.rfind(b"\n")
+        at = text.find(FAULT, 0, end)
+        while at >= 0:
+            behind = text.find(b"\n", at + 1)
+            yield text[at + 1 : behind]
+            at = text.find(FAULT, behind, end)
+        rest = text[end:]
 
 
 def of_kind(lines: Iterable[Line], names: frozenset[str]) -> Iterator[Line]:

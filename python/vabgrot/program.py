@@ -1,5 +1,7 @@
 """The program for the tools: where it is, and how it is run over a capture."""
 
+import contextlib
+import fcntl
 import functools
 import itertools
 import os
@@ -14,6 +16,7 @@ from vabgrot.errors import Refused
 
 Words = tuple[str, ...]
 
+PIPE = 1 << 20  # bytes of a pipe: the program waits less often for its reader
 OTHER_WORDS, NO_CAPTURE, NO_ALIGNMENT = 2, 3, 7
 NO_CAPTURES = {
     "magic": place.named("no capture, which begins with TMC; `tools/lanes pack` makes one of the raw bits of three lanes"),
@@ -77,6 +80,8 @@ class Run:
                 [*on, find(), *words], stdin=source, stdout=subprocess.PIPE, stderr=subprocess.PIPE, bufsize=1 << 20
             )
         assert self.process.stdout and self.process.stderr
+        with contextlib.suppress(OSError):  # where the system lets no pipe be so large
+            fcntl.fcntl(self.process.stdout, fcntl.F_SETPIPE_SZ, PIPE)
         self.output: IO[bytes] = self.process.stdout
         self.errors: IO[bytes] = self.process.stderr
         self.status: int | None = None

@@ -133,3 +133,9 @@ def test_faults_of_a_frame_and_their_pixels():
 def test_a_slip_ends_a_frame():
     (found,) = frames("c 00 12\n" + ROW.format("111111") + "! slip 0 900\nc 00 12")
     assert (found.is_whole, found.ended) == (False, "slip")
+
+
+def test_a_rise_of_hsync_twice_at_one_column():
+    """No control columns between two rises say no length of a line, by which columns behind noise could be counted."""
+    found = things("c 00 12\nc 01 0\nc 00 0\nc 01 0\n! noise 12\nc 00 4\nc 01 4")
+    assert [(it.column, it.is_exact) for it in found[-2:]] == [(13, False), (17, False)]

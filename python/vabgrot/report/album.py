@@ -39,10 +39,9 @@ def encoded(image: Image.Image, kind: str, **words: int) -> bytes:
 
 
 def url(image: Image.Image) -> str:
-    """A small picture as a URL of its own."""
-    small = image.copy()
-    small.thumbnail(SMALL, Image.Resampling.BOX)
-    photograph, exact = encoded(small, "JPEG", quality=75), encoded(small, "PNG")
+    """A picture as a URL of its own; the image is made small for it."""
+    image.thumbnail(SMALL, Image.Resampling.BOX)
+    photograph, exact = encoded(image, "JPEG", quality=75), encoded(image, "PNG")
     kind, data = ("png", exact) if len(exact) <= len(photograph) else ("jpeg", photograph)
     return f"data:image/{kind};base64,{b64encode(data).decode()}"
 
@@ -59,16 +58,21 @@ class Album:
     def add(self, frame: Frame, left: int, signal: Signal = Signal()) -> tuple[int, str]:
         """The number of a frame's picture in the colours of a signal, and its small one; `left` frames are still to come, as far as
         is known."""
-        data = b"".join(row[: 3 * frame.width].ljust(3 * frame.width, b"\0") for row in frame.rows)
-        key = hashlib.sha256(f"{frame.width} {signal} ".encode() + data).digest()
+        size = 3 * frame.width
+        rows = (row if len(row) == size else row[:size].ljust(size, b"\0") for row in frame.rows)
+        data = b"".join(rows)
+        summed = hashlib.blake2b(f"{frame.width} {signal} ".encode())
+        summed.update(data)
+        key = summed.digest()
         if key not in self.numbers:
             if signal.is_plain:
                 image = Image.frombytes("RGB", (frame.width, len(frame.rows)), data)
             else:
                 image = Image.fromarray(shallow(colours_of(frame.rows, frame.width, signal)), "RGB")
+            picture = self.picture(image, max(self.room, 0) // (left + 1))
             self.numbers[key] = len(self.pictures), url(image)
-            self.pictures.append(self.picture(image, max(self.room, 0) // (left + 1)))
-            self.room -= len(self.pictures[-1].data)
+            self.pictures.append(picture)
+            self.room -= len(picture.data)
         return self.numbers[key]
 
     def picture(self, image: Image.Image, room: int) -> Picture:

@@ -17,6 +17,7 @@ from vabgrot.video.signals import Signals
 from vabgrot.video.timings import Meter
 
 PERIODS = ("control", "video", "packet", "open", "close", "unknown", "unaligned")
+NUMBERS = {name: number for number, name in enumerate(PERIODS)}
 FULL_TEXT = 1_000_000  # bytes up to which the listing is kept whole
 FIRST_DIGITS = 48  # of a long row
 
@@ -31,13 +32,17 @@ class Text:
 
     def add(self, name: str, fields: list[str]) -> None:
         """The next line."""
-        line = " ".join((name, *fields))
-        self.size += len(line) + 1
+        if name == "v" and len(fields) == 1 and len(fields[0]) > FIRST_DIGITS + 24:
+            digits = fields[0]
+            self.size += len(digits) + 3
+            short = f"v {digits[:FIRST_DIGITS]}.. ({len(digits) // 6} pixels)"
+            line = f"v {digits}" if self.size <= FULL_TEXT else short
+        else:
+            line = short = " ".join((name, *fields))
+            self.size += len(line) + 1
         if self.size <= FULL_TEXT:
             self.full.append(line)
-        if name == "v" and len(line) > FIRST_DIGITS + 26:
-            line = f"{line[: FIRST_DIGITS + 2]}.. ({(len(line) - 2) // 6} pixels)"
-        self.short.append(line)
+        self.short.append(short)
 
     @property
     def is_whole(self) -> bool:
@@ -164,19 +169,23 @@ class Findings(Generic[Shown]):
 
     def take(self, line: int, name: str, fields: list[str]) -> None:
         """The next line, given its number, its name and its fields."""
-        thing = self.frames_of.columns.take(line, name, fields)
-        if thing.fault not in OF_PACKET:
+        columns = self.frames_of.columns
+        thing = columns.take(line, name, fields)
+        if self.last is not None and thing.fault not in OF_PACKET:
             self.settle()
         self.text.add(name, fields)
         self.meter.take(thing)
-        self.shift(self.frames_of.columns.missed)
-        self.epochs[-1].is_aligned |= thing.kind != "slip"
+        if columns.missed:
+            self.shift(columns.missed)
+        kind = thing.kind
+        if kind != "slip":
+            self.epochs[-1].is_aligned = True
         ended = self.frames_of.take(thing)
         if ended:
             self.end_frame(ended, thing.at)
-        if thing.kind in ("fault", "slip"):
+        if kind in ("fault", "slip"):
             self.fault(thing)
-        elif thing.kind == "cut":
+        elif kind == "cut":
             self.cut = thing
         else:
             self.period(thing)
@@ -189,23 +198,26 @@ class Findings(Generic[Shown]):
 
     def period(self, thing: Thing) -> None:
         """Control columns, a row, or what an island is of."""
-        value = thing.value if thing.kind == "control" else 0
-        if thing.kind == "video":
+        kind, value = thing.kind, 0
+        if kind == "control":
+            value = thing.value
+        elif kind == "video":
             self.rows += 1
             value = thing.pixels
-        elif thing.kind == "packet":
+        elif kind == "packet":
             packet = packets.packet_of(thing.texts, thing.line)
             self.last = Received(thing.line, thing.epoch, thing.column, thing.at, packet)
             value = packet.kind
-        self.add_period(thing.kind, thing.at, thing.columns, thing.line, value)
+        self.add_period(kind, thing.at, thing.columns, thing.line, value)
 
     def add_period(self, kind: str, at: int, columns: int, line: int, value: int) -> None:
         """A row of the table of periods."""
-        self.periods["kind"].append(PERIODS.index(kind))
-        self.periods["at"].append(at)
-        self.periods["columns"].append(columns)
-        self.periods["line"].append(line)
-        self.periods["value"].append(value)
+        periods = self.periods
+        periods["kind"].append(NUMBERS[kind])
+        periods["at"].append(at)
+        periods["columns"].append(columns)
+        periods["line"].append(line)
+        periods["value"].append(value)
 
     def add_fault(self, thing: Thing, at: int, lane: int, more: list[int]) -> None:
         """A row of the table of faults; its frame is not known as long as that has not ended."""

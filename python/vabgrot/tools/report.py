@@ -147,9 +147,8 @@ def contents_of(path: Path) -> Counter[str]:
     words = ["recover", "content"]
     counts: Counter[str] = Counter()
     with program.Run(words, path) as run:
-        for line in run.output:
-            if line.startswith(b"! "):
-                counts[line.split()[1].decode("ascii", "replace")] += 1
+        for line in listing.fault_lines(run.output):
+            counts[line.split()[1].decode("ascii", "replace")] += 1
     check_end(run, words, path)
     return Counter({kind: counts[kind] for kind in CONTENT if counts[kind]})
 
