@@ -1,13 +1,15 @@
 """What a capture carried, and what is wrong with it, as one page to look at."""
 
+import gc
 import json
 import shlex
 import sys
 import zlib
 from base64 import b64encode
 from collections import Counter
-from collections.abc import Sequence
+from collections.abc import Iterator, Sequence
 from concurrent.futures import ThreadPoolExecutor
+from contextlib import contextmanager
 from itertools import accumulate
 from pathlib import Path
 from typing import Any, NamedTuple, TypedDict
@@ -168,11 +170,23 @@ def gather(words: list[str], path: Path, bits: int) -> tuple[Found, Album, progr
     return found, album, run
 
 
+@contextmanager
+def keeping() -> Iterator[None]:
+    """No search for garbage: what is gathered stays, and to look through it again and again as it grows takes time."""
+    was_on = gc.isenabled()
+    gc.disable()
+    try:
+        yield
+    finally:
+        if was_on:
+            gc.enable()
+
+
 def heard(words: list[str], path: Path, bits: int) -> tuple[Found, Album, program.Run]:
     """What a link listing of a capture tells, the pictures, and the run that wrote it; `bits` are those of the longest lane."""
     show = Show(bits // 10)
     found = Findings(show, is_dvi=words[1] == "dvi")
-    with program.Run(words, path) as run:
+    with keeping(), program.Run(words, path) as run:
         for line in tqdm(listing.lines(run.output, listing.LINK, is_whole=False), unit="line", disable=None):
             found.take(*line)
     check_end(run, words, path)
