@@ -8,6 +8,8 @@ from xml.etree import ElementTree
 import pytest
 
 from tests.models.source import Source, text
+from tests.models.timed import Sent
+from tests.models.timed import text as raster_text
 from vabgrot import link
 from vabgrot.formats.rules import RULES
 from vabgrot.judging.judge import verdicts
@@ -175,6 +177,23 @@ def test_json_and_junit(tool, capture, tmp_path):
         kinds = [child.tag for child in cases[name]]
         assert kinds == {"pass": [], "fail": ["failure"], "not judged": ["skipped"]}[state]
     assert cases["AVI InfoFrame"].get("classname") == "HDMI 1.4, 8.2.1"
+
+
+def test_dvi(tool, program, tmp_path):
+    """Of VIC 1 without guard bands four rules are kept and the others not judged; a damaged pixel breaks one."""
+    sent = Sent((640, 16, 96, 48), (480, 10, 2, 33), (False, False), guards=0)
+    plain = [("c", f"{int(one[1], 16) & 3:02x}", one[2]) if one[0] == "c" else one for one in sent.lines(2)]
+    made = program("make", "dvi", source=raster_text(plain))
+    hurt = program("damage", f"2:{10 * (800 * 100 + 300)}:0ab", source=made)
+    for capture, wanted in ((made, {}), (hurt, {"video coding"})):
+        (tmp_path / "a.tmc").write_bytes(capture)
+        said = json.loads(tool("conform", tmp_path / "a.tmc", "--dvi", "--json", status=int(bool(wanted))).stdout)
+        states = {one["rule"]: one["verdict"] for one in said["rules"]}
+        judged = {"control characters", "control period", "video coding", "format"}
+        assert list(states) == list(RULES) and {name for name, state in states.items() if state != "not judged"} == judged
+        assert {name for name, state in states.items() if state == "fail"} == set(wanted)
+    assert "[DVI 1.0, 3.2.2]" in tool("conform", tmp_path / "a.tmc", "--dvi", status=1).stdout.decode()
+    assert states["format"] == "pass"
 
 
 def test_refusals(tool, tmp_path, program):

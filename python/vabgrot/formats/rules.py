@@ -18,6 +18,13 @@ def _by_name(*rules: Rule) -> dict[str, Rule]:
     return {rule.name: rule for rule in rules}
 
 
+# The rules that hold of a stream of DVI too, and who asks them there.
+OF_DVI = {
+    "control characters": "DVI 1.0, 3.2.2",
+    "control period": "own, as of HDMI 1.4, 5.2.1.2",
+    "video coding": "DVI 1.0, 3.2.2",
+    "format": "CTA-861, 4",
+}
 RULES = _by_name(
     Rule("control characters", "each character of a control period is one of the four control characters", "HDMI 1.4, 5.4.2"),
     Rule("control period", "at least 12 characters before each row and island", "HDMI 1.4, 5.2.1.2"),

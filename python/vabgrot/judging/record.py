@@ -68,8 +68,8 @@ class Record:
 class Gatherer:
     """Takes the things of a link listing (those of `link.Columns`), one after another."""
 
-    def __init__(self) -> None:
-        self.meter, self.spans, self.packets = Meter(), Spans(), list[Heard]()
+    def __init__(self, is_dvi: bool = False) -> None:
+        self.meter, self.spans, self.packets = Meter(), Spans(is_dvi), list[Heard]()
         self.pending: link.Thing | None = None
         self.is_lost = False
 

@@ -11,7 +11,7 @@ from tqdm import tqdm
 from vabgrot import command, link, listing, place, program
 from vabgrot.errors import Refused
 from vabgrot.judging.diagnosis import causes_of
-from vabgrot.judging.judge import verdicts
+from vabgrot.judging.judge import dvi_verdicts, verdicts
 from vabgrot.judging.record import Gatherer, Record
 from vabgrot.judging.verdicts import FAIL, OPEN, PASS, Verdict, total_of
 from vabgrot.lanes.columns import Columns
@@ -30,10 +30,12 @@ tools/conform bars.tmc --clock 25200000"""
 MARKS = {PASS: "pass", FAIL: "FAIL", OPEN: "not judged"}
 
 
-def gathered(path: Path) -> tuple[Record, program.Run]:
+def gathered(path: Path, is_dvi: bool) -> tuple[Record, program.Run]:
     """What the program's listing of a capture says, and the run that wrote it."""
-    words = ["recover", "link"]
-    gatherer, columns = Gatherer(), link.Columns(is_dvi=False)
+    words = ["recover", "dvi" if is_dvi else "link"]
+    if is_dvi and not program.has(*words):
+        raise Refused("the program has no `recover dvi`")
+    gatherer, columns = Gatherer(is_dvi), link.Columns(is_dvi=is_dvi)
     with program.Run(words, path) as run:
         lines = listing.lines(run.output, listing.LINK, is_whole=False, raw_rows=True)
         for line in tqdm(lines, unit="line", disable=None):
@@ -74,17 +76,20 @@ def write_junit(path: Path, capture: Path, found: list[Verdict]) -> None:
 def work(argv: Sequence[str] | None) -> int:
     parser = command.parser("conform", TEXT, FAULTY, EXAMPLES)
     parser.add_argument("capture", metavar="CAPTURE", type=Path, help="the capture, as `make`, `damage` or `lanes pack` write it")
-    rate = parser.add_mutually_exclusive_group()
-    rate.add_argument("--clock", type=positive, metavar="HZ", help="the pixel clock; if left out, that of the format that the raster is")
+    of_rate = parser.add_mutually_exclusive_group()
+    of_rate.add_argument("--clock", type=positive, metavar="HZ", help="the pixel clock; if left out, that of the format that the raster is")
     text = "the frames a second, or the fields where it is interlaced"
-    rate.add_argument("--rate", type=positive, metavar="FIELDS_PER_SECOND", help=text)
+    of_rate.add_argument("--rate", type=positive, metavar="FIELDS_PER_SECOND", help=text)
+    text = "the source is one of DVI, without guard bands and islands: it has four of the rules"
+    parser.add_argument("--dvi", action="store_true", help=text)
     parser.add_argument("--json", action="store_true", help="write JSON in place of text")
     parser.add_argument("--junit", type=Path, metavar="FILE.xml", help="write the verdicts as JUnit XML too")
     args = parser.parse_args(argv)
-    record, run = gathered(args.capture)
+    record, run = gathered(args.capture, args.dvi)
     if run.status == program.NO_ALIGNMENT:
         raise Refused(place.named(f"{args.capture}: no alignment: `tools/lanes look` says what the lanes have"))
-    found = verdicts(record, Rate(args.clock, args.rate))
+    rate = Rate(args.clock, args.rate)
+    found = dvi_verdicts(record, rate) if args.dvi else verdicts(record, rate)
     if args.junit:
         write_junit(args.junit, args.capture, found)
     faulty = any(one.state == FAIL for one in found)
