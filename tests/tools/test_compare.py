@@ -131,3 +131,20 @@ def test_sizes(tool, made, program, tmp_path):
     one = made("a", [picture(1)])
     Image.new("RGB", (WIDTH, HEIGHT + 1)).save(tmp_path / "c.png")
     assert f"{WIDTH} x {HEIGHT} and {WIDTH} x {HEIGHT + 1} pixels" in said(tool, one, tmp_path / "c.png")["says"][0]
+
+
+def test_colours_of_a_capture(tool, program, tmp_path):
+    """Of 36 bits a pixel and of full range each picture comes back to the bit; of YCbCr the primaries and white do within a step of the
+    limited range, 255 / 219. As bytes neither frame has the picture's size or its colours."""
+    colours = [(255, 255, 255), (255, 0, 0), (0, 255, 0), (0, 0, 255)]
+    image = Image.new("RGB", (WIDTH, HEIGHT))
+    image.putdata([colours[at // 2 % 4] for at in range(WIDTH * HEIGHT)])
+    image.save(tmp_path / "a.png")
+    for words, is_exact in ((["--depth", 36], True), (["--encoding", "ycbcr444"], False)):
+        content = tool("content", tmp_path / "a.png", "--mode", MODE, "--clock", 1_000_000, *words).stdout
+        (tmp_path / "a.tmc").write_bytes(program("make", "content", source=content))
+        came = said(tool, tmp_path / "a.tmc", tmp_path / "a.png", status=1 - is_exact)
+        (one,) = came["frames"]
+        assert (one["unlike"] == 0) == is_exact and (is_exact or one["psnr"] > 45)
+        assert any(line.endswith("are converted to RGB of full range and 24 bits, as its InfoFrames tell") for line in came["says"])
+        assert not any("converted" in line for line in said(tool, tmp_path / "a.tmc", tmp_path / "a.tmc", status=0)["says"])

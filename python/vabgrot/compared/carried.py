@@ -20,12 +20,15 @@ from vabgrot import link, listing, packets, pcm, program
 from vabgrot.errors import Refused
 from vabgrot.judging.record import Gatherer
 from vabgrot.judging.spans import check_end
+from vabgrot.video.images import colours_of, shallow
+from vabgrot.video.signals import Signals
 from vabgrot.video.timings import Ints
 
 Picture = npt.NDArray[np.uint8]  # rows, pixels, and red, green and blue
 SMALL = 16  # pixels of a small picture across and down
 NULL, SAMPLES = 0x00, 0x02
 CAPTURE, WAV = b"TMC", b"RIFF"
+CONVERTED = "pixels of {name} are converted to RGB of full range and 24 bits, as its InfoFrames tell"
 
 
 class Still(NamedTuple):
@@ -51,6 +54,7 @@ class Carried:
     lost: int = 0
     is_reference: bool = False
     has_sound: bool = False
+    notes: dict[str, None] = field(default_factory=dict)  # what was done with the pixels, and assumed for it, once each
 
     def add(self, picture: Picture) -> None:
         """Keeps a frame."""
@@ -79,8 +83,8 @@ def small_of(picture: Picture) -> npt.NDArray[np.float32]:
 
 
 @contextmanager
-def carried(paths: Sequence[Path]) -> Iterator[Carried]:
-    """What a capture carries, or what pictures and WAV files say."""
+def carried(paths: Sequence[Path], converts: bool = False) -> Iterator[Carried]:
+    """What a capture carries, or what pictures and WAV files say; `converts`: the pixels of a capture are converted to colours."""
     with tempfile.TemporaryFile() as file:
         found = Carried(" ".join(map(str, paths)), file)
         kinds = [kind_of(path) for path in paths]
@@ -88,7 +92,7 @@ def carried(paths: Sequence[Path]) -> Iterator[Carried]:
             raise Refused(f"{paths[kinds.index(CAPTURE)]}: a capture is compared alone, and not with other files beside it")
         for path, kind in zip(paths, kinds):
             if kind == CAPTURE:
-                take_capture(found, path)
+                take_capture(found, path, converts)
             elif kind == WAV:
                 take_sound(found, path)
             else:
@@ -121,10 +125,34 @@ def take_sound(found: Carried, path: Path) -> None:
     found.has_sound = True
 
 
-def take_capture(found: Carried, path: Path) -> None:
+@dataclass
+class Converter:
+    """Has the packets that were gathered so far tell how a frame's pixels are sent, and converts them."""
+
+    gatherer: Gatherer
+    name: str
+    signals: Signals = field(default_factory=Signals)
+    taken: int = 0
+
+    def picture(self, frame: link.Frame, is_dvi: bool, notes: dict[str, None]) -> Picture:
+        """The colours of a frame; what was done is noted where its bytes are none."""
+        for one in self.gatherer.packets[self.taken :]:
+            if one.is_whole:
+                self.signals.take_packet(one.packet)
+        self.taken = len(self.gatherer.packets)
+        self.signals.has_packets = not is_dvi
+        reading = self.signals.reading(frame.width)
+        if reading.signal.is_plain:
+            return array_of(frame)
+        notes.update(dict.fromkeys((CONVERTED.format(name=self.name), *reading.notes)))
+        return shallow(colours_of(frame.rows, frame.width, reading.signal))
+
+
+def take_capture(found: Carried, path: Path, converts: bool) -> None:
     """Keeps the whole frames, the packets and the samples of a capture."""
     words = ["recover", "link"]
     frames, gatherer = link.Frames(is_dvi=None), Gatherer()
+    converter = Converter(gatherer, found.name) if converts else None
     with program.Run(words, path) as run:
         lines = listing.lines(run.output, listing.LINK, is_whole=False)
         for line in tqdm(lines, unit="line", disable=None):
@@ -132,7 +160,8 @@ def take_capture(found: Carried, path: Path) -> None:
             ended = frames.take(thing)
             gatherer.take(thing)
             if ended and ended.is_whole:
-                found.add(array_of(ended))
+                is_dvi = bool(frames.columns.is_dvi)
+                found.add(converter.picture(ended, is_dvi, found.notes) if converter else array_of(ended))
     check_end(run, words, path)
     heard = gatherer.finish().packets
     found.lost = sum(not one.is_whole for one in heard)

@@ -14,7 +14,7 @@ from PIL import Image
 from skimage import metrics
 
 from vabgrot import command, packets
-from vabgrot.compared.carried import Carried, Picture, carried
+from vabgrot.compared.carried import CAPTURE, Carried, Picture, carried, kind_of
 from vabgrot.compared.matching import Pair, alone, offset_of, pairs_of
 from vabgrot.errors import Refused
 from vabgrot.replacing import replacing
@@ -22,8 +22,9 @@ from vabgrot.replacing import replacing
 TEXT = """Compares what a capture carries with what another one does, or with pictures and a WAV file. Frames are matched by their
 content. Of each pair it writes whether it is equal, else the first unlike pixel, how many there are, PSNR and SSIM, and the CRC-32
 of both frames (of red, green and blue of each pixel, row by row); then the packets that came in one alone, and the samples that
-differ. Of captures whole frames alone are compared; frames by which one of two captures begins earlier or ends later are named,
-and are no difference. Packets that were lost are not compared."""
+differ. Against pictures the pixels of a capture are converted to the colours that its InfoFrames tell, as `tools/pictures` does; of
+two captures bytes are compared. Of captures whole frames alone are compared; frames by which one of two captures begins earlier or
+ends later are named, and are no difference. Packets that were lost are not compared."""
 FAULTY = "done, and the two differ"
 EXAMPLES = """tools/content examples/sent.png examples/sent.png > sent.content
 ./vabgrot make content < sent.content > sent.tmc
@@ -186,6 +187,7 @@ def verdict_of(mine: Carried, other: Carried, folder: Path | None) -> Verdict:
         found.samples = samples_of(mine, other)
         found.differs |= found.samples is None or found.samples.unlike > 0
         found.says += sample_lines(mine, other, found.samples)
+    found.says += [*mine.notes]
     lost = [f"{one.lost:,} packets of {side}" for side, one in (("A", mine), ("B", other)) if one.lost]
     found.says += [f"lost, and not compared: {' and '.join(lost)}"] * bool(lost)
     return found
@@ -202,7 +204,8 @@ def work(argv: Sequence[str] | None) -> int:
     args = parser.parse_args(argv)
     if args.pictures:
         args.pictures.mkdir(parents=True, exist_ok=True)
-    with carried([args.mine]) as mine, carried(args.other) as other:
+    is_picture = not any(kind_of(path) == CAPTURE for path in args.other)
+    with carried([args.mine], converts=is_picture) as mine, carried(args.other) as other:
         if not mine.frames and other.frames and other.is_reference:
             raise Refused(f"{args.mine}: it has no whole frame")
         found = verdict_of(mine, other, args.pictures)
