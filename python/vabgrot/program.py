@@ -80,7 +80,7 @@ class Run:
                 [*on, find(), *words], stdin=source, stdout=subprocess.PIPE, stderr=subprocess.PIPE, bufsize=1 << 20
             )
         assert self.process.stdout and self.process.stderr
-        with contextlib.suppress(OSError):  # where the system lets no pipe be so large
+        with contextlib.suppress(OSError, AttributeError):  # where the system lets no pipe be so large, or is another one
             fcntl.fcntl(self.process.stdout, fcntl.F_SETPIPE_SZ, PIPE)
         self.output: IO[bytes] = self.process.stdout
         self.errors: IO[bytes] = self.process.stderr
