@@ -1,4 +1,4 @@
-"""What the tests share as fixtures: a tool, the program, a kit; and what a run of them counts at its end."""
+"""What the tests share as fixtures: a tool, the program, the C library, a kit; and what a run of them counts at its end."""
 
 import os
 from collections import Counter
@@ -107,6 +107,17 @@ def program(executable):
         return came.stdout
 
     return run
+
+
+@pytest.fixture(scope="session")
+def library(tmp_path_factory):
+    """The folder of the shared and the static library. The tests are skipped where a compiler or the proved archive is missing."""
+    folder = tmp_path_factory.mktemp("library")
+    made = ran([TOP / "library" / "build", folder], b"")
+    if made.returncode == 127:
+        pytest.skip(made.stderr.decode().strip())
+    assert made.returncode == 0, made.stderr.decode()
+    return folder
 
 
 PROVER = """#!/bin/sh

@@ -1,25 +1,14 @@
-"""What the tests of the C library share: the library as `library/build` makes it, and programs that are compiled over it."""
+"""What the tests of the C library share: programs that are compiled over it."""
 
 import shutil
 import subprocess
 
 import pytest
 
-from tests.support import HANGS, TOP, ran
+from tests.support import HANGS, TOP
 
 FLAGS = ("-std=c99", "-Wall", "-Wextra", "-Werror", "-O1", "-g")
 SANITIZERS = ("-fsanitize=address,undefined", "-fno-sanitize-recover=all")
-
-
-@pytest.fixture(scope="session")
-def library(tmp_path_factory):
-    """The folder of the shared and the static library. The tests are skipped where a compiler or the proved archive is missing."""
-    folder = tmp_path_factory.mktemp("library")
-    made = ran([TOP / "library" / "build", folder], b"")
-    if made.returncode == 127:
-        pytest.skip(made.stderr.decode().strip())
-    assert made.returncode == 0, made.stderr.decode()
-    return folder
 
 
 @pytest.fixture(scope="session")
