@@ -9,8 +9,10 @@ import pytest
 
 from tests.support import HANGS, TOP, built
 from tests.tools.test_installed import PARTS
+from tests.tools.test_verilog import need
 
-BLOCKS = re.findall(r"(?ms)^```\n(.*?)^```$", (TOP / "docs" / "guide" / "SIMULATION.md").read_text("utf-8"))
+PAGE = (TOP / "docs" / "guide" / "SIMULATION.md").read_text("utf-8")
+BLOCKS = re.findall(r"(?ms)^```\n(.*?)^```$", PAGE)
 
 
 @pytest.fixture(scope="module")
@@ -48,7 +50,7 @@ def shell(tmp_path_factory):
 def test_from_a_clone_to_a_report(shell):
     """Five commands; then those of the sink."""
     folder, run = shell
-    commands, sink = BLOCKS
+    commands, _, sink = BLOCKS
     assert len(commands.splitlines()) == 5
     came = run(commands)
     assert came.stdout.endswith("clean\n")
@@ -62,10 +64,22 @@ def test_from_a_clone_to_a_report(shell):
     assert not os.path.exists(folder / "vabgrot" / "crates" / "hdmi_cli" / "src")
 
 
+def test_checked_as_it_runs(shell, library):
+    """In a checkout with the library: what the document says that a whole frame is counted as, and how a bug ends it."""
+    need("verilator")
+    folder, run = shell
+    top = folder / "checked"
+    shutil.copytree(folder / "vabgrot.git", top)
+    shutil.copytree(TOP / "library", top / "library", ignore=shutil.ignore_patterns("out"))
+    shutil.copytree(library, top / "library" / "out", symlinks=True)
+    passed, words, failed = re.search(r"It says `(pass: .*)`\. `(.*)` ends with[^>]*> `(! .*)`\n", PAGE).groups()
+    assert f"TOP.source_bench.source.check: {passed}\n" in run(BLOCKS[1], top).stdout
+    assert f" TOP.source_bench.source.check: {failed}\n" in run(f"! {BLOCKS[1].strip()} {words}", top).stdout
+
+
 def test_each_bug_is_in_the_document():
-    text = (TOP / "docs" / "guide" / "SIMULATION.md").read_text("utf-8")
     planted = set()
     for path in (TOP / "examples" / "verilog").glob("*.v"):
         planted |= set(re.findall(r"BUG_(\w+)", path.read_text()))
-    assert len(planted) == 8 and planted == set(re.findall(r"\| `([A-Z_]+)` \|", text))
+    assert len(planted) == 8 and planted == set(re.findall(r"\| `([A-Z_]+)` \|", PAGE))
     assert planted == set(re.search(r"(?m)^BUGS = (.*)$", (TOP / "examples/verilog/Makefile").read_text())[1].split())
