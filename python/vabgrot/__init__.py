@@ -1,1 +1,41 @@
-"""What surrounds the proved program: its formats, the tools over them, and how the program itself is run. Nothing here is proved."""
+"""What surrounds the proved program: its formats, the tools over them, and how the program itself is run; and the receiver as the proved
+C library has it (docs/guide/LIBRARY.md). Nothing here is proved. The names below are loaded when they are first used."""
+
+import importlib
+from typing import TYPE_CHECKING, Any
+
+if TYPE_CHECKING:
+    from vabgrot.errors import Refused
+    from vabgrot.events import Closing, Cut, End, Event, Fault, Kind, Line, Opening, Packet, Run
+    from vabgrot.library import Misuse, NoLibrary
+    from vabgrot.receiving import Arrays, Receiver, receive
+    from vabgrot.recovery import Recovered, recover
+
+__all__ = [
+    "Arrays",
+    "Closing",
+    "Cut",
+    "End",
+    "Event",
+    "Fault",
+    "Kind",
+    "Line",
+    "Misuse",
+    "NoLibrary",
+    "Opening",
+    "Packet",
+    "Receiver",
+    "Recovered",
+    "Refused",
+    "Run",
+    "receive",
+    "recover",
+]
+_HOMES = {"Misuse": "library", "NoLibrary": "library", "Refused": "errors", "Recovered": "recovery", "recover": "recovery"}
+_HOMES |= dict.fromkeys(("Arrays", "Receiver", "receive"), "receiving")
+
+
+def __getattr__(name: str) -> Any:
+    if name not in __all__:
+        raise AttributeError(f"module 'vabgrot' has no attribute {name!r}")
+    return getattr(importlib.import_module(f"vabgrot.{_HOMES.get(name, 'events')}"), name)

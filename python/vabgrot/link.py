@@ -216,10 +216,33 @@ class Frame:
         return len(self.rows[-1]) != len(self.rows[0])
 
 
+@dataclass
+class Vsync:
+    """VSYNC as a content listing has it: it has a value once three neighbouring columns had it, with nothing but a `! word` between
+    them. `level` is that of the last control columns, `streak` how many had it."""
+
+    heard: int | None = None
+    level: int | None = None
+    streak: int = 0
+
+    def take(self, value: int, columns: int) -> bool:
+        """Whether it changed among control columns of one value."""
+        level = value & VSYNC
+        self.streak = columns + (self.streak if level == self.level else 0)
+        self.level = level
+        if self.streak < 3 or level == self.heard:
+            return False
+        is_first, self.heard = self.heard is None, level
+        return not is_first
+
+    def part(self) -> None:
+        """Something stands between the columns before and those behind it."""
+        self.streak = 0
+
+
 class Frames:
-    """Takes the things of a link listing and gives the frames, as a content listing has them: VSYNC has a value once
-    three neighbouring columns had it, with nothing but a `! word` between them. What stands before the first change,
-    after the last, or before a slip is a frame that is not whole."""
+    """Takes the things of a link listing and gives the frames, as a content listing has them. What stands before the first change of
+    VSYNC, after the last, or before a slip is a frame that is not whole."""
 
     def __init__(self, is_dvi: bool | None = None) -> None:
         self.columns = Columns(is_dvi)
@@ -227,19 +250,17 @@ class Frames:
 
     def reset(self) -> None:
         """Forgets all that was taken."""
-        self.heard: int | None = None  # the value of VSYNC; `level` is that of the last control columns, `streak` how many had it
-        self.level: int | None = None
-        self.streak = 0
+        self.vsync = Vsync()
         self.frame = Frame(False)
 
     def take(self, thing: Thing) -> Frame | None:
         """The frame that ends with this thing, or None."""
         if thing.kind == "control":
-            return self.run(thing)
+            return self.change(thing) if self.vsync.take(thing.value, thing.columns) else None
         if thing.kind == "slip":
             return self.finish("slip")
         if thing.fault != "word":
-            self.streak = 0
+            self.vsync.part()
         if thing.kind == "video":
             self.frame.at = self.frame.at if self.frame.rows else thing.at
             self.frame.rows.append(listing.digits(thing.digits, 3, thing.line))
@@ -249,19 +270,9 @@ class Frames:
             self.fault(thing)
         return None
 
-    def run(self, thing: Thing) -> Frame | None:
-        """Control columns: a change of VSYNC in them ends a frame."""
-        level = thing.value & VSYNC
-        self.streak = thing.columns + (self.streak if level == self.level else 0)
-        self.level = level
-        if self.streak < 3 or level == self.heard:
-            return None
-        is_first, self.heard = self.heard is None, level
-        return None if is_first else self.change(thing)
-
     def change(self, thing: Thing) -> Frame | None:
         """VSYNC changed among the columns of a thing: the frame before it, None where it has no rows."""
-        column = thing.column + thing.columns - self.streak if thing.is_exact else None
+        column = thing.column + thing.columns - self.vsync.streak if thing.is_exact else None
         frame, self.frame = self.frame, Frame(True, column)
         frame.ended = "vsync"
         return frame if frame.rows else None

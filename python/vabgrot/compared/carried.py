@@ -20,6 +20,7 @@ from vabgrot import link, listing, packets, pcm, program
 from vabgrot.errors import Refused
 from vabgrot.judging.record import Gatherer
 from vabgrot.judging.spans import check_end
+from vabgrot.recovery import array_of_rows
 from vabgrot.video.images import colours_of, shallow
 from vabgrot.video.signals import Signals
 from vabgrot.video.timings import Ints
@@ -174,6 +175,4 @@ def take_capture(found: Carried, path: Path, converts: bool) -> None:
 
 def array_of(frame: link.Frame) -> Picture:
     """The pixels of a frame; rows that are too short end in black."""
-    width = len(frame.rows[0])
-    data = b"".join(row[:width].ljust(width, b"\0") for row in frame.rows)
-    return np.frombuffer(data, np.uint8).reshape(len(frame.rows), -1, 3)
+    return array_of_rows(frame.rows)

@@ -1,0 +1,96 @@
+#!/usr/bin/env python3
+"""Hears a link in a test bench, clock by clock, and stops it at the first fault.
+
+    bench.py BLUE GREEN RED
+
+The files have the character of each lane a clock, as hexadecimal numbers (`tools/lanes unpack --words 10` writes such). In a bench of
+cocotb a Link is given the same from the lanes of the core:
+
+    async def watch(dut):
+        with Link() as link:
+            while dut.sending.value:
+                await RisingEdge(dut.clock)
+                link.tick(int(dut.blue.value), int(dut.green.value), int(dut.red.value))
+            link.finish()
+
+Status 0; 1 where there was a fault, or the lanes were never aligned.
+"""
+
+import sys
+
+from vabgrot import Fault, Receiver
+
+TEN = 10  # bits of a character
+
+
+class LinkFault(AssertionError):
+    """The first fault of a link, in words: its column, its lane and its name."""
+
+
+class Link:
+    """Hears one character of ten bits a lane a clock, bit 0 sent first, and keeps what they carry in `events`. Characters are gathered, and
+    given to the receiver `clocks` at a time (a multiple of four, so that they are whole bytes)."""
+
+    def __init__(self, clocks=320):
+        self.receiver, self.clocks, self.count = Receiver(), clocks, 0
+        self.words, self.events = ([], [], []), []
+
+    def __enter__(self):
+        return self
+
+    def __exit__(self, *_):
+        self.receiver.close()
+
+    def tick(self, blue, green, red):
+        """The characters of one clock. Raises LinkFault at the first fault among those that were given so far."""
+        for words, word in zip(self.words, (blue, green, red)):
+            words.append(word)
+        self.count += 1
+        if self.count % self.clocks == 0:
+            self.feed()
+
+    def feed(self):
+        """Gives the receiver what was gathered."""
+        count = TEN * len(self.words[0])
+        lanes = [sum(word << TEN * at for at, word in enumerate(words)).to_bytes((count + 7) // 8, "little") for words in self.words]
+        self.words = ([], [], [])
+        self.hear(self.receiver.feed(*lanes, bits=[count] * 3))
+
+    def hear(self, events):
+        """Keeps events up to the first fault."""
+        for event in events:
+            if isinstance(event, Fault):
+                raise LinkFault(f"{event} (of {self.count} clocks)")
+            self.events.append(event)
+
+    def finish(self):
+        """The end of the lanes: raises LinkFault too where they were never aligned."""
+        self.feed()
+        *events, end = self.receiver.finish()
+        self.hear(events)
+        if not end.aligned:
+            raise LinkFault(f"the lanes were not aligned in {self.count} clocks")
+        return end.columns
+
+
+def main(paths):
+    if len(paths) != 3:
+        print("usage: bench.py BLUE GREEN RED", file=sys.stderr)
+        return 2
+    lanes = []
+    for path in paths:
+        with open(path) as file:
+            lanes.append([int(word, 16) for word in file.read().split()])
+    with Link() as link:
+        try:
+            for words in zip(*lanes):
+                link.tick(*words)
+            print(f"{link.finish()} columns without a fault")
+        except LinkFault as why:
+            print(why)
+            return 1
+    return 0
+
+
+if __name__ == "__main__":
+    sys.exit(main(sys.argv[1:]))

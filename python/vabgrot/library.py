@@ -1,0 +1,73 @@
+"""The C library of the receiver (library/vabgrot.h) by ctypes: where it is found, and the types of its calls."""
+
+import ctypes
+import functools
+import os
+from ctypes import POINTER, Structure, c_int, c_size_t, c_uint32, c_uint64, c_void_p
+from pathlib import Path
+
+from vabgrot import place
+from vabgrot.errors import Refused
+
+NAME = "libvabgrot.so.1"
+BESIDE = place.TOP.parent / NAME if place.IS_INSTALLED else place.TOP / "library" / "out" / NAME
+OK, FULL, MISUSE, TOOBIG, NOMEM = range(5)  # what a call answers
+LINK = 0  # the kind of a receiver
+QUICK_EVENTS, QUICK_BYTES = 26312, 22155  # the least room with which a feed is quickest
+
+
+class NoLibrary(Refused):
+    """The shared library is not there, or is none."""
+
+
+class Misuse(Exception):
+    """A call that does not fit the calls before it, or whose bits do not fit those before them. It did nothing."""
+
+
+class Handle(Structure):
+    """A receiver."""
+
+    _fields_ = (("receiver", c_void_p), ("held", c_uint64))
+
+
+class Bits(Structure):
+    """How many bits of each lane."""
+
+    _fields_ = (("blue", c_uint64), ("green", c_uint64), ("red", c_uint64))
+
+
+class Answer(Structure):
+    """What a call says beside its status."""
+
+    _fields_ = (("events", c_uint64), ("bytes", c_uint64), ("taken", Bits), ("columns", c_uint64), ("aligned", c_uint64))
+
+
+def find() -> str:
+    """The shared library: the one that VABGROT_LIBRARY names; else the one that was built or installed beside the package, or that
+    of the system's loader. Raises NoLibrary where VABGROT_LIBRARY names none."""
+    named = os.environ.get("VABGROT_LIBRARY")
+    if named and not Path(named).is_file():
+        raise NoLibrary(f"VABGROT_LIBRARY names {named}, and there is no such file")
+    return named or (str(BESIDE) if BESIDE.is_file() else NAME)
+
+
+@functools.cache
+def loaded(path: str) -> ctypes.CDLL:
+    """The library with the types of its calls. Raises NoLibrary."""
+    room = (c_void_p, c_size_t, c_void_p, c_size_t, POINTER(Answer))
+    types = {
+        "open": (c_uint32,),
+        "feed": (*(c_void_p, c_size_t) * 3, POINTER(Bits), *room),
+        "finish": room,
+        "restart": (),
+        "close": (),
+    }
+    try:
+        calls = ctypes.CDLL(path)
+        for name, words in types.items():
+            call = getattr(calls, f"vabgrot_{name}")
+            call.argtypes, call.restype = (POINTER(Handle), *words), c_int
+    except (OSError, AttributeError) as why:
+        how = "`./vabgrot install` of a checkout makes and installs it, or VABGROT_LIBRARY names one"
+        raise NoLibrary(f"there is no C library {path} ({why}): {how}") from None
+    return calls

@@ -1,0 +1,182 @@
+"""The receiver of the C library in Python: bits of three lanes in, in pieces of any size, and events out."""
+
+import ctypes
+import threading
+import weakref
+from collections.abc import Iterator, Sequence
+from ctypes import byref
+from typing import Any, NamedTuple, Self
+
+import numpy as np
+import numpy.typing as npt
+
+from vabgrot import library
+from vabgrot.errors import Refused
+from vabgrot.events import End, Event, Numbers, event_of
+from vabgrot.library import FULL, MISUSE, NOMEM, OK, TOOBIG, Misuse
+
+# A record of vabgrot.h; its columns are below 2^60.
+RECORD = np.dtype(
+    [(name, "<i8") for name in ("column", "named", "count", "offset")] + [(name, "<u4") for name in ("size", "kind", "value", "second")]
+)
+EVENTS, BYTES = 1 << 16, 1 << 20  # the room of a receiver
+PIECE = 1 << 18  # bytes of a lane that `receive` feeds at a time
+
+Lane = Any  # bytes, a memoryview or an array of bytes: any buffer of them
+Octets = npt.NDArray[np.uint8]
+Records = npt.NDArray[np.void]
+Empty = np.zeros(1, np.uint8)
+
+
+class Arrays(NamedTuple):
+    """Events as records (the fields are those of vabgrot_event in library/vabgrot.h), whose bytes stand in `data` from `offset` on."""
+
+    records: Records
+    data: bytes
+
+    def events(self) -> Iterator[Event]:
+        """The same as objects."""
+        numbers: Sequence[Numbers] = self.records.tolist()
+        return (event_of(it, self.data) for it in numbers)
+
+
+def octets(lane: Lane) -> Octets:
+    """The bytes of a lane as an array. Raises TypeError where it is no buffer of bytes."""
+    given: Any = np.ascontiguousarray(lane) if isinstance(lane, np.ndarray) else lane
+    view = memoryview(given)
+    if view.format not in ("B", "b", "c"):
+        raise TypeError(f"a lane is bytes, eight bits each, and not items of the format {view.format!r}")
+    return np.frombuffer(view.cast("B"), np.uint8) if view.nbytes else Empty[:0]
+
+
+def bits_of(lanes: Sequence[Octets], bits: Sequence[int] | None) -> list[int]:
+    """How many bits of each lane are meant: so many, or all. Raises Misuse where its bytes have not so many."""
+    counts = [8 * len(lane) for lane in lanes] if bits is None else list(bits)
+    if len(counts) != 3:
+        raise Misuse(f"there are {len(counts)} counts of bits, and three lanes")
+    for number, (lane, count) in enumerate(zip(lanes, counts)):
+        if not 0 <= count <= 8 * len(lane):
+            raise Misuse(f"lane {number} is to have {count} bits, and its {len(lane)} bytes have {8 * len(lane)}")
+    return counts
+
+
+class Receiver:
+    """A receiver of a link. It is fed the raw bits of three lanes, of any offset and up to 70 bits of skew between them, the first bit
+    of a byte lowest; what each call answers is proved to be the events of all bits that were fed (docs/proof/PROVED.md). Calls of several
+    threads wait for one another. Raises NoLibrary where the C library is missing, MemoryError, and of each call Misuse where it does
+    not fit the calls before it: then it did nothing.
+
+        with Receiver() as receiver:
+            for event in receiver.feed(blue, green, red) + receiver.finish():
+                print(event)
+    """
+
+    def __init__(self) -> None:
+        self._calls = library.loaded(library.find())
+        self._lock = threading.Lock()
+        self._handle, self._answer = library.Handle(), library.Answer()
+        self._records, self._bytes = np.empty(EVENTS, RECORD), np.empty(BYTES, np.uint8)
+        self._room = self._records.ctypes.data, EVENTS, self._bytes.ctypes.data, BYTES, byref(self._answer)
+        self._check(self._calls.vabgrot_open(byref(self._handle), library.LINK))
+        self._end = weakref.finalize(self, close, self._calls, self._handle)
+
+    def __enter__(self) -> Self:
+        return self
+
+    def __exit__(self, *_: object) -> None:
+        self.close()
+
+    def feed(self, blue: Lane, green: Lane, red: Lane, bits: Sequence[int] | None = None) -> list[Event]:
+        """Takes bits of each lane, all of its bytes or as many as `bits` says of it, and answers the events that they decide. A lane
+        whose bits are no whole bytes, or are fewer than another lane's, has ended with them."""
+        return [*self.feed_arrays(blue, green, red, bits).events()]
+
+    def feed_arrays(self, blue: Lane, green: Lane, red: Lane, bits: Sequence[int] | None = None) -> Arrays:
+        """The same with arrays in place of objects, which is quicker."""
+        lanes = [octets(lane) for lane in (blue, green, red)]
+        left = bits_of(lanes, bits)
+        with self._lock:
+            return joined([*self._fed(lanes, left)])
+
+    def finish(self) -> list[Event]:
+        """Ends the lanes: the one event that is left, if any, and the End. The receiver then takes no bits until `restart`."""
+        rest, end = self.finish_arrays()
+        return [*rest.events(), end]
+
+    def finish_arrays(self) -> tuple[Arrays, End]:
+        """The same with arrays for the event that is left."""
+        with self._lock:
+            self._check(self._calls.vabgrot_finish(byref(self._handle), *self._room))
+            return self._written(), End(self._answer.columns, bool(self._answer.aligned))
+
+    def restart(self) -> None:
+        """Makes an open receiver as it was at first."""
+        with self._lock:
+            self._check(self._calls.vabgrot_restart(byref(self._handle)))
+
+    def close(self) -> None:
+        """Gives its memory back. What is called then raises Misuse, but for a further `close`."""
+        with self._lock:
+            self._end()
+
+    def _fed(self, lanes: Sequence[Octets], left: list[int]) -> Iterator[Arrays]:
+        """What is written of bits, as often as there was no room for all."""
+        places, status = [lane.ctypes.data if len(lane) else Empty.ctypes.data for lane in lanes], FULL
+        while status == FULL:
+            words = [word for place, count in zip(places, left) for word in (place, (count + 7) // 8)]
+            status = self._calls.vabgrot_feed(byref(self._handle), *words, byref(library.Bits(*left)), *self._room)
+            self._check(status)
+            yield self._written()
+            taken = self._answer.taken
+            for at, count in enumerate((taken.blue, taken.green, taken.red)):
+                places[at] += count // 8
+                left[at] -= count
+
+    def _written(self) -> Arrays:
+        """What the last call wrote."""
+        return Arrays(self._records[: self._answer.events].copy(), self._bytes[: self._answer.bytes].tobytes())
+
+    def _check(self, status: int) -> None:
+        """Raises what a status says."""
+        if status == MISUSE:
+            raise Misuse("the receiver is closed or was finished, or a lane that had ended was given bits")
+        if status == TOOBIG:
+            raise Refused("a lane would have 2^60 bits or more")
+        if status == NOMEM:
+            raise MemoryError("there is no memory for a receiver")
+        if status not in (OK, FULL):
+            raise library.NoLibrary(f"the C library answers the status {status}, which is not known: it is of another version")
+
+
+def close(calls: ctypes.CDLL, handle: library.Handle) -> None:
+    """Closes a handle."""
+    calls.vabgrot_close(byref(handle))
+
+
+def joined(parts: Sequence[Arrays]) -> Arrays:
+    """Some events behind others."""
+    if len(parts) == 1:
+        return parts[0]
+    at = 0
+    for records, data in parts:
+        records["offset"] += at
+        at += len(data)
+    return Arrays(np.concatenate([it.records for it in parts]), b"".join(it.data for it in parts))
+
+
+def pieces(blue: Lane, green: Lane, red: Lane, bits: Sequence[int] | None = None) -> Iterator[tuple[Octets, Octets, Octets, list[int]]]:
+    """Bits of three lanes in pieces that a receiver can be fed one after another: the bytes, and how many bits of each."""
+    lanes = [octets(lane) for lane in (blue, green, red)]
+    counts = bits_of(lanes, bits)
+    for at in range(0, (max(counts) + 7) // 8, PIECE):
+        first, second, third = (lane[at : at + PIECE] for lane in lanes)
+        yield first, second, third, [min(8 * PIECE, max(0, count - 8 * at)) for count in counts]
+
+
+def receive(blue: Lane, green: Lane, red: Lane, bits: Sequence[int] | None = None) -> Iterator[Event]:
+    """The events of the bits of three lanes, one after another, all of their bytes or as many as `bits` says of each; the last is the
+    End. Raises as a Receiver does."""
+    with Receiver() as receiver:
+        for piece in pieces(blue, green, red, bits):
+            yield from receiver.feed(*piece)
+        yield from receiver.finish()

@@ -1,0 +1,301 @@
+"""The receiver in Python: its events and their order, pieces, misuse; what a capture carries, by the library and by the program; the
+test bench of examples/python; and where the library is found."""
+
+import dataclasses
+import importlib.util
+import os
+import random
+import re
+import shutil
+import subprocess
+import sys
+
+import numpy as np
+import pytest
+
+import vabgrot
+from tests.library.test_calls import lanes_of
+from tests.models import feeding, hearing
+from tests.support import HANGS, LISTING, TOP, run
+from vabgrot import capture, library
+from vabgrot.events import Closing, Cut, End, Fault, Kind, Line, Opening, Packet, Run
+from vabgrot.formats.characters import CONTROL
+
+CAPTURES = 24
+BODIES = tuple(bytes([at] * 7) for at in range(4))
+ISLAND = b"c 00 12\nc 14 8\ni 12\np 82020d %b %b\ne 30\nc 00 12\nend\n" % (b" ".join(it.hex().encode() for it in BODIES), b"0123" * 8)
+
+
+@pytest.fixture(autouse=True)
+def found(library, monkeypatch):
+    """The library that was built for these tests is the one that is found."""
+    path = library / "libvabgrot.so.1"
+    monkeypatch.setenv("VABGROT_LIBRARY", str(path))
+    return path
+
+
+def in_pieces(receiver, lanes, bits, size):
+    """The events of lanes that are fed in pieces of so many bytes, and of their end."""
+    events = []
+    for at in range(0, max(map(len, lanes)), size):
+        counts = [min(8 * size, max(0, count - 8 * at)) for count in bits]
+        events += receiver.feed(*(lane[at : at + size] for lane in lanes), bits=counts)
+    return events + receiver.finish()
+
+
+def test_events():
+    """Each kind of two small streams, columns counted by hand; the pixels as an array."""
+    lanes, bits = lanes_of(LISTING)
+    line = Line(15, b"\xff\0\0")
+    assert [*vabgrot.receive(*lanes, bits)] == [Run(4, 0, 4), Run(12, 4, 8), line, Run(27, 0, 12), End(27, True)]
+    assert line.pixels.tolist() == [[255, 0, 0]] and line.kind == Kind.LINE
+    lanes, bits = lanes_of(ISLAND)
+    packet = Packet(45, 14, b"\x82\x02\x0d", BODIES, bytes([0, 1, 2, 3] * 8), 0)
+    wanted = [Run(4, 0, 4), Run(12, 0x14, 8), Opening(13, (1, 2)), packet, Closing(47, (3, 0)), Run(60, 0, 12), End(60, True)]
+    assert [*vabgrot.receive(*map(memoryview, lanes), bits)] == wanted
+    lanes, bits = lanes_of(LISTING.replace(b"c 00 12\nend", b"c 00 1\nend"))
+    assert [*vabgrot.receive(*lanes, [140] * 3)][-2:] == [Cut(14, 14), End(14, True)]
+    assert [*vabgrot.receive(b"", b"", b"")] == [End(0, False)]
+
+
+def test_a_fault_in_words():
+    """A character of lane 1 in the second control column."""
+    rows = [list(row) for row in zip(*hearing.sent_columns(LISTING))]
+    rows[1][24] = 0x133
+    lanes = [sum(word << 10 * at for at, word in enumerate(row)).to_bytes(34, "little") for row in rows]
+    (fault,) = (it for it in vabgrot.receive(*lanes, [270] * 3) if isinstance(it, Fault))
+    assert fault == Fault(24, Kind.WORD, 24, lane=1)
+    assert str(fault) == "column 24 on lane 1 (green): word, a character of a control column is no control character"
+
+
+@pytest.mark.parametrize("size", (1, 7, 4095, 100000))
+def test_pieces(size):
+    """Bytes, NumPy arrays, and every second byte of an array, fed in pieces."""
+    _, rows = feeding.made_capture(random.Random("pieces"))
+    lanes = [int(row[::-1], 2).to_bytes((len(row) + 7) // 8, "little") for row in rows]
+    bits = [len(row) for row in rows]
+    arrays = [np.frombuffer(lane, np.uint8) for lane in lanes]
+    wanted = [*vabgrot.receive(*lanes, bits)]
+    with vabgrot.Receiver() as receiver:
+        assert in_pieces(receiver, lanes, bits, size) == wanted
+        receiver.restart()
+        assert in_pieces(receiver, [np.repeat(lane, 2)[::2] for lane in arrays], bits, size) == wanted
+
+
+def test_more_events_than_there_is_room_for():
+    """200,000 columns of which each has another value than the one before, in one feed."""
+    count = 200_000
+    words = np.array([CONTROL[at % 2] for at in range(count)], np.uint16)
+    lane = np.packbits((words[:, None] >> np.arange(10) & 1).astype(np.uint8).reshape(-1), bitorder="little")
+    head = [np.frombuffer(it, np.uint8)[:30] for it in lanes_of(LISTING)[0]]  # 24 columns, the last nine of value 0
+    with vabgrot.Receiver() as receiver:
+        records, data = receiver.feed_arrays(*(np.concatenate([it, lane]) for it in head))
+        assert len(records) == 4 + count - 2 and data == b"\xff\0\0"
+        runs = records[4:]
+        assert (runs["kind"] == Kind.RUN).all() and (runs["column"] == np.arange(26, 24 + count)).all()
+        assert (runs["count"] == 1).all() and set(runs["value"][::2]) == {21} and set(runs["value"][1::2]) == {0}
+        assert receiver.finish()[-1] == End(24 + count, True)
+
+
+def test_misuse():
+    receiver, lanes = vabgrot.Receiver(), (b"ab", b"cd", b"ef")
+    for why, words, bits in (
+        (TypeError, [np.zeros(2, np.uint16)] * 3, None),
+        (TypeError, ["ab"] * 3, None),
+        (vabgrot.Misuse, lanes, [16, 17, 16]),
+        (vabgrot.Misuse, lanes, [16, 16]),
+        (vabgrot.Misuse, lanes, [-1, 16, 16]),
+    ):
+        with pytest.raises(why):
+            receiver.feed(*words, bits=bits)
+    receiver.feed(*lanes, bits=[16, 5, 16])
+    with pytest.raises(vabgrot.Misuse, match="ended"):
+        receiver.feed(*lanes)
+    receiver.restart()
+    assert receiver.feed(*lanes) == [] and receiver.finish() == [End(0, False)]
+    for call in (receiver.finish, lambda: receiver.feed(*lanes), receiver.close, receiver.close, receiver.restart, receiver.finish):
+        if call == receiver.close:
+            call()
+        else:
+            with pytest.raises(vabgrot.Misuse):
+                call()
+
+
+# ---- whole captures
+
+
+def captures(executable):
+    """The name and the bytes of captures: of random bits, of the examples, and of one of them with damage."""
+    for at in range(CAPTURES):
+        yield f"random capture {at}", feeding.made_capture(random.Random(f"library {at}"))[0]
+    for name in ("red", "island", "skewed"):
+        words = ["make", "link", "--offset", "7", "--skew", "0,70,35", "--version", "2"]
+        yield name, run(executable, words, (TOP / "examples" / f"{name}.link").read_bytes())[1]
+    bars = run(executable, ["make", "content"], (TOP / "examples" / "bars.content").read_bytes())[1]
+    yield "bars", bars
+    rng = random.Random("bars")
+    hits = [f"{rng.randrange(3)}:{10 * rng.randrange(len(bars) * 8 // 30)}:{rng.randrange(1024):03x}" for _ in range(50)]
+    yield "damaged bars", run(executable, ["damage", *hits], bars)[1]
+
+
+def shown(recovered):
+    """What a capture carries but for columns, which the program's listing does not always tell; and these."""
+    places = {"column": 0, "first": 0}
+    events = [dataclasses.replace(it, **{name: 0 for name in places if hasattr(it, name)}) for it in recovered.events]
+    packets = [dataclasses.replace(it, **places) for it in recovered.packets]
+    names = [it for it in recovered.faults.dtype.names if it != "column"]
+    samples = recovered.samples[[it for it in recovered.samples.dtype.names if it != "column"]]
+    frames = [(it.shape, it.tobytes()) for it in recovered.frames]
+    columns = [getattr(it, name) for it in recovered.events for name in places if hasattr(it, name)]
+    columns += [*recovered.samples["column"].tolist(), *recovered.faults["column"].tolist(), recovered.columns]
+    return (recovered.aligned, events, packets, recovered.faults[names].tolist(), samples.tolist(), frames), columns
+
+
+def test_recover_by_the_program(executable, compare, monkeypatch):
+    """The library's and the program's say the same, and so do the columns that are told."""
+    monkeypatch.setenv("VABGROT_PROGRAM", executable)
+
+    def cases():
+        for name, data in captures(executable):
+            wanted, places = shown(vabgrot.recover(data))
+            came, told = shown(vabgrot.recover(data, by_program=True))
+            yield name, came, wanted
+            yield f"columns of {name}", [one for one in zip(told, places) if one[0] not in (-1, one[1])], []
+            if name == "bars":
+                yield name, told, places
+
+    compare(cases())
+
+
+def test_recover_a_picture_and_sound(executable, tmp_path):
+    """The frames, the samples and the kinds of packets that were sent."""
+    text = (TOP / "examples" / "bars.content").read_text()
+    rows = [bytes.fromhex(row) for row in re.findall(r"(?m)^row (.*)$", text)]
+    sizes = [(int(rows), int(columns), 3) for columns, rows in re.findall(r"(?m)^frame (\d+) (\d+)$", text)]
+    path = tmp_path / "bars.tmc"
+    path.write_bytes(run(executable, ["make", "content", "--offset", "123"], text.encode())[1])
+    came = vabgrot.recover(path)
+    assert came.aligned and not len(came.faults)
+    assert [it.shape for it in came.frames] == sizes and b"".join(it.tobytes() for it in came.frames) == b"".join(rows)
+    sent = [line.split() for line in re.findall(r"(?m)^s (.*)$", text)]
+    wanted = [(int(it[0], 16), int(it[1], 16), int(it[2]), int(it[3]), it[4] == "1", 0) for it in sent]
+    heard = [(*(side & 0xFFFFFF for side in it[1:3]), it[3] & 7, it[4] & 7, *it[5:]) for it in came.samples.tolist()]
+    assert heard == wanted
+    assert {it.header[0] for it in came.packets} == {1, 2, 0x82, 0x84}
+
+
+def test_recover_refuses(tmp_path):
+    for data in (b"", b"TMC3", b"TMC1\0\0\0\x10"):
+        with pytest.raises(vabgrot.Refused):
+            vabgrot.recover(data)
+    with pytest.raises(OSError):
+        vabgrot.recover(tmp_path / "none")
+
+
+# ---- a test bench
+
+
+def test_the_bench():
+    """A clean stream, one damaged character of a control period, and one of a line."""
+    spec = importlib.util.spec_from_file_location("bench", TOP / "examples" / "python" / "bench.py")
+    bench = importlib.util.module_from_spec(spec)
+    spec.loader.exec_module(bench)
+    text = (TOP / "examples" / "red.link").read_bytes()
+    columns = [*hearing.sent_columns(text)] * 3
+
+    def heard(columns):
+        with bench.Link(clocks=40) as link:
+            for words in columns:
+                link.tick(*words)
+            return link.finish(), link.events
+
+    count, events = heard(columns)
+    assert count <= len(columns) and sum(isinstance(it, Line) for it in events) == 3 * text.count(b"v ")
+    before, at = len(columns) - count, len(columns) - 3
+    hurt = [*columns[:at], (columns[at][0], columns[at][1], 0x133), *columns[at + 1 :]]
+    with pytest.raises(bench.LinkFault, match=rf"column {at - before} on lane 2 \(red\): word, a character of a control column is no"):
+        heard(hurt)
+    with pytest.raises(bench.LinkFault, match="not aligned in 3 clocks"):
+        heard(columns[:3])
+
+
+# ---- where the library is
+
+
+def python(source, folder, **env):
+    """Runs Python with a package folder on its path; no variable names a library."""
+    env = {**{name: it for name, it in os.environ.items() if not name.startswith("VABGROT")}, "PYTHONPATH": str(folder), **env}
+    return subprocess.run([sys.executable, "-c", source], capture_output=True, text=True, env=env, timeout=HANGS)
+
+
+def test_the_package_alone():
+    """What is imported of the package itself needs neither NumPy nor the library."""
+    came = python("import sys, vabgrot; print('numpy' in sys.modules, 'ctypes' in sys.modules, vabgrot.Refused.__name__)", TOP / "python")
+    assert came.stdout == "False False Refused\n", came.stderr
+    assert "no attribute 'nothing'" in python("import vabgrot; vabgrot.nothing", TOP / "python").stderr
+
+
+def test_an_installed_library_is_found(found, tmp_path):
+    """Laid out as `./vabgrot install` does: PREFIX/lib/libvabgrot.so.1 and PREFIX/lib/vabgrot/python."""
+    shutil.copytree(TOP / "python", tmp_path / "lib" / "vabgrot" / "python")
+    source = "import vabgrot; print(*vabgrot.receive(b'', b'', b''))"
+    come = tmp_path / "lib" / "vabgrot" / "python"
+    missing = python(source, come)
+    assert missing.returncode == 1 and "NoLibrary: there is no C library" in missing.stderr
+    shutil.copy(found, tmp_path / "lib")
+    came = python(source, come)
+    assert came.stdout == "End(column=0, aligned=False)\n", came.stderr
+    assert "and there is no such file" in python(source, come, VABGROT_LIBRARY="/none").stderr
+
+
+# ---- docs/guide/LIBRARY.md
+
+
+@pytest.fixture(scope="module")
+def bars(executable, tmp_path_factory):
+    """The folder of a capture with one damaged character, and of the bits of its lanes."""
+    folder = tmp_path_factory.mktemp("guide")
+    data = run(executable, ["make", "content"], (TOP / "examples" / "bars.content").read_bytes())[1]
+    data = run(executable, ["damage", "2:28450:0ab"], data)[1]
+    (folder / "bars.tmc").write_bytes(data)
+    for name, lane in zip(("blue", "green", "red"), capture.lanes_of(data)[0]):
+        (folder / name).write_bytes(lane)
+    return folder
+
+
+def blocks(language):
+    return re.findall(rf"(?ms)^```{language}\n(.*?)^```", (TOP / "docs" / "guide" / "LIBRARY.md").read_text())
+
+
+def test_c_as_printed(bars, compiled):
+    (source,) = blocks("c")
+    (bars / "count.c").write_text(source)
+    came = subprocess.run([compiled(bars / "count.c"), "blue", "green", "red"], cwd=bars, capture_output=True, text=True, timeout=HANGS)
+    columns = 3 * (32 + 8 + 16 + 64) * (8 + 2 + 2 + 3) + 32  # three frames of the listing's mode, and the columns after the last
+    assert (came.returncode, came.stdout) == (0, f"{columns} columns, 24 lines, 1 faults\n")
+
+
+def test_python_as_printed(bars, found):
+    """The events of three files, a whole capture, and pieces."""
+    lanes, whole = ["blue", "green", "red"], ["bars.tmc"]
+    says = []
+    for source, words in zip(blocks("python"), (lanes, whole, lanes), strict=True):
+        env = {**os.environ, "PYTHONPATH": str(TOP / "python")}
+        came = subprocess.run([sys.executable, "-c", source, *words], cwd=bars, capture_output=True, text=True, env=env, timeout=HANGS)
+        assert came.returncode == 0, came.stderr
+        says.append(came.stdout)
+    assert "a line of 32 pixels" in says[0] and "on lane 2 (red): code, the first character of a row on its lane" in says[0]
+    assert says[0].endswith(" columns, aligned\n")
+    assert says[1].count("(8, 32, 3)\n") == 3 and "packets" in says[1] and "'code', 2)" in says[1]
+    assert " faults, " in says[2] and says[2].endswith("aligned=True)\n")
+
+
+def test_without_the_library_the_program_hears(executable, monkeypatch):
+    monkeypatch.delenv("VABGROT_LIBRARY")
+    monkeypatch.setattr(library, "BESIDE", TOP / "none")
+    monkeypatch.setattr(library, "NAME", "libnone.so.1")
+    monkeypatch.setenv("VABGROT_PROGRAM", executable)
+    data = run(executable, ["make", "link"], LISTING)[1]
+    with pytest.raises(vabgrot.NoLibrary):
+        vabgrot.Receiver()
+    assert vabgrot.recover(data).events[2].data == b"\xff\0\0"
