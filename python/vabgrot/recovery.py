@@ -181,13 +181,20 @@ def listed(data: bytes) -> Recovered:
         file.flush()
         records = ListedRecords()
         with program.Run(words, file.name) as run:
-            for thing in Columns(is_dvi=False).things(listing.lines(run.output, listing.LINK, is_whole=False)):
+            for thing in Told(is_dvi=False).things(listing.lines(run.output, listing.LINK, is_whole=False)):
                 records.take(thing)
     if run.status == program.NO_ALIGNMENT:
         return Recovered([], End(0, False))
     if run.status not in (0, 1):
         raise Refused(f"the program's `{' '.join(words)}` ended with {run.status}: {program.explained(run.note)}")
     return Recovered([Arrays(np.array(records.found, RECORD), bytes(records.data))], End(records.columns, True))
+
+
+class Told(Columns):
+    """Columns that are certain by the lines of a listing alone."""
+
+    def count_line(self) -> None:
+        """That HSYNC rises is no proof of a column: damage moves it."""
 
 
 class ListedRecords:

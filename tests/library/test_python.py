@@ -136,6 +136,9 @@ def captures(executable):
     rng = random.Random("bars")
     hits = [f"{rng.randrange(3)}:{10 * rng.randrange(len(bars) * 8 // 30)}:{rng.randrange(1024):03x}" for _ in range(50)]
     yield "damaged bars", run(executable, ["damage", *hits], bars)[1]
+    for at in (0, 400, 1000):  # columns from the end of a line on, and HSYNC in them, are other ones
+        hits = [f"{lane}:{10 * (2000 + at + it)}:{rng.choice((*CONTROL, 0x133)):03x}" for it in range(60) for lane in range(3)]
+        yield f"bars with a burst at {at}", run(executable, ["damage", *hits], bars)[1]
 
 
 def shown(recovered):
