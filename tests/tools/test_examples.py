@@ -6,7 +6,7 @@ import pytest
 
 from tests.support import HANGS, TOP, built
 
-TOOLS = ["characters", "compare", "conform", "content", "errors", "lanes", "pictures", "report", "slice", "sound", "survey", "timing"]
+TOOLS = ["characters", "compare", "conform", "content", "errors", "lanes", "pictures", "report", "slice", "sound", "survey", "timing", "watch"]
 
 
 def commands(text):

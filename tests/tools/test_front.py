@@ -195,6 +195,7 @@ def test_package(front, tmp_path):
     needed = {"python3", "python3-jinja2", "python3-numpy", "python3-pil", "python3-png", "python3-soundfile", "python3-tqdm", "libc6"}
     assert {part.split()[0] for part in fields["Depends"].split(", ")} == needed
     recommended = {"python3-junitparser", "python3-matplotlib", "python3-numba", "python3-scipy", "python3-skimage"}
+    recommended |= {"python3-prometheus-client", "python3-rich"}
     assert recommended == set(fields["Recommends"].split(", "))
     asked = re.search(r"(?m)^apt-get install ((?:.*\\\n)*.*)$", (TOP / "README.md").read_text())[1].replace("\\\n", " ").split()
     assert {it for it in asked if it[0] != "-"} == (needed | recommended) - {"libc6", "python3"}

@@ -4,13 +4,18 @@ import importlib
 import sys
 from collections.abc import Sequence
 
-NAMES = ("characters", "compare", "conform", "content", "errors", "lanes", "pictures", "report", "slice", "sound", "survey", "timing")
+NAMES = (
+    *("characters", "compare", "conform", "content", "errors", "lanes", "pictures"),
+    *("report", "slice", "sound", "survey", "timing", "watch"),
+)
 # Debian's packages, by their modules.
 PACKAGES = {
     "PIL": "python3-pil",
     "jinja2": "python3-jinja2",
     "numpy": "python3-numpy",
     "png": "python3-png",
+    "prometheus_client": "python3-prometheus-client",
+    "rich": "python3-rich",
     "scipy": "python3-scipy",
     "skimage": "python3-skimage",
     "soundfile": "python3-soundfile",

@@ -1,0 +1,235 @@
+"""What a link carries while it comes in: a view in a terminal, counters, and a log of its faults."""
+
+from __future__ import annotations
+
+import argparse
+import contextlib
+import csv
+import os
+import re
+import select
+import signal
+import sys
+import time
+from collections.abc import Callable, Iterator, Sequence
+from dataclasses import dataclass
+from pathlib import Path
+from typing import Any, Protocol
+
+from vabgrot import command, place, program
+from vabgrot.errors import Refused
+from vabgrot.tools.timing import positive
+from vabgrot.video.matching import Rate
+from vabgrot.watching.counting import Count, Fault, Pieces
+from vabgrot.watching.feeding import Feed
+from vabgrot.watching.looking import Looks
+from vabgrot.watching.state import State
+
+TEXT = """Shows a capture while it comes in, from standard input, a FIFO, or a file that grows: whether the lanes are aligned and since
+when, columns a second, the video format, frames, faults by kind and lane, packets as they stand, sound levels, the last ten faults,
+and a small picture of the last frame. All faults and columns are counted; the view takes a tenth of the time at most, and says where
+that is not enough to look at all frames. The keyboard (Ctrl-C) ends it, with a summary. Where the output is no terminal a line is
+written each second."""
+FAULTY = "done, and a fault came, or the lanes were not aligned"
+EXAMPLES = """./vabgrot make content < examples/bars.content | tools/watch
+mkfifo taps; tools/watch --log faults.csv taps
+tools/watch --follow --metrics 9100 growing.tmc"""
+FAULT = re.compile(rb"^! .*\n", re.MULTILINE)
+EACH = 0.25  # seconds between two views, at least
+SECOND = 1.0
+HEADS = ("seconds", "kind", "lane", "epoch", "column", "numbers")
+
+
+class View(Protocol):
+    """Shows a state again and again."""
+
+    each: float
+
+    def show(self) -> None: ...
+
+
+@dataclass
+class Plain:
+    """Writes a line a second."""
+
+    state: State
+    each: float = SECOND
+
+    def show(self) -> None:
+        """Writes a line."""
+        print(self.state.line(), flush=True)
+
+
+@dataclass
+class Screen:
+    """Draws a view in a terminal."""
+
+    state: State
+    live: Any
+    each: float = EACH
+
+    def show(self) -> None:
+        """Draws it anew."""
+        from vabgrot.watching.screen import view
+
+        with self.state.looks.budget:
+            self.state.looks.keep()
+            self.live.update(view(self.state, *self.live.console.size), refresh=True)
+
+
+@contextlib.contextmanager
+def viewing(state: State, is_plain: bool) -> Iterator[View]:
+    """A view; that of a terminal stays there when it ends."""
+    if is_plain:
+        yield Plain(state)
+        return
+    from rich.console import Console
+    from rich.live import Live
+
+    from vabgrot.watching.screen import view
+
+    console = Console(highlight=False)
+    with Live(console=console, screen=True, auto_refresh=False) as live:
+        yield Screen(state, live)
+    console.print(view(state, console.size.width, console.size.height))
+
+
+@contextlib.contextmanager
+def logging(path: Path | None, state: State) -> Iterator[Callable[[Fault], None] | None]:
+    """What writes each fault into a CSV file as it comes; None where none is wanted."""
+    if path is None:
+        yield None
+        return
+    with open(path, "w", encoding="utf-8", newline="", buffering=1 << 16) as file:
+        rows = csv.writer(file, lineterminator="\n")
+        rows.writerow(HEADS)
+
+        def write(fault: Fault) -> None:
+            lane = "" if fault.lane is None else fault.lane
+            rows.writerow((f"{state.seconds:.3f}", fault.kind, lane, fault.epoch, fault.column, " ".join(map(str, fault.more))))
+
+        yield write
+
+
+@contextlib.contextmanager
+def opened(path: str, grows: bool) -> Iterator[int]:
+    """The file that a capture comes from."""
+    if path == "-":
+        yield sys.stdin.fileno()
+        return
+    file = os.open(path, os.O_RDONLY)
+    try:
+        yield file
+    finally:
+        os.close(file)
+
+
+@dataclass
+class Watch:
+    """Takes what the program writes until it ends."""
+
+    state: State
+    ear: Callable[[Fault], None] | None
+    stops: bool
+
+    def run(self, view: View) -> bool:
+        """Answers whether it came to its end, and was not stopped."""
+        shown, is_stopped, output = time.monotonic(), False, self.state.feed.output
+        pieces = Pieces(output)
+        while True:
+            try:
+                due = max(0.0, shown + view.each - time.monotonic())
+                if select.select([output], [], [], due)[0]:
+                    if not self.take(pieces.read()):
+                        return False
+                    if pieces.is_ended:
+                        return not is_stopped
+                self.state.sample()
+                if time.monotonic() >= shown + view.each:
+                    view.show()
+                    shown = time.monotonic()
+            except KeyboardInterrupt:
+                if is_stopped:
+                    raise
+                is_stopped = True
+                self.state.feed.stop()
+
+    def take(self, text: memoryview) -> bool:
+        """Whole lines; answers whether more is wanted."""
+        first = FAULT.search(text) if self.stops else None
+        text = text[: first.end()] if first else text
+        if text:
+            self.state.count.take(text, self.ear)
+            self.state.looks.take(text)
+        return not first
+
+
+def ended(state: State, is_whole: bool) -> int:
+    """What is said at the end, and the status."""
+    status, note = state.feed.end() if is_whole else (int(state.count.total > 0), "")
+    print("\n".join(state.summary()))
+    if state.feed.error:
+        raise state.feed.error
+    if status == program.NO_ALIGNMENT:
+        print(place.named("no alignment: `tools/lanes look` says what the lanes have"))
+    elif status == program.NO_CAPTURE:
+        raise Refused(program.explained(note))
+    elif status not in (0, 1):
+        raise Refused(note or f"status {status}")
+    return command.FAULTY if status else command.DONE
+
+
+def port(text: str) -> int:
+    """A port of the command line."""
+    if not text.isdecimal() or not 0 < int(text) < 1 << 16:
+        raise argparse.ArgumentTypeError("a port of 1 to 65535 is wanted")
+    return int(text)
+
+
+def parser() -> argparse.ArgumentParser:
+    """The words."""
+    found = command.parser("watch", TEXT, FAULTY, EXAMPLES)
+    found.add_argument("capture", metavar="CAPTURE", nargs="?", default="-", help="a file or a FIFO; if left out standard input")
+    found.add_argument("--follow", action="store_true", help="at the end of what is there wait for more, until the capture is whole")
+    kind = found.add_mutually_exclusive_group()
+    kind.add_argument("--dvi", action="store_true", help="the source is one of DVI, without guard bands and islands")
+    kind.add_argument("--slips", action="store_true", help="lanes may lose bits: they are aligned anew")
+    rate = found.add_mutually_exclusive_group()
+    rate.add_argument("--clock", type=positive, metavar="HZ", help="the pixel clock of the link")
+    text = "the frames a second of the link, or the fields where it is interlaced"
+    rate.add_argument("--rate", type=positive, metavar="FIELDS_PER_SECOND", help=text)
+    found.add_argument("--log", type=Path, metavar="FILE.csv", help="write each fault into a table, as it comes")
+    found.add_argument("--metrics", type=port, metavar="PORT", help="serve counters for Prometheus on this port of the loopback")
+    found.add_argument("--stop-on-fault", action="store_true", help="end at the first fault")
+    found.add_argument("--plain", action="store_true", help="write a line a second, no view")
+    return found
+
+
+def work(argv: Sequence[str] | None) -> int:
+    args = parser().parse_args(argv)
+    if args.capture == "-" and sys.stdin.isatty():
+        raise Refused("standard input is a terminal: a capture is wanted there, or the name of a file")
+    is_plain = args.plain or not sys.stdout.isatty()
+    words = ["recover", "dvi" if args.dvi else "track" if args.slips else "link"]
+    signal.signal(signal.SIGTERM, signal.default_int_handler)
+    with opened(args.capture, args.follow) as source:
+        feed = Feed(words, source, args.follow)
+        try:
+            state = State(feed, Count(guards=0 if args.dvi else 2), Looks(args.dvi, Rate(args.clock, args.rate)))
+            if args.metrics:
+                from vabgrot.watching.metrics import serve
+
+                serve(state, args.metrics)
+            with logging(args.log, state) as ear:
+                watch = Watch(state, ear, args.stop_on_fault)
+                with viewing(state, is_plain) as view:
+                    is_whole = watch.run(view)
+                    state.end()
+            return ended(state, is_whole)
+        finally:
+            feed.kill()
+
+
+def main(argv: Sequence[str] | None = None) -> int:
+    """Runs the tool over its words, those of the command line if none are given; answers its status."""
+    return command.run("watch", lambda: work(argv))

@@ -1,0 +1,163 @@
+"""What is known of a watched link at a moment, in words."""
+
+from __future__ import annotations
+
+import time
+from collections import Counter, deque
+from dataclasses import dataclass, field
+from typing import NamedTuple
+
+from vabgrot.formats.characters import LANES, TEN
+from vabgrot.video.matching import counted
+from vabgrot.video.timings import DEPTH
+from vabgrot.watching.counting import Count, Fault, Key
+from vabgrot.watching.feeding import Feed, bits_of
+from vabgrot.watching.looking import Looks
+
+SECOND, STEP = 1.0, 0.1  # what "the last second" is, and how far its samples are apart
+UNITS = ((1e9, "G"), (1e6, "M"), (1e3, "k"))
+
+
+class Sample(NamedTuple):
+    """What had come at a moment."""
+
+    at: float
+    bytes: int
+    faults: Counter[Key]
+
+
+def short(number: float) -> str:
+    """A number of three digits and a unit."""
+    for unit, name in UNITS:
+        if number >= unit:
+            return f"{number / unit:.3g} {name}"
+    return f"{number:.0f}"
+
+
+def lane_of(key: Key) -> str:
+    """A lane in words; nothing of a fault without one."""
+    return "" if key[1] is None else LANES[key[1]]
+
+
+def place_of(fault: Fault) -> str:
+    """A fault in words: where it is, and its numbers."""
+    lane = f", {LANES[fault.lane]}" if fault.lane is not None else ""
+    more = f", {' '.join(map(str, fault.more))}" if fault.more else ""
+    if fault.kind == "slip":
+        return f"slip: bit {fault.column:,}{lane}"
+    behind = f" behind slip {fault.epoch}" if fault.epoch else ""
+    return f"{fault.kind}: column {fault.column:,}{behind}{lane}{more}"
+
+
+@dataclass
+class State:
+    """What was counted, what was looked at, and when."""
+
+    feed: Feed
+    count: Count
+    looks: Looks
+    began: float = field(default_factory=time.monotonic)
+    samples: deque[Sample] = field(default_factory=deque)
+    is_ended: bool = False
+    ended: float = 0.0
+
+    def sample(self) -> None:
+        """Notes what has come until now."""
+        now = time.monotonic()
+        if self.samples and now - self.samples[-1].at < STEP:
+            return
+        self.samples.append(Sample(now, self.feed.bytes, self.count.faults.copy()))
+        while len(self.samples) > 2 and self.samples[1].at <= now - SECOND:
+            self.samples.popleft()
+
+    def end(self) -> None:
+        """No more comes."""
+        self.is_ended, self.ended = True, time.monotonic()
+        self.looks.keep(is_last=True)
+
+    @property
+    def seconds(self) -> float:
+        """How long it was watched."""
+        return (self.ended if self.is_ended else time.monotonic()) - self.began
+
+    @property
+    def recent(self) -> Counter[Key]:
+        """The faults of the last second."""
+        return self.count.faults - self.samples[0].faults if self.samples else self.count.faults.copy()
+
+    @property
+    def bits(self) -> int:
+        """How many bits of each lane came, as far as its header tells."""
+        return self.feed.bytes * 8 // 3
+
+    @property
+    def columns(self) -> float:
+        """The columns a second: of the last one, and at the end of all of it."""
+        first, last = Sample(self.began, 0, Counter()), Sample(self.began + self.seconds, self.feed.bytes, Counter())
+        if self.samples and not self.is_ended:
+            first, last = self.samples[0], Sample(time.monotonic(), self.feed.bytes, Counter())
+        return (last.bytes - first.bytes) * 8 / (3 * TEN) / max(last.at - first.at, 1e-3)
+
+    @property
+    def clock(self) -> float | None:
+        """The columns a second that the link has by its format; None where that is not known."""
+        timing = self.looks.timing
+        if timing is None:
+            return None
+        clock = timing.clock or (timing.matched.wanted.clock if timing.matched.equal and timing.matched.wanted else None)
+        return clock and clock * timing.raster.bits / DEPTH
+
+    def aligned(self) -> str:
+        """Whether the lanes are aligned, and since when."""
+        count = self.count
+        slip, slips = count.slip, counted(count.epoch, "slip")
+        behind = f" behind the slip at bit {slip.column:,} ({slips})" if slip else ""
+        if count.is_aligned:
+            return f"aligned for {count.columns:,} columns{behind}"
+        return f"not aligned{behind}: {counted(self.bits, 'bit')} a lane came"
+
+    def rate(self) -> str:
+        """How fast it comes."""
+        words = f"{short(self.columns)} columns a second"
+        if clock := self.clock:
+            words += f", {self.columns / clock:.2f} of the link's {clock / 1e6:,.6g} M"
+        return words + (f" ({self.progress})" if self.progress else "")
+
+    @property
+    def progress(self) -> str:
+        """How much of the capture came; nothing where its header does not tell its length."""
+        bits = max(bits_of(self.feed.head), default=0)
+        return f"{min(self.bits / bits, 1):.0%} of {bits:,} bits a lane" if bits else ""
+
+    def format(self) -> str:
+        """The video format."""
+        timing = self.looks.timing
+        if timing is None:
+            return "no raster was seen"
+        width, rows = timing.raster.size
+        return f"{width:,} × {rows if rows is not None else '?'}{', interlaced' * bool(timing.raster.interlaced)}: {timing.head.text}"
+
+    def frames(self) -> str:
+        """How many frames came, and whether all of them were looked at."""
+        words = counted(self.count.syncs.frames, "whole frame")
+        if self.looks.is_behind:
+            words += f", {self.looks.looked:,} looked at: the view cannot follow, all faults and columns are counted"
+        return words
+
+    def faults(self) -> str:
+        """How many faults came."""
+        return f"{counted(self.count.total, 'fault')}, {sum(self.recent.values()):,} in the last second"
+
+    def line(self) -> str:
+        """All of it in one line."""
+        return f"{self.seconds:.0f} s: {self.aligned()}; {self.rate()}; {self.frames()}; {self.faults()}"
+
+    def summary(self) -> list[str]:
+        """What is said at the end."""
+        lines = [f"watched for {self.seconds:.1f} s: {self.aligned()}", f"{self.rate()}", self.format(), self.frames()]
+        lines += [f"{times:,} {kind}{f', {lane_of((kind, lane))}' if lane is not None else ''}" for (kind, lane), times in self.table()]
+        return lines + ([] if self.count.total else ["no fault"])
+
+    def table(self) -> list[tuple[Key, int]]:
+        """The faults by kind and lane."""
+        return sorted(self.count.faults.items(), key=lambda one: (one[0][0], -1 if one[0][1] is None else one[0][1]))
