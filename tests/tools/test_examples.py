@@ -6,7 +6,8 @@ import pytest
 
 from tests.support import HANGS, TOP, built
 
-TOOLS = ["characters", "compare", "conform", "content", "errors", "lanes", "pictures", "report", "slice", "sound", "survey", "timing", "watch"]
+TOOLS = ["characters", "compare", "conform", "content", "errors", "lanes", "pictures", "report", "slice", "sound", "survey", "timing"]
+TOOLS += ["watch"]
 
 
 def commands(text):

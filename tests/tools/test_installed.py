@@ -109,7 +109,7 @@ CLEAN = """set -eu
 export LC_ALL=C.UTF-8 HOME=$(mktemp -d)
 ! command -v rt
 cd "$HOME"
-for tool in conform content lanes pictures report slice sound survey timing; do
+for tool in conform content lanes pictures report slice sound survey timing watch; do
   mkdir "$HOME/$tool" && cd "$HOME/$tool"
   vabgrot-$tool --help | sed '1,/^Examples/d; s/--eye eye.png//' > examples && bash -eu -o pipefail examples
 done

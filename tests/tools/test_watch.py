@@ -162,7 +162,7 @@ def test_without_a_terminal(captures, tmp_path):
     out, _ = said(captures["slipped"], "--slips", status=1)
     assert "behind the slip at bit " in out and "1 slip, lane 2 (red)\n" in out
     out, why = said(captures["cut"], status=3)
-    assert "3 whole frames\n" in out and why.endswith(f"(input: short {len(captures['cut'])})\n")
+    assert "1 whole frame\n" in out and why.endswith(f"(input: short {len(captures['cut'])})\n")
     assert "tools/lanes look" in said(b"TMC1" + (80_000).to_bytes(4, "big") + bytes(30_000), status=1)[0]
     assert "no capture, which begins with TMC" in said(b"no capture", status=3)[1]
     assert said(b"", "--slips", "--dvi", status=2)[1].startswith("usage: ")
@@ -185,7 +185,7 @@ def test_a_file_that_grows(captures, tmp_path):
 
 
 def test_metrics(captures, tmp_path):
-    """A scrape while more is waited for; the port is one of the loopback."""
+    """A scrape while more is waited for, which the last twelve of 75 columns need; the port is one of the loopback."""
     pytest.importorskip("prometheus_client", reason="Debian's package python3-prometheus-client is missing")
     with socket.socket() as free:
         free.bind(("127.0.0.1", 0))
@@ -194,7 +194,7 @@ def test_metrics(captures, tmp_path):
     watch = subprocess.Popen([*WATCH, tmp_path / "taps", "--metrics", str(port)], stdout=subprocess.PIPE, stderr=subprocess.PIPE)
     with open(tmp_path / "taps", "wb", buffering=0) as taps:
         taps.write(captures["worn"])
-        wanted, end = ['vabgrot_faults_total{kind="mended",lane=""} 1.0', "vabgrot_columns_total 75.0"], time.monotonic() + HANGS
+        wanted, end = ['vabgrot_faults_total{kind="mended",lane=""} 1.0', "vabgrot_columns_total 63.0"], time.monotonic() + HANGS
         text = ""
         while time.monotonic() < end and wanted[0] not in text:
             try:

@@ -31,9 +31,9 @@ and a small picture of the last frame. All faults and columns are counted; the v
 that is not enough to look at all frames. The keyboard (Ctrl-C) ends it, with a summary. Where the output is no terminal a line is
 written each second."""
 FAULTY = "done, and a fault came, or the lanes were not aligned"
-EXAMPLES = """./vabgrot make content < examples/bars.content | tools/watch
-mkfifo taps; tools/watch --log faults.csv taps
-tools/watch --follow --metrics 9100 growing.tmc"""
+EXAMPLES = """./vabgrot make content < examples/bars.content > bars.tmc
+cat bars.tmc | tools/watch --log faults.csv
+tools/watch --follow --stop-on-fault bars.tmc"""
 FAULT = re.compile(rb"^! .*\n", re.MULTILINE)
 EACH = 0.25  # seconds between two views, at least
 SECOND = 1.0
