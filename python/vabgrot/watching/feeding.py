@@ -9,6 +9,7 @@ import os
 import select
 import signal
 import subprocess
+import sys
 import threading
 from collections.abc import Callable, Iterator, Sequence
 
@@ -16,6 +17,7 @@ from vabgrot import program
 
 PIECE = 1 << 20  # bytes that are moved at a time, at most
 HEADS = {b"TMC1": 8, b"TMC2": 16}  # how a capture begins, and the bytes of its header
+SWITCH = 2e-4  # seconds after which the thread that feeds gets its turn: a full pipe lasts the program some milliseconds
 PAUSE = 100  # milliseconds after which a file that grows is looked at again
 WITHOUT_SPLICE = (errno.EINVAL, errno.ENOSYS, errno.EPERM)
 
@@ -56,6 +58,7 @@ class Feed:
             with contextlib.suppress(OSError, AttributeError):  # where the system lets no pipe be so large, or is another one
                 fcntl.fcntl(pipe, fcntl.F_SETPIPE_SZ, program.PIPE)
         self.is_stopped = False
+        sys.setswitchinterval(SWITCH)
         self.thread = threading.Thread(target=self.run, daemon=True)
         self.thread.start()
 
