@@ -3,6 +3,7 @@
 
     build.py
     build.py library    the archive of the C library in place of the program, of which library/build makes libvabgrot
+    build.py library --over-ci      the same over the libraries that `rt ci` has just proved, which it left: nothing below is proved anew
 
 Crates are proved side by side, each once those below it are. The one with the most code left above it goes first, at all
 processors, and each gives way to those with more, since they decide when the last crate can begin. The kit's prover is called crate
@@ -113,6 +114,11 @@ class Crate:
         return self.folder / "out/built" / name
 
     @property
+    def left(self):
+        """The library that `rt ci` left of the crate."""
+        return self.folder / "out/rlib" / f"{self.name}.rlib"
+
+    @property
     def made_from(self):
         """The file that has the sum of all that was read for `made`."""
         return self.folder / "out/built/sum"
@@ -150,14 +156,14 @@ class Crate:
     def is_current(self):
         return self.made.exists() and self.made_from.is_file() and self.made_from.read_text() == self.sum
 
-    def command(self, jobs):
-        """The command that proves it, `jobs` modules at a time, and writes what it makes."""
+    def command(self, jobs, place=lambda it: it.made):
+        """The command that proves it, `jobs` modules at a time, over libraries at their places, and writes what it makes."""
         words = [*self.kit.prover, "--crate-name", self.name, "src/main.rt" if self.is_program else "src/lib.rt", "--jobs", jobs]
         for name in ("std", *self.libraries):
             words += ["--extern", f"{name}={self.kit.libraries / name}.rlib"]
         for used in self.uses:
-            words += ["--extern", f"{used.name}={used.made}"]
-        for folder in (self.kit.libraries, *(it.made.parent for it in self.below)):
+            words += ["--extern", f"{used.name}={place(used)}"]
+        for folder in (self.kit.libraries, *(place(it).parent for it in self.below)):
             words += ["-L", f"dependency={folder}"]
         words += ["--crate-type", "staticlib"] if self.is_archive else []
         words += ["--backend", "llvm", *self.kit.compiler] if self.is_program or self.is_archive else ["--statements"]
@@ -294,6 +300,14 @@ def build(kit, top):
     return 1 if linked.returncode else 0
 
 
+def build_over_ci(kit):
+    """Proves the crate of the C library alone, over the libraries that `rt ci` left."""
+    archive = read_crates(kit, LIBRARY)[-1]
+    archive.made.parent.mkdir(parents=True, exist_ok=True)
+    words = archive.command(processors(), lambda it: it.left)
+    return subprocess.run(words, cwd=archive.folder, stdin=subprocess.DEVNULL, check=False).returncode
+
+
 def build_by_rt():
     """Has `rt run` build the program. It runs it too, and the program without words only says how it is used."""
     ran = subprocess.run(["rt", "run"], cwd=TOP / "crates" / PROGRAM, stdin=subprocess.DEVNULL, capture_output=True, text=True)
@@ -317,6 +331,7 @@ def build_library_by_rt():
 
 def main():
     is_library = sys.argv[1:] == ["library"]
+    is_over_ci = sys.argv[1:] == ["library", "--over-ci"]
     try:
         kit = Kit.found()
     except (OSError, subprocess.CalledProcessError):
@@ -325,6 +340,8 @@ def main():
     for end in ENDS:
         signal.signal(end, lambda *_: sys.exit(1))
     began = time.time()
+    if is_over_ci:
+        return build_over_ci(kit)
     if is_library:
         return build(kit, LIBRARY) if kit.is_known() else build_library_by_rt()
     status = build(kit, PROGRAM) if kit.is_known() else build_by_rt()

@@ -14,6 +14,7 @@ import time
 from collections.abc import Callable, Iterator, Sequence
 from dataclasses import dataclass
 from pathlib import Path
+from types import FrameType
 from typing import Any, Protocol
 
 from vabgrot import command, place, program
@@ -134,25 +135,19 @@ class Watch:
 
     def run(self, view: View) -> bool:
         """Answers whether it came to its end, and was not stopped."""
-        shown, is_stopped, output = time.monotonic(), False, self.state.feed.output
-        pieces = Pieces(output)
+        shown, feed = time.monotonic(), self.state.feed
+        pieces = Pieces(feed.output)
         while True:
-            try:
-                due = max(0.0, shown + view.each - time.monotonic())
-                if select.select([output], [], [], due)[0]:
-                    if not self.take(pieces.read()):
-                        return False
-                    if pieces.is_ended:
-                        return not is_stopped
-                self.state.sample()
-                if time.monotonic() >= shown + view.each:
-                    view.show()
-                    shown = time.monotonic()
-            except KeyboardInterrupt:
-                if is_stopped:
-                    raise
-                is_stopped = True
-                self.state.feed.stop()
+            due = max(0.0, shown + view.each - time.monotonic())
+            if select.select([feed.output], [], [], due)[0]:
+                if not self.take(pieces.read()):
+                    return False
+                if pieces.is_ended:
+                    return not feed.is_stopped
+            self.state.sample()
+            if time.monotonic() >= shown + view.each:
+                view.show()
+                shown = time.monotonic()
 
     def take(self, text: memoryview) -> bool:
         """Whole lines; answers whether more is wanted."""
@@ -205,16 +200,29 @@ def parser() -> argparse.ArgumentParser:
     return found
 
 
+def stop_on_signals(feed: Feed) -> None:
+    """The first Ctrl-C or SIGTERM ends the input; the second one ends the tool. A handler raises nothing the first time, so that none is
+    lost, wherever it comes."""
+
+    def stop(number: int, frame: FrameType | None) -> None:
+        if feed.is_stopped:
+            signal.default_int_handler(number, frame)
+        feed.stop()
+
+    signal.signal(signal.SIGINT, stop)
+    signal.signal(signal.SIGTERM, stop)
+
+
 def work(argv: Sequence[str] | None) -> int:
     args = parser().parse_args(argv)
     if args.capture == "-" and sys.stdin.isatty():
         raise Refused("standard input is a terminal: a capture is wanted there, or the name of a file")
     is_plain = args.plain or not sys.stdout.isatty()
     words = ["recover", "dvi" if args.dvi else "track" if args.slips else "link"]
-    signal.signal(signal.SIGTERM, signal.default_int_handler)
     with opened(args.capture, args.follow) as source:
         feed = Feed(words, source, args.follow)
         try:
+            stop_on_signals(feed)
             state = State(feed, Count(guards=0 if args.dvi else 2), Looks(args.dvi, Rate(args.clock, args.rate)))
             if args.metrics:
                 from vabgrot.watching.metrics import serve
