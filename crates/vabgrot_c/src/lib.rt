@@ -8,9 +8,10 @@ ghost use Rattle.link_sink.specs.Sinks.{Fed, IsGainAt, IsLast};
 ghost use Rattle.link_sink.specs.Pieces.{no_bits};
 ghost use Rattle.link_sink.specs.declared.hear.Outcome.{Outcome as OutcomeValue};
 ghost use Rattle.c_room.specs.Handles.{IsHandle, Holds, IsOpen, MayFeedAll, AreFewMore};
-ghost use Rattle.c_room.specs.Statuses.{code_of};
+ghost use Rattle.c_room.specs.Statuses.{code_of, IsFeedStatus, IsEndStatus};
 ghost use Rattle.c_room.specs.Takes.{no_counts, grown_first};
 ghost use Rattle.c_room.specs.Written.{AreWritten};
+ghost use Rattle.c_room.specs.declared.status.Status.{Status as StatusValue};
 ghost use Rattle.c_room.specs.declared.status.Status.TheVariants.{Done, Full, Misuse, TooMany, NoMemory};
 
 use c_room::{BitCounts, Handle, LentLanes, Record};
@@ -41,6 +42,7 @@ pub extern "C" fn vabgrot_open(alloc: Global, handle: &mut Handle, kind: u32) ->
     ensures done { result ≡ code_of Done → Holds handle.new.slot.value no_bits }
     ensures misuse { result ≡ code_of Misuse → (handle.old.held ≡ 1) ⊎ (0 < kind) }
     ensures refused { (result ≡ code_of Done → ⊥) → handle.new.slot.value ≡ handle.old.slot.value }
+    ensures kinds { (status : StatusValue) × (result ≡ code_of status) }
 {
     handle.open(alloc, kind).code()
 }
@@ -70,6 +72,7 @@ pub extern "C" fn vabgrot_feed(
     ensures many { result ≡ code_of TooMany → AreFewMore handle.old.slot.value bits.now → ⊥ }
     ensures refused { (result ≡ code_of Misuse) ⊎ (result ≡ code_of TooMany) → (handle.new.slot.value ≡ handle.old.slot.value) × (answer.new.taken ≡ no_counts) }
     ensures memory { result ≡ code_of NoMemory → ⊥ }
+    ensures kinds { (status : StatusValue) × IsFeedStatus status × (result ≡ code_of status) }
 {
     let lanes = LentLanes {
         blue,
@@ -109,6 +112,7 @@ pub extern "C" fn vabgrot_finish(
     ensures misuse { result ≡ code_of Misuse → IsOpen handle.old.slot.value → ⊥ }
     ensures refused { (result ≡ code_of Misuse) ⊎ (result ≡ code_of Full) → (handle.new.slot.value ≡ handle.old.slot.value) × (answer.new.events ≡ 0) }
     ensures others { (result ≡ code_of NoMemory) ⊎ (result ≡ code_of TooMany) → ⊥ }
+    ensures kinds { (status : StatusValue) × IsEndStatus status × (result ≡ code_of status) }
 {
     let said = handle.finish(events, bytes);
     *answer = Answer {
