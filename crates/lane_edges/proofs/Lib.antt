@@ -1,0 +1,3 @@
+mod Scanning
+mod Holding
+pub mod Growing

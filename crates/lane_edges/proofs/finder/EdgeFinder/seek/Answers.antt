@@ -1,0 +1,50 @@
+use Rattle.std.proofs.Common.{◌≡◌, ◌≤◌, false, arith, refl}
+use Rattle.tmds_word.specs.Bits.{bytes_bits}
+use Rattle.lane_align.specs.Lanes.{HasControl}
+use Rattle.lane_edges.proofs.Holding.{read_control}
+use Rattle.lane_edges.proofs.Scanning.{scanned_more, none_more, edge_here, long_enough}
+use Rattle.lane_edges.proofs.finder.EdgeFinder.seek.Goals as goal
+use Rattle.lane_edges.proofs.finder.EdgeFinder.seek.Goals.{else-not-control-via-then-not-control+else-run-ge-ENOUGH, else-not-control-via-else-not-control}
+
+pub characters-preserved : goal.characters-preserved
+characters-preserved c =
+    let finder = c.characters.self in
+    let rises = c.characters.invariant.rises in
+    let near = c.characters.invariant.near in
+    let test = c.characters-test.true in
+    let after : c.args.base ≤ finder.next = let h = c.requires.after (omega arith) in omega arith in
+    let control = c.is_control_word-control.result in
+    let other : control ≡ false → 12 ≤ finder.run → ⊥ = λ none many. elim c.else-not-control.branch [
+      | else-not-control-via-then-not-control+else-run-ge-ENOUGH w ↦ let few = w.if-run-ge-ENOUGH.false in omega arith
+      | else-not-control-via-else-not-control w ↦ let is = w.if-not-control.false in cc
+    ] in
+    record {
+      rises = omega arith;
+      near = omega arith;
+      none = λ xs lock count holds long was.
+          let here = c.characters.invariant.none xs lock count holds long was in
+          let is = read_control (bytes_bits c.args.bytes.now) xs c.args.skip c.args.base count finder.next c.word_at.result control holds after (omega arith) c.word_at.ensures c.is_control_word-control.ensures in (
+            scanned_more xs lock finder _ control here.0 refl c.counted-self.ensures (long_enough xs _ c.args.base count finder.next holds (omega arith)) is,
+            none_more xs lock c.args.self.now.next finder control here.0 is other here.1,
+          );
+    }
+
+pub returns-then-run-ge-ENOUGH-clause-found : goal.returns-then-run-ge-ENOUGH-clause-found
+returns-then-run-ge-ENOUGH-clause-found c = λ xs lock count holds long was.
+    let finder = c.characters.self in
+    let rises = c.characters.invariant.rises in
+    let test = c.characters-test.true in
+    let after : c.args.base ≤ finder.next = let h = c.requires.after (omega arith) in omega arith in
+    let control = c.is_control_word-control.result in
+    let here = c.characters.invariant.none xs lock count holds long was in
+    let is = read_control (bytes_bits c.args.bytes.now) xs c.args.skip c.args.base count finder.next c.word_at.result control holds after (omega arith) c.word_at.ensures c.is_control_word-control.ensures in
+    let whole = long_enough xs _ c.args.base count finder.next holds (omega arith) in
+    let not : HasControl xs finder.next → ⊥ = λ has. let e = is.1 has in let none = c.if-not-control.true in cc in (
+      scanned_more xs lock finder _ control here.0 refl c.counted-self.ensures whole is,
+      (edge_here xs lock c.args.self.now.next finder here.0 whole c.if-run-ge-ENOUGH.true not rises here.1, test, refl),
+    )
+
+pub returns-clause-found : goal.returns-clause-found
+returns-clause-found c = λ xs lock count holds long was.
+    let here = c.characters.invariant.none xs lock count holds long was in
+    (here.0, (c.characters-test.false, here.1))
