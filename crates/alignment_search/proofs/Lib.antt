@@ -1,0 +1,4 @@
+mod Locks
+mod Looking
+mod Searching
+pub mod Growing

@@ -1,0 +1,131 @@
+//! The first full alignment: the edges of three lanes, any two near each other, whose largest is least.
+ghost use Rattle.std.specs.Prelude.{◌≡◌, ◌<◌, ◌≤◌, ◌+◌, ◌-◌, ◌^◌, ◌↔◌, ℕ, Bool, List, MatchOption, IsTrue};
+ghost use Rattle.lane_deskew.specs.Triples.{IsAlignment};
+ghost use Rattle.alignment_search.specs.Parts.{HaveRoom, ArePartsOf};
+ghost use Rattle.alignment_search.specs.Reached.{CanReach};
+ghost use Rattle.alignment_search.specs.Searches.{HasSearched, HaveReached, AreWithin, AreBounds, greatest, least};
+
+use crate::lane::{LaneEdges, LanePart};
+use lane_align::RUN_BITS;
+use tmds_word::GREATEST_SKEW;
+
+/// From the first bit of a run to its last.
+const RUN_SPAN: u64 = RUN_BITS as u64 - 1;
+
+/// How far apart two edges of an alignment are at most.
+const NEAR: u64 = GREATEST_SKEW as u64;
+
+/// Bits of three lanes that are lent, from one place of all on.
+#[derive(Clone, Copy)]
+pub struct LaneParts<'a> {
+    pub blue: LanePart<'a>,
+    pub green: LanePart<'a>,
+    pub red: LanePart<'a>,
+    /// The place of the first bits.
+    pub base: u64,
+}
+
+/// How far the first full alignment of three lanes was looked for.
+#[derive(Clone, Copy, Debug)]
+pub struct AlignmentFinder {
+    blue: LaneEdges,
+    green: LaneEdges,
+    red: LaneEdges,
+    /// No alignment has all edges before this place.
+    limit: u64,
+}
+
+impl AlignmentFinder {
+    /// A finder that has looked at nothing.
+    pub fn new() -> AlignmentFinder
+        ensures limit { result.limit ≡ 0 }
+        ensures searched { (xs ys zs : List Bool) → HasSearched result xs ys zs }
+    {
+        AlignmentFinder {
+            blue: LaneEdges::new(),
+            green: LaneEdges::new(),
+            red: LaneEdges::new(),
+            limit: 0,
+        }
+    }
+
+    /// Looks for edges before `limit`, and answers those of the first full alignment where all of them are; None where
+    /// there is no such alignment.
+    pub fn seek(&mut self, parts: LaneParts<'_>, limit: u64) -> Option<[u64; 3]>
+        requires room { HaveRoom parts }
+        requires after { parts.base ≤ self.old.limit - 119 }
+        requires rises { self.old.limit ≤ limit }
+        requires total { limit < 2 ^ 62 }
+        requires searched { (xs ys zs : List Bool) × ArePartsOf parts xs ys zs × HasSearched self.old xs ys zs }
+        ensures limit { self.new.limit ≡ limit }
+        ensures found { (xs ys zs : List Bool) → ArePartsOf parts.entry xs ys zs → HasSearched self.old xs ys zs
+            → MatchOption result (HasSearched self.new xs ys zs) (λ edges. IsAlignment xs ys zs edges × (greatest edges < limit)) }
+    {
+        let mut from = self.limit.saturating_sub(NEAR);
+        self.find_locks(parts, limit);
+        self.limit = limit;
+        let mut edges = self.edges_from(parts, from);
+        'apart: while !are_near(edges) {
+            from = greatest(edges) - NEAR;
+            edges = self.edges_from(parts, from);
+        }
+        if greatest(edges) < limit {
+            Some(edges)
+        } else {
+            None
+        }
+    }
+
+    /// Looks for the locks of the lanes that have none yet, whose runs end before `limit`.
+    fn find_locks(&mut self, parts: LaneParts<'_>, limit: u64)
+        requires room { HaveRoom parts }
+        requires after { parts.base ≤ self.old.limit - 119 }
+        requires rises { self.old.limit ≤ limit }
+        requires total { limit < 2 ^ 62 }
+        ensures limit { self.new.limit ≡ self.old.limit }
+        ensures reached { (xs ys zs : List Bool) (low : ℕ) → ArePartsOf parts.entry xs ys zs → HaveReached self.old xs ys zs low (self.old.limit - 119) self.old.limit
+            → HaveReached self.new xs ys zs low (limit - 119) self.old.limit }
+    {
+        let base = parts.base;
+        let from = self.limit.saturating_sub(RUN_SPAN);
+        let until = limit.saturating_sub(RUN_SPAN);
+        self.blue.find_lock(parts.blue, base, from, until);
+        self.green.find_lock(parts.green, base, from, until);
+        self.red.find_lock(parts.red, base, from, until);
+    }
+
+    /// The next edge of each lane at or after `from`, where it lies before the limit; else the limit.
+    fn edges_from(&mut self, parts: LaneParts<'_>, from: u64) -> [u64; 3]
+        requires room { HaveRoom parts }
+        requires total { self.old.limit < 2 ^ 62 }
+        requires order { from ≤ self.old.limit }
+        requires base { parts.base ≤ self.old.limit }
+        requires reached { (xs ys zs : List Bool) × (low was : ℕ) × ArePartsOf parts xs ys zs × HaveReached self.old xs ys zs low (self.old.limit - 119) was × CanReach parts.base low was from self.old.limit }
+        ensures limit { self.new.limit ≡ self.old.limit }
+        ensures within { AreWithin from result self.old.limit }
+        ensures reached { (xs ys zs : List Bool) (low was : ℕ) → ArePartsOf parts.entry xs ys zs → HaveReached self.old xs ys zs low (self.old.limit - 119) was → CanReach parts.entry.base low was from self.old.limit
+            → HaveReached self.new xs ys zs from (self.old.limit - 119) self.old.limit × AreBounds xs ys zs from self.old.limit result }
+    {
+        let base = parts.base;
+        let limit = self.limit;
+        let blue = self.blue.edge_from(parts.blue, base, from, limit);
+        let green = self.green.edge_from(parts.green, base, from, limit);
+        let red = self.red.edge_from(parts.red, base, from, limit);
+        [blue, green, red]
+    }
+}
+
+/// The greatest of three places.
+fn greatest(places: [u64; 3]) -> u64
+    ensures { result ≡ greatest places }
+{
+    places[0].max(places[1].max(places[2]))
+}
+
+/// Whether any two of three places are near each other.
+fn are_near(places: [u64; 3]) -> bool
+    ensures { IsTrue result ↔ (greatest places ≤ least places + 70) }
+{
+    let least = places[0].min(places[1].min(places[2]));
+    greatest(places) - least <= NEAR
+}
