@@ -1,5 +1,5 @@
 -- The lanes of the second epoch are a tap of the same columns.
-use Rattle.std.proofs.Common.{◌≡◌, ℕ, suc, zero, ◌+◌, ◌-◌, ◌≤◌, Bool, List, [], ◌∷◌, length, drop, sym, subst, arith, length-drop, length-take, length-append, slice_index}
+use Rattle.std.proofs.Common.{◌≡◌, ℕ, suc, zero, ◌+◌, ◌≤◌, Bool, List, [], ◌∷◌, length, drop, sym, subst, arith, length-drop, length-take, length-append, slice_index}
 use Rattle.std.proofs.lemmas.Bool.{cases_lt}
 use Rattle.tmds_word.specs.Column.{Column, blues, greens, reds}
 use Rattle.tmds_word.specs.Taps.{IsPart, HasSmallSkew}

@@ -17,8 +17,9 @@ use Rattle.link_laws.specs.Laws.{ReceivedOf, EndsControl, BeginColumn, IsAccount
 use Rattle.link_laws.specs.Local.{IsLocalExample}
 use Rattle.lane_track.specs.Slips.{Slips, slipped}
 use Rattle.track_sink.specs.TrackEvents.{TrackEvent}
-use Rattle.track_sink.specs.Epochs.{lane_of, rest_of, IsEnd, HasNoEnd, IsTracked}
+use Rattle.track_sink.specs.Epochs.{EpochRule, lane_of, most_of, rest_of, IsEnd, HasNoEnd, IsTracked}
 use Rattle.track_sink.specs.Tracks.{Grows, HasTracked, StartsTrack}
+use Rattle.track_sink.specs.declared.watch.Cause.{Cause}
 
 -- of all bits something is reported, and nothing else: so neither their cutting into feeds nor anything else can matter
 abbrev pub SomeTrack : Type 0
@@ -33,6 +34,10 @@ OneTrack =
 abbrev pub EndStays : Type 0
 EndStays =
     (before now : Fed) (lane place : ℕ) → IsEnd before lane place → Grows before now → IsEnd now lane place
+
+-- where bits show an end that those before them did not, those before reach no further past it than what shows an end
+abbrev pub IsShown : EpochRule → Type 0
+IsShown r = (before now : Fed) (cause : Cause) (place : ℕ) → r.none before → Grows before now → r.ends now cause place → most_of before ≤ place + r.back
 
 -- what a tracker reported is the beginning of what is reported of all
 abbrev pub ReportedStarts : Type 0

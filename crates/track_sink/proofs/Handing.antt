@@ -1,17 +1,13 @@
--- A tracker that takes bits, looks through them and hands them on.
-use Rattle.std.proofs.Common.{◌≡◌, ◌⊎◌, ℕ, suc, zero, ◌+◌, ◌-◌, ◌/◌, ◌%◌, ◌^◌, ◌<◌, ◌≤◌, max, min, Bool, true, false, List, [], ◌++◌, length, take, drop, Option, Some, None, refl, ap, ap₂, ◌∙◌, sym, subst, arith, inl, inr, append-nil, length-append, length-drop, length-take}
-use Rattle.std.specs.Prelude.{MatchOption, slice_index}
+-- A tracker that takes bits, lends them and hands them on.
+use Rattle.std.proofs.Common.{◌≡◌, ◌⊎◌, ℕ, suc, zero, ◌+◌, ◌-◌, ◌/◌, ◌%◌, ◌<◌, ◌≤◌, max, min, Bool, true, false, List, [], ◌++◌, length, take, drop, refl, ap, ap₂, ◌∙◌, sym, subst, arith, inl, inr, append-nil, length-append, length-drop, length-take}
+use Rattle.std.specs.Prelude.{slice_index}
 use Rattle.std.proofs.Math.Seq.{take-add}
 use Rattle.std.proofs.lemmas.Bool.{cases_lt}
 use Rattle.std.proofs.lemmas.List.{drop-drop, drop-append-le}
+use mir.Val.{bool_byte}
 use Rattle.tmds_word.specs.Bits.{bytes_bits}
 use Rattle.tmds_word.specs.declared.TheConstants.{MOST_BITS}
-use Rattle.lane_align.specs.Lanes.{IsRun, IsLock}
-use Rattle.lane_track.specs.Strays.{IsStray}
-use Rattle.lane_track.specs.Scouts.{HasSought}
-use Rattle.lane_track.specs.declared.scout.Scout.{Scout}
-use Rattle.lane_track.proofs.Cutting.{run_was}
-use Rattle.lane_track.proofs.Strays.{lock_grows, stray_was}
+use Rattle.terc4.specs.Columns.{one_if}
 use Rattle.period_grammar.specs.Events.{Event}
 use Rattle.link_sink.specs.Sinks.{Fed, grown, IsReportedSoFar, IsGain}
 use Rattle.link_sink.specs.Pieces.{no_bits}
@@ -20,18 +16,16 @@ use Rattle.link_sink.specs.Streams.{SinkSeen, SinkRepresents, bits_fed, most_bit
 use Rattle.link_sink.proofs.Feeding.{length_grown}
 use Rattle.link_sink.proofs.Following.{reported_at_first}
 use Rattle.track_sink.specs.TrackEvents.{TrackEvent}
-use Rattle.track_sink.specs.Epochs.{lane_of, rest_of, front_of, IsEnd, IsTrack}
+use Rattle.track_sink.specs.Epochs.{EpochRule, lane_of, most_of, rest_of, front_of, IsTrackBy}
 use Rattle.track_sink.specs.Tracks.{Grows}
-use Rattle.track_sink.specs.Buffers.{HeldSeen}
-use Rattle.track_sink.specs.Lanes.{AreFresh, AreHeld, AreSought, EndsAt, IsReleased}
-use Rattle.track_sink.specs.declared.lanes.Stray.{Stray}
-use mir.Val.{bool_byte}
-use Rattle.terc4.specs.Columns.{one_if}
-use Rattle.track_sink.specs.Trackers.{most_of, most_fed, Follows, HoldsRest, Carries, HasLooked, Stays, Stands, IsSettled}
+use Rattle.track_sink.specs.Rules.{IsRule, IsWatch}
+use Rattle.track_sink.specs.Lanes.{AreFresh, AreHeld, IsReleased}
+use Rattle.track_sink.specs.Trackers.{most_fed, first_tracker, Follows, HoldsRest, Carries, Stands, IsSettled, IsFirst}
 use Rattle.track_sink.specs.declared.lane.Lane.{Lane}
 use Rattle.track_sink.specs.declared.lanes.Lanes.{Lanes}
 use Rattle.track_sink.specs.declared.tracker.Tracker.{Tracker}
-use Rattle.track_sink.proofs.Following.{fronts_stay, follows_grown, same_fed, no_longer}
+use Rattle.track_sink.specs.Feds.{fronts_stay, same_fed, no_longer, rest_grows}
+use Rattle.track_sink.proofs.Following.{follows_grown}
 
 -- Handing on.
 
@@ -130,7 +124,7 @@ carries_handed t fed link lanes counts bits c room rx ry rz opened stands gx gy 
   fewer = c.fewer;
 }
 
--- Looking.
+-- Lending.
 
 pub are_held : (t : Tracker) (fed : Fed) → Carries t fed → AreHeld t.lanes t.handed (rest_of t.start fed)
 are_held t fed c = record {
@@ -149,17 +143,6 @@ longest_held t fed c =
     omega arith
 
 -- Taking bits.
-
--- where the places before one are all decided, more bits change nothing there
-lock_stays : (xs ys : List Bool) (seen : ℕ) (lock : Option ℕ) → ((p : ℕ) → p < seen → p + 120 ≤ length xs) → MatchOption lock ((p : ℕ) → p < seen → IsRun xs p → ⊥) (λ l. IsLock xs l × (l < seen))
-    → MatchOption lock ((p : ℕ) → p < seen → IsRun (xs ++ ys) p → ⊥) (λ l. IsLock (xs ++ ys) l × (l < seen))
-lock_stays xs ys seen None within none = λ p lt run. none p lt (run_was xs ys p (within p lt) run)
-lock_stays xs ys seen (Some l) within is = (lock_grows xs ys l is.0, is.1)
-
-sought_grows : (xs ys : List Bool) (seen : ℕ) (lock : Option ℕ) → (seen ≡ 0) ⊎ (seen + 119 ≤ length xs) → HasSought xs seen lock → HasSought (xs ++ ys) seen lock
-sought_grows xs ys seen lock known was =
-    let within : (p : ℕ) → p < seen → p + 120 ≤ length xs = λ p lt. elim known [ inl none ↦ absurd (omega arith) | inr long ↦ omega arith ] in
-    record { lock = lock_stays xs ys seen lock within was.lock; none = λ p lt stray. was.none p lt (stray_was xs ys p (within p lt) stray) }
 
 -- a lane that takes bits: as long as the longest before, or none arrive
 abbrev pub Comes : ℕ → List Bool → List Bool → Type 0
@@ -190,16 +173,8 @@ rest_taken before now given start handed most xs more reached was (inr none) is 
       given = was.given ∙ ap (λ us. min handed (length us - start)) (sym same);
     }
 
-sought_taken : (xs more : List Bool) (start seen most : ℕ) (lock : Option ℕ) → (seen ≡ 0) ⊎ (start + seen + 119 ≤ most) → start ≤ most → Comes most xs more → HasSought (drop start xs) seen lock → HasSought (drop start (xs ++ more)) seen lock
-sought_taken xs more start seen most lock known within (inl longest) was =
-    let P : List Bool → Type 0 = λ us. HasSought us seen lock in
-    subst P (sym (drop-append-le start xs more (omega arith)))
-    (sought_grows (drop start xs) more seen lock (elim known [ inl none ↦ inl none | inr long ↦ inr (omega (arith, length-drop start xs)) ]) was)
-sought_taken xs more start seen most lock known within (inr none) was =
-    let P : List Bool → Type 0 = λ us. HasSought us seen lock in subst P (ap (drop start) (sym (append-nil xs) ∙ ap (λ us. xs ++ us) (sym none))) was
-
 -- three lanes that take bits
-module _ (t : Tracker) (fed : Fed) (reported : List TrackEvent) (a b c bits : List ℕ) (settled : IsSettled t fed reported)
+module _ {W : Type 0} {r : EpochRule} {looked : W → Fed → Type 0} {passed : W → ℕ} (watch : IsWatch r looked passed) (t : Tracker) (w : W) (fed : Fed) (reported : List TrackEvent) (a b c bits : List ℕ) (settled : IsSettled r looked passed t w fed reported)
     (first : CanFeed t.lanes.blue.fed (most_fed t) a (slice_index bits 0)) (second : CanFeed t.lanes.green.fed (most_fed t) b (slice_index bits 1)) (third : CanFeed t.lanes.red.fed (most_fed t) c (slice_index bits 2)) where
   abbrev now : Fed
   now = grown fed a b c bits
@@ -239,8 +214,7 @@ module _ (t : Tracker) (fed : Fed) (reported : List TrackEvent) (a b c bits : Li
 
   module _ (lanes : Lanes) (hx : lanes.blue.held.bits ≡ t.lanes.blue.held.bits ++ take (slice_index bits 0) (bytes_bits a)) (hy : lanes.green.held.bits ≡ t.lanes.green.held.bits ++ take (slice_index bits 1) (bytes_bits b))
       (hz : lanes.red.held.bits ≡ t.lanes.red.held.bits ++ take (slice_index bits 2) (bytes_bits c))
-      (fx : lanes.blue.fed ≡ t.lanes.blue.fed + slice_index bits 0) (fy : lanes.green.fed ≡ t.lanes.green.fed + slice_index bits 1) (fz : lanes.red.fed ≡ t.lanes.red.fed + slice_index bits 2)
-      (sx : lanes.blue.scout ≡ t.lanes.blue.scout) (sy : lanes.green.scout ≡ t.lanes.green.scout) (sz : lanes.red.scout ≡ t.lanes.red.scout) where
+      (fx : lanes.blue.fed ≡ t.lanes.blue.fed + slice_index bits 0) (fy : lanes.green.fed ≡ t.lanes.green.fed + slice_index bits 1) (fz : lanes.red.fed ≡ t.lanes.red.fed + slice_index bits 2) where
     abbrev next : Tracker
     next = record t { lanes = lanes }
 
@@ -260,25 +234,12 @@ module _ (t : Tracker) (fed : Fed) (reported : List TrackEvent) (a b c bits : Li
     reached : t.start ≤ most_of fed
     reached = let h = carries.within in omega arith
 
-    looked : HasLooked t fed
-    looked = settled.stands.looked
-
-    scout_blue : HasSought (drop t.start now.blue) t.seen lanes.blue.scout.lock
-    scout_blue = subst (λ (s : Scout). HasSought (drop t.start now.blue) t.seen s.lock) (sym sx) (sought_taken fed.blue (take (slice_index bits 0) (bytes_bits a)) t.start t.seen (most_of fed) t.lanes.blue.scout.lock looked.decided reached comes_blue looked.sought.blue)
-
-    scout_green : HasSought (drop t.start now.green) t.seen lanes.green.scout.lock
-    scout_green = subst (λ (s : Scout). HasSought (drop t.start now.green) t.seen s.lock) (sym sy) (sought_taken fed.green (take (slice_index bits 1) (bytes_bits b)) t.start t.seen (most_of fed) t.lanes.green.scout.lock looked.decided reached comes_green looked.sought.green)
-
-    scout_red : HasSought (drop t.start now.red) t.seen lanes.red.scout.lock
-    scout_red = subst (λ (s : Scout). HasSought (drop t.start now.red) t.seen s.lock) (sym sz) (sought_taken fed.red (take (slice_index bits 2) (bytes_bits c)) t.start t.seen (most_of fed) t.lanes.red.scout.lock looked.decided reached comes_red looked.sought.red)
-
-    pub stands_taken : Stands next now reported
+    pub stands_taken : Stands r looked passed next w now reported
     stands_taken = record {
       carries = carried;
-      looked = record {
-        sought = record { blue = scout_blue; green = scout_green; red = scout_red };
-        after = looked.after;
-        decided = elim looked.decided [ inl none ↦ inl none | inr far ↦ inr (omega (arith, long_blue, long_green, long_red)) ];
+      looked_on = record {
+        looked_at = watch.looks_on w (rest_of t.start fed) (rest_of t.start now) settled.stands.looked_on.looked_at (rest_grows fed now t.start taken_grows reached);
+        after = settled.stands.looked_on.after;
       };
       follows = follows_grown fed now t.start t.handed t.begun t.epochs t.aligned reported taken_grows carries.within settled.stands.follows;
       whole = settled.stands.whole;
@@ -290,23 +251,30 @@ module _ (t : Tracker) (fed : Fed) (reported : List TrackEvent) (a b c bits : Li
 zero_front : IsReportedSoFar (front_of 0 (rest_of 0 no_bits)) []
 zero_front = reported_at_first
 
-begin_follows : Follows no_bits 0 0 false 0 0 []
-begin_follows = record {
+begin_follows : {r : EpochRule} → Follows r no_bits 0 0 false 0 0 []
+begin_follows {r} = record {
   closed = [];
   events = [];
   goes_on = λ later grows n m rest tracked.
       let en : n ≡ 0 + n = omega arith in
       let em : m ≡ 0 + m = omega arith in
-      let P : ℕ → Type 0 = λ k. IsTrack later k (0 + m) rest in
-      let Q : ℕ → Type 0 = λ k. IsTrack later n k rest in
+      let P : ℕ → Type 0 = λ k. IsTrackBy r later k (0 + m) rest in
+      let Q : ℕ → Type 0 = λ k. IsTrackBy r later n k rest in
       subst P en (subst Q em tracked);
   so_far = zero_front;
   reported_are = refl;
 }
 
-pub settled_at_first : (link : SinkSeen) (lanes : Lanes) → link.is_open ≡ true → SinkRepresents link no_bits → most_bits link ≡ 0 → AreFresh lanes
-    → IsSettled (record { link = link; lanes = lanes; start = 0; handed = 0; seen = 0; begun = false; epochs = 0; aligned = 0 }) no_bits []
-settled_at_first link lanes opened stands none fresh = record {
+-- an epoch without a bit has no end
+none_at_first : {r : EpochRule} → IsRule r → r.none no_bits
+none_at_first is = elim (is.decided no_bits) [
+  | inl h ↦ absurd (let inside = is.within no_bits h.0 h.1 h.2 in omega arith)
+  | inr none ↦ none
+]
+
+settled_first : {W : Type 0} {r : EpochRule} {looked : W → Fed → Type 0} {passed : W → ℕ} → IsRule r → (link : SinkSeen) (lanes : Lanes) (w : W) → link.is_open ≡ true → SinkRepresents link no_bits → most_bits link ≡ 0 → AreFresh lanes
+    → ((fed : Fed) → looked w fed) → passed w ≡ 0 → IsSettled r looked passed (first_tracker link lanes) w no_bits []
+settled_first is link lanes w opened stands none fresh at zero_is = record {
   stands = record {
     carries = record {
       link_open = opened;
@@ -319,18 +287,20 @@ settled_at_first link lanes opened stands none fresh = record {
       few = omega arith;
       fewer = omega arith;
     };
-    looked = record {
-      sought = record { blue = fresh.blue.sought []; green = fresh.green.sought []; red = fresh.red.sought [] };
-      after = omega arith;
-      decided = inl refl;
-    };
+    looked_on = record { looked_at = at no_bits; after = omega arith };
     follows = begin_follows;
     whole = refl;
     room = omega arith;
   };
+  endless = none_at_first is;
   all = omega arith;
   near = omega arith;
 }
+
+pub settled_at_first : {W : Type 0} {r : EpochRule} {looked : W → Fed → Type 0} {passed : W → ℕ} → IsRule r → (t : Tracker) (w : W) → IsFirst t → ((fed : Fed) → looked w fed) → passed w ≡ 0
+    → IsSettled r looked passed t w no_bits []
+settled_at_first {W} {r} {looked} {passed} is t w fresh at zero_is =
+    subst (λ (u : Tracker). IsSettled r looked passed u w no_bits []) (sym fresh.first) (settled_first is t.link t.lanes w fresh.link_open fresh.link fresh.bits fresh.lanes at zero_is)
 
 -- where no bit is handed on, nothing is reported
 pub none_gained : (t : Tracker) (fed : Fed) (bits : ℕ) → bits ≡ 0 → IsGain (front_of t.handed (rest_of t.start fed)) (front_of (t.handed + bits) (rest_of t.start fed)) []
@@ -338,94 +308,6 @@ none_gained t fed bits none = λ reported h.
     let e : t.handed ≡ t.handed + bits = omega arith in
     let P : List Event → Type 0 = λ ts. IsReportedSoFar (front_of (t.handed + bits) (rest_of t.start fed)) ts in
     subst P (sym (append-nil reported)) (subst (λ n. IsReportedSoFar (front_of n (rest_of t.start fed)) reported) e h)
-
--- Searching.
-
--- a tracker that has looked further has what it had
-stays_rest : (before now : Lane) (bits later start handed from on : ℕ) (xs : List Bool) → now.held ≡ before.held → now.fed ≡ before.fed → later ≡ bits → from ≡ start → on ≡ handed
-    → HoldsRest before bits start handed xs → HoldsRest now later from on xs
-stays_rest before now bits later start handed from on xs held fed given s h was = record {
-  held = ap (λ (h : HeldSeen). h.bits) held ∙ was.held ∙ ap₂ (λ m n. drop (m + n) xs) (sym s) (sym h);
-  fed = fed ∙ was.fed;
-  given = given ∙ was.given ∙ ap₂ (λ m n. min n (length xs - m)) (sym s) (sym h);
-}
-
-pub carries_stays : (t u : Tracker) (fed : Fed) → Stays t u → Carries t fed → Carries u fed
-carries_stays t u fed s c =
-    let P : SinkSeen → Type 0 = λ link. SinkRepresents link (front_of t.handed (rest_of t.start fed)) in
-    let Q : ℕ → Type 0 = λ n. SinkRepresents u.link (front_of n (rest_of t.start fed)) in
-    let R : ℕ → Type 0 = λ n. SinkRepresents u.link (front_of u.handed (rest_of n fed)) in
-    let es = s.start in
-    let eh = s.handed in
-    let ee = s.epochs in
-    let ea = s.aligned in
-    let within = c.within in
-    let few = c.few in
-    let fewer = c.fewer in
-    record {
-      link_open = ap (λ (l : SinkSeen). l.is_open) s.link ∙ c.link_open;
-      link = subst R (sym es) (subst Q (sym eh) (subst P (sym s.link) c.link));
-      blue = stays_rest t.lanes.blue u.lanes.blue (bits_fed t.link 0) (bits_fed u.link 0) t.start t.handed u.start u.handed fed.blue s.blue s.blue_fed (ap (λ (l : SinkSeen). bits_fed l 0) s.link) es eh c.blue;
-      green = stays_rest t.lanes.green u.lanes.green (bits_fed t.link 1) (bits_fed u.link 1) t.start t.handed u.start u.handed fed.green s.green s.green_fed (ap (λ (l : SinkSeen). bits_fed l 1) s.link) es eh c.green;
-      red = stays_rest t.lanes.red u.lanes.red (bits_fed t.link 2) (bits_fed u.link 2) t.start t.handed u.start u.handed fed.red s.red s.red_fed (ap (λ (l : SinkSeen). bits_fed l 2) s.link) es eh c.red;
-      within = omega arith;
-      small = c.small;
-      few = omega arith;
-      fewer = omega arith;
-    }
-
--- an end lies after the places that were looked at
-pub end_after : (fed : Fed) (lanes : Lanes) (seen lane place : ℕ) → AreSought lanes seen fed → IsEnd fed lane place → seen ≤ place
-end_after fed lanes seen lane place sought end = elim (cases_lt place seen) [
-  | inr after ↦ after
-  | inl before ↦ absurd (on_lane lane before end.stray)
-]
-  where
-    on_lane : (l : ℕ) → place < seen → IsStray (lane_of fed l) place → ⊥
-    on_lane zero lt stray = sought.blue.none place lt stray
-    on_lane (suc zero) lt stray = sought.green.none place lt stray
-    on_lane (suc (suc l)) lt stray = sought.red.none place lt stray
-
-pub stray_found : (t u : Tracker) (fed : Fed) (stray : Stray) → Stays t u → HasLooked u fed → EndsAt (rest_of u.start fed) stray → EndsAt (rest_of t.start fed) stray × (t.handed ≤ stray.place)
-stray_found t u fed stray s looked end =
-    let after = end_after (rest_of u.start fed) u.lanes u.seen stray.lane stray.place looked.sought end in
-    let h = looked.after in
-    let e = s.handed in
-    let P : ℕ → Type 0 = λ n. EndsAt (rest_of n fed) stray in
-    (subst P s.start end, omega arith)
-
-pub stays_more : (t u : Tracker) (lanes : Lanes) (seen : ℕ) → Stays t u → lanes.blue.held ≡ u.lanes.blue.held → lanes.green.held ≡ u.lanes.green.held → lanes.red.held ≡ u.lanes.red.held
-    → lanes.blue.fed ≡ u.lanes.blue.fed → lanes.green.fed ≡ u.lanes.green.fed → lanes.red.fed ≡ u.lanes.red.fed → Stays t (record u { lanes = lanes; seen = seen })
-stays_more t u lanes seen s hx hy hz fx fy fz = record {
-  link = s.link;
-  blue = hx ∙ s.blue;
-  green = hy ∙ s.green;
-  red = hz ∙ s.red;
-  blue_fed = fx ∙ s.blue_fed;
-  green_fed = fy ∙ s.green_fed;
-  red_fed = fz ∙ s.red_fed;
-  start = s.start;
-  handed = s.handed;
-  begun = s.begun;
-  epochs = s.epochs;
-  aligned = s.aligned;
-}
-
-pub looked_more : (t u : Tracker) (fed : Fed) (lanes : Lanes) (more end longest : ℕ) → Stays t u → Carries t fed → HasLooked u fed → AreSought lanes (u.seen + more) (rest_of u.start fed)
-    → longest ≡ max (length t.lanes.blue.held.bits) (max (length t.lanes.green.held.bits) (length t.lanes.red.held.bits)) → end ≡ t.handed + longest - 119 → u.seen < end → more ≡ min (end - u.seen) 2560
-    → HasLooked (record u { lanes = lanes; seen = u.seen + more }) fed
-looked_more t u fed lanes more end longest s c looked sought most e lt step =
-    let all = longest_held t fed c in
-    let es = s.start in
-    let after = looked.after in
-    record { sought = sought; after = omega arith; decided = inr (omega (arith, most, e, all)) }
-
-pub looked_all : (t u : Tracker) (fed : Fed) (end longest : ℕ) → Stays t u → Carries t fed
-    → longest ≡ max (length t.lanes.blue.held.bits) (max (length t.lanes.green.held.bits) (length t.lanes.red.held.bits)) → end ≡ t.handed + longest - 119 → end ≤ u.seen → most_of fed ≤ u.start + u.seen + 119
-looked_all t u fed end longest s c most e done =
-    let all = longest_held t fed c in
-    let es = s.start in
-    omega (arith, most, e, all)
 
 -- a count goes up by one where the epoch was aligned
 pub byte_is : (b : Bool) → bool_byte b ≡ one_if b

@@ -1,7 +1,7 @@
+pub mod Seeking
 pub mod Looking
 pub mod Shifting
 mod Moving
-pub mod Staying
 pub mod Following
 pub mod Handing
 pub mod Turning

@@ -1,5 +1,6 @@
 -- How far a lane was looked through.
-use Rattle.std.proofs.Common.{◌≡◌, ℕ, ◌+◌, ◌-◌, ◌<◌, ◌≤◌, zero, suc, max, Bool, List, length, take, drop, min, Option, Some, None, ap, ◌∙◌, sym, subst, arith, inl, inr, length-drop}
+use Rattle.tmds_word.specs.Bits.{bytes_bits}
+use Rattle.std.proofs.Common.{◌≡◌, ℕ, ◌+◌, ◌-◌, ◌<◌, ◌≤◌, zero, suc, max, Bool, List, length, drop, min, Option, Some, None, ◌∙◌, sym, subst, arith, inl, inr, length-drop}
 use Rattle.std.specs.Prelude.{MatchOption, IfSome}
 use Rattle.std.proofs.lemmas.Bool.{cases_lt}
 use Rattle.std.proofs.lemmas.List.{take_all}
@@ -9,8 +10,10 @@ use Rattle.lane_track.specs.Strays.{IsStray, IsFirstStray}
 use Rattle.lane_track.specs.Scouts.{HoldsBits, HasSought}
 use Rattle.link_sink.specs.Sinks.{Fed}
 use Rattle.track_sink.specs.Epochs.{lane_of, IsEnd}
-use Rattle.track_sink.specs.Lanes.{AreSought, EndsAt, last_stray}
-use Rattle.track_sink.specs.declared.lanes.Lanes.{Lanes}
+use Rattle.track_sink.specs.Lents.{IsLent}
+use Rattle.track_sink.specs.Seeking.{AreSought, StrayAt, last_stray}
+use Rattle.track_sink.specs.declared.strays.Strays.{Strays}
+use Rattle.track_sink.specs.declared.watch.LentBits.{LentBits}
 
 -- past the last place that is decided there is nothing to find
 no_late_run : (xs : List Bool) (s p : ℕ) → length xs ≤ s + 119 → s ≤ p → IsRun xs p → ⊥
@@ -33,28 +36,29 @@ sought_past xs s t (Some l) long order was =
       ];
     }
 
--- a lane that holds all bits from a place on
-pub holds_rest : (bits held xs : List Bool) (base : ℕ) → held ≡ drop base xs → take (length held) bits ≡ held → 0 < length held
-    → HoldsBits bits xs base (length held)
-holds_rest bits held xs base is same some =
-    let long : length held ≡ length xs - base = ap length is ∙ length-drop base xs in
-    record { within = omega arith; same = same ∙ is ∙ sym (take_all (length held) (drop base xs) (omega (arith, length-drop base xs))) }
+-- a lane of which all bits from a place on are lent
+pub holds_rest : (lane : LentBits) (xs : List Bool) (base : ℕ) → IsLent lane base xs → 0 < lane.count
+    → HoldsBits (drop lane.skip (bytes_bits lane.bytes.now)) xs base lane.count
+holds_rest lane xs base lent some =
+    let many = lent.many in
+    let long = length-drop base xs in
+    record { within = omega arith; same = lent.bits ∙ sym (take_all lane.count (drop base xs) (omega arith)) }
 
 -- nothing is left to look at
-pub sought_none : (held xs : List Bool) (base from until last : ℕ) (lock : Option ℕ) → held ≡ drop base xs → base ≤ from → from ≤ until → last ≡ min (length held - 119) (until - base) → last ≤ from - base
+pub sought_none : (xs : List Bool) (count base from until last : ℕ) (lock : Option ℕ) → count ≡ length (drop base xs) → base ≤ from → from ≤ until → last ≡ min (count - 119) (until - base) → last ≤ from - base
     → HasSought xs from lock → HasSought xs until lock
-sought_none held xs base from until last lock is after order e none was =
-    let long : length held ≡ length xs - base = ap length is ∙ length-drop base xs in
+sought_none xs count base from until last lock is after order e none was =
+    let long : count ≡ length xs - base = is ∙ length-drop base xs in
     elim (cases_lt from until) [
       | inl more ↦ sought_past xs from until lock (omega arith) order was
       | inr all ↦ let same : from ≡ until = omega arith in subst (λ n. HasSought xs n lock) same was
     ]
 
 -- the places that were looked at are all that are decided
-pub sought_all : (held xs : List Bool) (base until last : ℕ) (lock : Option ℕ) → held ≡ drop base xs → base ≤ until → 0 < last → last ≡ min (length held - 119) (until - base)
+pub sought_all : (xs : List Bool) (count base until last : ℕ) (lock : Option ℕ) → count ≡ length (drop base xs) → base ≤ until → 0 < last → last ≡ min (count - 119) (until - base)
     → HasSought xs (base + last) lock → HasSought xs until lock
-sought_all held xs base until last lock is after some e was =
-    let long : length held ≡ length xs - base = ap length is ∙ length-drop base xs in
+sought_all xs count base until last lock is after some e was =
+    let long : count ≡ length xs - base = is ∙ length-drop base xs in
     elim (cases_lt (base + last) until) [
       | inl more ↦ sought_past xs (base + last) until lock (omega arith) (omega arith) was
       | inr all ↦ let same : base + last ≡ until = omega arith in subst (λ n. HasSought xs n lock) same was
@@ -116,21 +120,21 @@ end_within from until end None order within e = omega (arith, e)
 end_within from until end (Some p) order within e = omega (arith, order, within, e)
 
 -- of each lane the places before an end are looked through, and the end of the next lane is the place that was found
-module _ (fed : Fed) (lanes : Lanes) (from until one two : ℕ) (u v w : Option ℕ)
-    (was_blue : HasSought fed.blue from u) (was_green : HasSought fed.green from v) (was_red : HasSought fed.red from w) (order : from ≤ until) where
+module _ (fed : Fed) (w : Strays) (from until one two : ℕ) (t u v : Option ℕ)
+    (was_blue : HasSought fed.blue from t) (was_green : HasSought fed.green from u) (was_red : HasSought fed.red from v) (order : from ≤ until) where
   pub first_end : (a b c : Option ℕ)
-      → IsFound fed.blue until lanes.blue.scout.lock a → IfSome a (λ p. p < until) → IsEndOf from until a one
-      → IsFound fed.green one lanes.green.scout.lock b → IfSome b (λ p. p < one) → IsEndOf from one b two
-      → IsFound fed.red two lanes.red.scout.lock c → IfSome c (λ p. p < two)
-      → MatchOption (last_stray a b c) (AreSought lanes until fed) (EndsAt fed)
+      → IsFound fed.blue until w.blue.lock a → IfSome a (λ p. p < until) → IsEndOf from until a one
+      → IsFound fed.green one w.green.lock b → IfSome b (λ p. p < one) → IsEndOf from one b two
+      → IsFound fed.red two w.red.lock c → IfSome c (λ p. p < two)
+      → MatchOption (last_stray a b c) (AreSought w until fed) (λ end. StrayAt fed end)
   first_end a b (Some p) fa wa ea fb wb eb fc wc = is_end fed 2 p (omega arith) fc.stray before after
     where
       less : two ≤ one
       less = end_within from one two b (end_from from until one a order ea) wb eb
 
       before : (l : ℕ) → l < 2 → NoneBefore (lane_of fed l) (p + 1)
-      before zero lt q early = none_before fed.blue from until one u lanes.blue.scout.lock a was_blue fa ea q (omega (arith, less, wc))
-      before (suc zero) lt q early = none_before fed.green from one two v lanes.green.scout.lock b was_green fb eb q (omega (arith, wc))
+      before zero lt q early = none_before fed.blue from until one t w.blue.lock a was_blue fa ea q (omega (arith, less, wc))
+      before (suc zero) lt q early = none_before fed.green from one two u w.green.lock b was_green fb eb q (omega (arith, wc))
       before (suc (suc l)) lt q early = absurd (omega arith)
 
       after : (l : ℕ) → 2 ≤ l → l < 3 → NoneBefore (lane_of fed l) p
@@ -140,10 +144,10 @@ module _ (fed : Fed) (lanes : Lanes) (from until one two : ℕ) (u v w : Option 
   first_end a (Some p) None fa wa ea fb wb eb fc wc = is_end fed 1 p (omega arith) fb.stray before after
     where
       here : two ≡ p
-      here = found_at fed.green from one two p v was_green fb eb
+      here = found_at fed.green from one two p u was_green fb eb
 
       before : (l : ℕ) → l < 1 → NoneBefore (lane_of fed l) (p + 1)
-      before zero lt q early = none_before fed.blue from until one u lanes.blue.scout.lock a was_blue fa ea q (omega (arith, wb))
+      before zero lt q early = none_before fed.blue from until one t w.blue.lock a was_blue fa ea q (omega (arith, wb))
       before (suc l) lt q early = absurd (omega arith)
 
       after : (l : ℕ) → 1 ≤ l → l < 3 → NoneBefore (lane_of fed l) p
@@ -153,7 +157,7 @@ module _ (fed : Fed) (lanes : Lanes) (from until one two : ℕ) (u v w : Option 
   first_end (Some p) None None fa wa ea fb wb eb fc wc = is_end fed 0 p (omega arith) fa.stray before after
     where
       here : one ≡ p
-      here = found_at fed.blue from until one p u was_blue fa ea
+      here = found_at fed.blue from until one p t was_blue fa ea
 
       before : (l : ℕ) → l < 0 → NoneBefore (lane_of fed l) (p + 1)
       before l lt = absurd (omega arith)
@@ -163,6 +167,6 @@ module _ (fed : Fed) (lanes : Lanes) (from until one two : ℕ) (u v w : Option 
       after (suc zero) le lt q early = fb.none q (omega (arith, here))
       after (suc (suc l)) le lt q early = fc.none q (omega (arith, here, eb))
   first_end None None None fa wa ea fb wb eb fc wc =
-      let P : ℕ → Type 0 = λ n. HasSought fed.green n lanes.green.scout.lock in
-      let Q : ℕ → Type 0 = λ n. HasSought fed.red n lanes.red.scout.lock in
+      let P : ℕ → Type 0 = λ n. HasSought fed.green n w.green.lock in
+      let Q : ℕ → Type 0 = λ n. HasSought fed.red n w.red.lock in
       record { blue = fa; green = subst P ea fb; red = subst Q (eb ∙ ea) fc }

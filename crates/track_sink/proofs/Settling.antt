@@ -1,29 +1,24 @@
--- A tracker that follows its lanes from epoch to epoch, and at their end.
+-- Trackers that follow their lanes from epoch to epoch, and at their end.
+use Rattle.std.proofs.Common.{◌≡◌, ◌⊎◌, ℕ, ◌+◌, ◌-◌, ◌*◌, ◌/◌, ◌%◌, ◌<◌, ◌≤◌, max, List, ◌++◌, length, Option, Some, None, refl, ap, ap₂, ◌∙◌, sym, subst, arith, inl, inr, append_assoc}
+use Rattle.std.specs.Prelude.{MatchOption, slice_index}
+use Rattle.tmds_word.specs.declared.TheConstants.{MOST_BITS}
 use Rattle.lane_align.specs.declared.TheConstants.{FEED_BITS}
-use Rattle.track_sink.specs.declared.TheConstants.{HELD_BACK}
-use Rattle.std.proofs.Common.{◌≡◌, ◌⊎◌, ℕ, suc, zero, ◌+◌, ◌-◌, ◌*◌, ◌/◌, ◌%◌, ◌<◌, ◌≤◌, max, List, ◌++◌, length, refl, ap, ap₂, ◌∙◌, sym, subst, arith, inl, inr, append_assoc, length-drop}
 use Rattle.terc4.specs.Columns.{one_if}
-use Rattle.lane_align.proofs.Controls.{run_within}
-use Rattle.lane_track.specs.Strays.{IsStray}
 use Rattle.period_grammar.specs.Events.{Event}
-use Rattle.std.specs.Prelude.{slice_index}
 use Rattle.link_sink.proofs.Feeding.{length_grown}
 use Rattle.link_sink.specs.Sinks.{Fed, grown, IsGain, IsLast}
 use Rattle.link_sink.specs.declared.hear.Outcome.{Outcome}
 use Rattle.track_sink.specs.TrackEvents.{TrackEvent, track_events_of}
-use Rattle.track_sink.specs.Epochs.{lane_of, rest_of, front_of, HasNoEnd, IsTrack}
-use Rattle.track_sink.specs.Tracks.{HasTracked}
-use Rattle.track_sink.specs.Lanes.{AreSought, EndsAt}
-use Rattle.track_sink.specs.Trackers.{most_of, most_fed, Follows, Carries, HasLooked, Stays, CanClose, Stands, IsSettled}
-use Rattle.track_sink.specs.declared.lanes.Stray.{Stray}
+use Rattle.track_sink.specs.Epochs.{EpochRule, lane_of, most_of, rest_of, front_of, IsTrackBy}
+use Rattle.track_sink.specs.Rules.{IsRule, IsWatch}
+use Rattle.track_sink.specs.Tracks.{HasTrackedBy}
+use Rattle.track_sink.specs.Trackers.{most_fed, HasReported, Carries, HasLooked, CanClose, Stands, IsSettled}
 use Rattle.track_sink.specs.declared.tracker.Tracker.{Tracker}
-use Rattle.track_sink.proofs.Following.{lane_of_rest, no_longer, longest_is, follows_last, track_events_both}
-use Rattle.track_sink.proofs.Handing.{carries_stays, longest_held}
-use Rattle.track_sink.proofs.Turning.{follows_at, follows_reached, end_is_far}
-
--- a lane of the epoch is no longer than the longest
-pub rest_no_longer : (fed : Fed) (start l : ℕ) → start ≤ most_of fed → length (lane_of (rest_of start fed) l) + start ≤ most_of fed
-rest_no_longer fed start l reached = let e = ap length (lane_of_rest start fed l) ∙ length-drop start (lane_of fed l) in let h = no_longer fed l in omega arith
+use Rattle.track_sink.specs.declared.watch.End.{End}
+use Rattle.track_sink.specs.Feds.{longest_is, rest_no_longer, most_rest}
+use Rattle.track_sink.proofs.Following.{follows_last, track_events_both}
+use Rattle.track_sink.proofs.Handing.{longest_held}
+use Rattle.track_sink.proofs.Turning.{end_place, follows_reached}
 
 started : (t : Tracker) (fed : Fed) → Carries t fed → t.start ≤ most_of fed
 started t fed c = let within = c.within in omega arith
@@ -33,77 +28,125 @@ most_fed_is t fed c = ap₂ max c.blue.fed (ap₂ max c.green.fed c.red.fed)
 
 -- Following.
 
-pub can_close : (t u : Tracker) (fed : Fed) (reported : List TrackEvent) (stray : Stray) → Stands t fed reported → Stays t u → EndsAt (rest_of t.start fed) stray × (t.handed ≤ stray.place) → CanClose u fed stray
-can_close t u fed reported stray s stays found = grind (arith, carries_stays)
+pub can_close : {W : Type 0} {r : EpochRule} {looked : W → Fed → Type 0} {passed : W → ℕ} (t u : Tracker) (w : W) (fed : Fed) (reported : List TrackEvent) (end : End) → u ≡ t → Stands r looked passed t w fed reported
+    → r.ends (rest_of t.start fed) end.cause end.place × (t.handed ≤ end.place) → CanClose r u fed end
+can_close {W} {r} t u w fed reported end same s found =
+    subst (λ (x : Tracker). CanClose r x fed end) (sym same) (record { carries = s.carries; whole = s.whole; room = s.room; ends = found.0; after = found.1 })
 
-pub follows_stays : (t u : Tracker) (fed : Fed) (reported : List TrackEvent) → Stays t u → Follows fed t.start t.handed t.begun t.epochs t.aligned reported → Follows fed u.start u.handed u.begun u.epochs u.aligned reported
-follows_stays t u fed reported s was = follows_at fed t.start u.start t.handed u.handed t.begun u.begun t.epochs u.epochs t.aligned u.aligned reported s.start s.handed s.begun s.epochs s.aligned was
+pub stands_closed : {W : Type 0} {r : EpochRule} {looked : W → Fed → Type 0} {passed : W → ℕ} → IsRule r → (u v : Tracker) (w : W) (fed : Fed) (reported : List TrackEvent) (end : End) → CanClose r u fed end
+    → Carries v fed × HasLooked looked passed v w fed → v.start ≡ u.start + end.place → v.handed ≡ 0
+    → HasReported r v fed reported → Stands r looked passed v w fed reported
+stands_closed is u v w fed reported end can now es eh follows =
+    let after = can.after in
+    let room = can.room in
+    record { carries = now.0; looked_on = now.1; follows = follows; whole = ap (λ n. n % 8) eh; room = omega arith }
 
-pub stands_closed : (u v : Tracker) (fed : Fed) (reported : List TrackEvent) (stray : Stray) → CanClose u fed stray → Carries v fed × HasLooked v fed → v.start ≡ u.start + stray.place → v.handed ≡ 0
-    → Follows fed v.start v.handed v.begun v.epochs v.aligned reported → Stands v fed reported
-stands_closed u v fed reported stray can now es eh follows = grind arith
+-- the bits that are held of an epoch begin no later than it ends, and they are few
+pub can_look : (t : Tracker) (fed : Fed) → Carries t fed → (t.handed ≤ most_of (rest_of t.start fed)) × (most_of (rest_of t.start fed) < MOST_BITS)
+can_look t fed c = let e = most_rest fed t.start (started t fed c) in let within = c.within in let small = c.small in (omega arith, omega arith)
+
+-- what looks on through them finds an end past all that was handed on, or has looked at all that they decide
+pub found_next : {W : Type 0} {r : EpochRule} {looked : W → Fed → Type 0} {passed : W → ℕ} → IsWatch r looked passed → (t : Tracker) (w v : W) (fed : Fed) (found : Option End) → Carries t fed → HasLooked looked passed t w fed
+    → MatchOption found (looked v (rest_of t.start fed) × r.none (rest_of t.start fed) × (most_of (rest_of t.start fed) ≤ passed v + r.back)) (λ end. r.ends (rest_of t.start fed) end.cause end.place)
+    → (found ≡ None → passed w ≤ passed v)
+    → MatchOption found (HasLooked looked passed t v fed × r.none (rest_of t.start fed) × (most_of fed ≤ t.start + passed v + r.back)) (λ end. r.ends (rest_of t.start fed) end.cause end.place × (t.handed ≤ end.place))
+found_next watch t w v fed None c was here rises =
+    let e = most_rest fed t.start (started t fed c) in
+    let all = here.2 in
+    let more = rises refl in
+    let after = was.after in
+    (record { looked_at = here.0; after = omega arith }, here.1, omega arith)
+found_next watch t w v fed (Some end) c was here rises =
+    let h = watch.not_before w (rest_of t.start fed) end.cause end.place was.looked_at here in
+    let after = was.after in
+    (here, omega arith)
 
 -- each epoch begins later than the one before
-pub start_rises : (t u v : Tracker) (fed : Fed) (stray : Stray) → Carries t fed → Stays t u → CanClose u fed stray → Carries v fed → v.start ≡ u.start + stray.place → most_fed v - v.start < most_fed t - t.start
-start_rises t u v fed stray ct s can cv e = grind (arith, end_is_far, most_fed_is)
+pub start_rises : {r : EpochRule} → IsRule r → (t v : Tracker) (fed : Fed) (end : End) → CanClose r t fed end → Carries v fed → v.start ≡ t.start + end.place → most_fed v - v.start < most_fed t - t.start
+start_rises is t v fed end can cv e =
+    let place = end_place is fed t.start end.cause end.place (started t fed can.carries) can.ends in
+    let inside = is.within (rest_of t.start fed) end.cause end.place can.ends in
+    let x = most_fed_is t fed can.carries in
+    let y = most_fed_is v fed cv in
+    omega arith
 
-pub room_stays : (t u : Tracker) (fed : Fed) (reported : List TrackEvent) → Stands t fed reported → Stays t u → most_of fed ≤ u.start + u.handed + (FEED_BITS + HELD_BACK)
-room_stays t u fed reported s stays = grind arith
+pub room_stays : {W : Type 0} {r : EpochRule} {looked : W → Fed → Type 0} {passed : W → ℕ} (t u : Tracker) (w : W) (fed : Fed) (reported : List TrackEvent) → Stands r looked passed t w fed reported → u ≡ t
+    → most_of fed ≤ u.start + u.handed + (FEED_BITS + (r.back + 7))
+room_stays {W} {r} t u w fed reported s same = subst (λ (x : Tracker). most_of fed ≤ x.start + x.handed + (FEED_BITS + (r.back + 7))) (sym same) s.room
 
--- what may be handed on once all places that are decided were looked at
-pub can_settle : (t : Tracker) (fed : Fed) → Carries t fed → HasLooked t fed → t.handed % 8 ≡ 0 → most_of fed ≤ t.start + t.handed + (FEED_BITS + HELD_BACK)
-    → (t.handed ≤ t.seen / 8 * 8) × (t.start + t.handed + (t.seen / 8 * 8 - t.handed) ≤ most_of fed) × (t.seen / 8 * 8 - t.handed ≤ 32768)
-can_settle t fed c looked whole room = grind arith
+-- what may be handed on once all that the bits decide was looked at
+pub can_settle : {W : Type 0} {r : EpochRule} {looked : W → Fed → Type 0} {passed : W → ℕ} → IsRule r → IsWatch r looked passed → (t : Tracker) (w : W) (fed : Fed) → Carries t fed → HasLooked looked passed t w fed → t.handed % 8 ≡ 0
+    → most_of fed ≤ t.start + t.handed + (FEED_BITS + (r.back + 7))
+    → (t.handed ≤ passed w / 8 * 8) × (t.start + t.handed + (passed w / 8 * 8 - t.handed) ≤ most_of fed) × (passed w / 8 * 8 - t.handed ≤ 32768)
+can_settle {W} {r} {looked} {passed} is watch t w fed c looked_on whole room =
+    let after = looked_on.after in
+    let start = started t fed c in
+    let e = most_rest fed t.start start in
+    let few = is.few in
+    let within = c.within in
+    elim (watch.reaches w (rest_of t.start fed) looked_on.looked_at) [
+      | inl none ↦ (omega arith, omega arith, omega arith)
+      | inr far ↦ (omega arith, omega arith, omega arith)
+    ]
 
-pub settles : (u w : Tracker) (fed : Fed) (reported : List TrackEvent) (us : List Event) → HasLooked u fed × (most_of fed ≤ u.start + u.seen + 119) → u.handed % 8 ≡ 0 → most_of fed ≤ u.start + u.handed + (FEED_BITS + HELD_BACK) → Carries u fed → Carries w fed
-    → w.start ≡ u.start → w.handed ≡ u.handed + (u.seen / 8 * 8 - u.handed) → w.seen ≡ u.seen
-    → w.lanes.blue.scout ≡ u.lanes.blue.scout → w.lanes.green.scout ≡ u.lanes.green.scout → w.lanes.red.scout ≡ u.lanes.red.scout
-    → Follows fed w.start w.handed w.begun w.epochs w.aligned reported → IsSettled w fed reported
-settles u w fed reported us looked whole room cu cw es eh en sx sy sz follows =
-    let few = can_settle u fed cu looked.0 whole room in
-    let was = looked.0.sought in
-    let sought : AreSought w.lanes w.seen (rest_of w.start fed) = record { blue = rw (es, en, sx) was.blue; green = rw (es, en, sy) was.green; red = rw (es, en, sz) was.red } in
-    let sure : HasLooked w fed = record { sought = sought; after = omega arith; decided = rw (es, en) looked.0.decided } in
-    record { stands = record { carries = cw; looked = sure; follows = follows; whole = omega arith; room = omega arith }; all = omega arith; near = omega arith }
+pub can_hand_on : {W : Type 0} {r : EpochRule} {looked : W → Fed → Type 0} {passed : W → ℕ} → IsRule r → IsWatch r looked passed → (t u : Tracker) (w v : W) (fed : Fed) (reported : List TrackEvent) → Stands r looked passed t w fed reported → u ≡ t
+    → HasLooked looked passed u v fed
+    → (u.handed ≤ passed v / 8 * 8) × (u.start + u.handed + (passed v / 8 * 8 - u.handed) ≤ most_of fed) × (passed v / 8 * 8 - u.handed ≤ 32768)
+can_hand_on is watch t u w v fed reported s same looked_on =
+    can_settle is watch u v fed (subst (λ (x : Tracker). Carries x fed) (sym same) s.carries) looked_on (ap (λ (x : Tracker). x.handed % 8) same ∙ s.whole) (room_stays t u w fed reported s same)
+
+pub settles : {W : Type 0} {r : EpochRule} {looked : W → Fed → Type 0} {passed : W → ℕ} → IsRule r → IsWatch r looked passed → (u v : Tracker) (w : W) (fed : Fed) (reported : List TrackEvent)
+    → HasLooked looked passed u w fed × r.none (rest_of u.start fed) × (most_of fed ≤ u.start + passed w + r.back) → u.handed % 8 ≡ 0 → most_of fed ≤ u.start + u.handed + (FEED_BITS + (r.back + 7)) → Carries u fed → Carries v fed
+    → v.start ≡ u.start → v.handed ≡ u.handed + (passed w / 8 * 8 - u.handed)
+    → HasReported r v fed reported → IsSettled r looked passed v w fed reported
+settles {W} {r} {looked} {passed} is watch u v w fed reported here whole room cu cv es eh follows =
+    let few = can_settle is watch u w fed cu here.0 whole room in
+    let a = few.0 in
+    let P : ℕ → Type 0 = λ n. looked w (rest_of n fed) in
+    let Q : ℕ → Type 0 = λ n. r.none (rest_of n fed) in
+    let all = here.2 in
+    record {
+      stands = record {
+        carries = cv;
+        looked_on = record { looked_at = subst P (sym es) here.0.looked_at; after = omega arith };
+        follows = follows;
+        whole = omega arith;
+        room = omega arith;
+      };
+      endless = subst Q (sym es) here.1;
+      all = omega arith;
+      near = omega arith;
+    }
 
 -- The end.
 
--- where all was looked at, there is no stray
-all_sought : (t : Tracker) (fed : Fed) → Carries t fed → HasLooked t fed → most_of fed ≤ t.start + t.seen + 119 → (l p : ℕ) → p + 120 ≤ length (lane_of (rest_of t.start fed) l) → IsStray (lane_of (rest_of t.start fed) l) p → ⊥
-all_sought t fed c looked all zero p long stray = looked.sought.blue.none p (let h = rest_no_longer fed t.start 0 (started t fed c) in omega arith) stray
-all_sought t fed c looked all (suc zero) p long stray = looked.sought.green.none p (let h = rest_no_longer fed t.start 1 (started t fed c) in omega arith) stray
-all_sought t fed c looked all (suc (suc l)) p long stray = looked.sought.red.none p (let h = rest_no_longer fed t.start 2 (started t fed c) in omega arith) stray
-
-pub settled_no_end : (t : Tracker) (fed : Fed) (reported : List TrackEvent) → IsSettled t fed reported → HasNoEnd (rest_of t.start fed)
-settled_no_end t fed reported s l lt p stray =
-    all_sought t fed s.stands.carries s.stands.looked s.all l p (run_within (lane_of (rest_of t.start fed) l) p stray.run) stray
-
-pub tracks_all : (t u v : Tracker) (fed : Fed) (reported : List TrackEvent) (outcome : Outcome) (us last : List Event) (longest : ℕ) → IsSettled t fed reported
+pub tracks_all : {W : Type 0} {r : EpochRule} {looked : W → Fed → Type 0} {passed : W → ℕ} (t u v : Tracker) (w : W) (fed : Fed) (reported : List TrackEvent) (outcome : Outcome) (us last : List Event) (longest : ℕ) → IsSettled r looked passed t w fed reported
     → longest ≡ max (length t.lanes.blue.held.bits) (max (length t.lanes.green.held.bits) (length t.lanes.red.held.bits))
     → IsGain (front_of t.handed (rest_of t.start fed)) (front_of (t.handed + longest) (rest_of t.start fed)) us → IsLast (front_of u.handed (rest_of u.start fed)) outcome last
     → u.start ≡ t.start → u.handed ≡ t.handed + longest → u.begun ≡ t.begun → u.epochs ≡ t.epochs → u.aligned ≡ t.aligned
     → v.epochs ≡ u.epochs + 1 → v.aligned ≡ u.aligned + one_if outcome.aligned
-    → IsTrack fed v.epochs v.aligned (reported ++ track_events_of (us ++ last))
-tracks_all t u v fed reported outcome us last longest settled most gain is_last es eh eb ee ea en em =
+    → IsTrackBy r fed v.epochs v.aligned (reported ++ track_events_of (us ++ last))
+tracks_all {W} {r} t u v w fed reported outcome us last longest settled most gain is_last es eh eb ee ea en em =
     let all = longest_held t fed settled.stands.carries in
     let follows = follows_reached t u fed longest reported us gain es eh eb ee ea settled.stands.follows in
-    let P : ℕ → Type 0 = λ n. HasNoEnd (rest_of n fed) in
-    let track = follows_last fed u.start u.handed u.begun u.epochs u.aligned (reported ++ track_events_of us) outcome last (omega arith) (subst P (sym es) (settled_no_end t fed reported settled)) is_last follows in
+    let P : ℕ → Type 0 = λ n. r.none (rest_of n fed) in
+    let track = follows_last fed u.start u.handed u.begun u.epochs u.aligned (reported ++ track_events_of us) outcome last (omega arith) (subst P (sym es) settled.endless) is_last follows in
     grind (arith, append_assoc, track_events_both)
 
 -- What a settled tracker has reported.
 
-early_of : (t : Tracker) (fed : Fed) → HasLooked t fed → (t.handed ≡ 0) ⊎ ((l : ℕ) × (l < 3) × (t.handed + 119 ≤ length (lane_of (rest_of t.start fed) l)))
-early_of t fed looked =
-    let after = looked.after in
-    elim looked.decided [
+early_of : {W : Type 0} {r : EpochRule} {looked : W → Fed → Type 0} {passed : W → ℕ} → IsWatch r looked passed → (t : Tracker) (w : W) (fed : Fed) → Carries t fed → HasLooked looked passed t w fed
+    → (t.handed ≡ 0) ⊎ ((l : ℕ) × (l < 3) × (t.handed + r.back ≤ length (lane_of (rest_of t.start fed) l)))
+early_of {W} {r} {looked} {passed} watch t w fed c looked_on =
+    let after = looked_on.after in
+    elim (watch.reaches w (rest_of t.start fed) looked_on.looked_at) [
       | inl none ↦ inl (omega arith)
-      | inr far ↦ longest_is fed ((t.handed ≡ 0) ⊎ ((l : ℕ) × (l < 3) × (t.handed + 119 ≤ length (lane_of (rest_of t.start fed) l)))) (λ l lt e.
-          inr (l, lt, let g = ap length (lane_of_rest t.start fed l) ∙ length-drop t.start (lane_of fed l) in omega arith))
+      | inr far ↦ longest_is (rest_of t.start fed) ((t.handed ≡ 0) ⊎ ((l : ℕ) × (l < 3) × (t.handed + r.back ≤ length (lane_of (rest_of t.start fed) l)))) (λ l lt e. inr (l, lt, omega arith))
     ]
 
-pub settled_tracks : (t : Tracker) (fed : Fed) (reported : List TrackEvent) → IsSettled t fed reported → HasTracked fed reported
-settled_tracks t fed reported s =
+pub settled_tracks : {W : Type 0} {r : EpochRule} {looked : W → Fed → Type 0} {passed : W → ℕ} → IsWatch r looked passed → (t : Tracker) (w : W) (fed : Fed) (reported : List TrackEvent) → IsSettled r looked passed t w fed reported
+    → HasTrackedBy r fed reported
+settled_tracks watch t w fed reported s =
     let f = s.stands.follows in
     let c = s.stands.carries in
     let all = s.all in
@@ -118,20 +161,20 @@ settled_tracks t fed reported s =
         closed = f.closed;
         events = f.events;
         goes_on = f.goes_on;
-        none = λ l p lt long stray. all_sought t fed c s.stands.looked all l p long stray;
+        endless = s.endless;
         whole = s.stands.whole;
         held = λ l lt. let h = rest_no_longer fed t.start l (started t fed c) in omega arith;
-        early = early_of t fed s.stands.looked;
+        early = early_of watch t w fed c s.stands.looked_on;
         so_far = f.so_far;
         reported_are = f.reported_are;
       };
     }
 
 -- how many bits were fed of each lane
-pub fed_more : (t u : Tracker) (fed : Fed) (reported now : List TrackEvent) (a b c bits : List ℕ) → IsSettled t fed reported → IsSettled u (grown fed a b c bits) now
+pub fed_more : {W : Type 0} {r : EpochRule} {looked : W → Fed → Type 0} {passed : W → ℕ} (t u : Tracker) (w v : W) (fed : Fed) (reported now : List TrackEvent) (a b c bits : List ℕ) → IsSettled r looked passed t w fed reported → IsSettled r looked passed u v (grown fed a b c bits) now
     → length a ≡ (slice_index bits 0 + 7) / 8 → length b ≡ (slice_index bits 1 + 7) / 8 → length c ≡ (slice_index bits 2 + 7) / 8
     → (u.lanes.blue.fed ≡ t.lanes.blue.fed + slice_index bits 0) × (u.lanes.green.fed ≡ t.lanes.green.fed + slice_index bits 1) × (u.lanes.red.fed ≡ t.lanes.red.fed + slice_index bits 2)
-fed_more t u fed reported now a b c bits before after ea eb ec =
+fed_more t u w v fed reported now a b c bits before after ea eb ec =
     let x = before.stands.carries in
     let y = after.stands.carries in (
       y.blue.fed ∙ length_grown fed.blue (grown fed a b c bits).blue a (slice_index bits 0) ea refl ∙ ap (λ n. n + slice_index bits 0) (sym x.blue.fed),

@@ -1,12 +1,15 @@
--- Epochs: stretches of three lanes in which no lane has a stray. The next begins where one ends.
-use Rattle.std.specs.Prelude.{◌≡◌, ◌⊎◌, ℕ, zero, suc, ◌+◌, ◌<◌, ◌≤◌, Bool, false, ◌||◌, List, ◌++◌, take, drop}
+-- Epochs: stretches of three lanes that are heard by themselves. The next begins where one ends: by a rule, such as that no lane of
+-- an epoch has a stray.
+use Rattle.std.specs.Prelude.{◌≡◌, ◌⊎◌, ℕ, zero, suc, ◌+◌, ◌<◌, ◌≤◌, max, Bool, false, ◌||◌, List, ◌++◌, length, take, drop}
 use Rattle.terc4.specs.Columns.{one_if}
 use Rattle.period_grammar.specs.Events.{Event}
 use Rattle.link_sink.specs.Sinks.{Fed}
 use Rattle.link_sink.specs.Alignment.{AreReported}
 use Rattle.link_sink.specs.declared.hear.Outcome.{Outcome}
 use Rattle.lane_track.specs.Strays.{IsStray, HasNoStray}
-use Rattle.track_sink.specs.TrackEvents.{TrackEvent, track_events_of, slip_if}
+use Rattle.track_sink.specs.TrackEvents.{TrackEvent, track_events_of, end_events}
+use Rattle.track_sink.specs.declared.watch.Cause.{Cause}
+use Rattle.track_sink.specs.declared.watch.Cause.TheVariants.{Slip, Unconfirmed}
 
 abbrev pub lane_of : Fed → ℕ → List Bool
 lane_of fed zero = fed.blue
@@ -21,6 +24,20 @@ rest_of z fed = record { blue = drop z fed.blue; green = drop z fed.green; red =
 abbrev pub front_of : ℕ → Fed → Fed
 front_of z fed = record { blue = take z fed.blue; green = take z fed.green; red = take z fed.red }
 
+-- the bits of the longest lane
+abbrev pub most_of : Fed → ℕ
+most_of fed = max (length fed.blue) (max (length fed.green) (length fed.red))
+
+-- When epochs end.
+
+pub record EpochRule : Type 1 where
+  -- an epoch of these lanes ends for this cause, and the next begins at this place of it
+  pub ends : Fed → Cause → ℕ → Type 0
+  -- it has no end
+  pub none : Fed → Type 0
+  -- what shows an end reaches no further past the place where the next epoch begins
+  pub back : ℕ
+
 -- the least stray of any lane, and the least lane that has it
 pub record IsEnd (fed : Fed) (lane place : ℕ) : Type 0 where
   pub within : lane < 3
@@ -30,21 +47,38 @@ pub record IsEnd (fed : Fed) (lane place : ℕ) : Type 0 where
 abbrev pub HasNoEnd : Fed → Type 0
 HasNoEnd fed = (l : ℕ) → l < 3 → HasNoStray (lane_of fed l)
 
+abbrev pub stray_ends : Fed → Cause → ℕ → Type 0
+stray_ends fed (Slip lane) place = IsEnd fed lane place
+stray_ends fed Unconfirmed place = ⊥
+
+-- an epoch ends at the first stray: the bits of a run from there on show it, all but the last one beyond the place itself
+abbrev pub stray_rule : EpochRule
+stray_rule = record { ends = stray_ends; none = HasNoEnd; back = 119 }
+
+-- What is reported of them.
+
 -- what is reported of lanes whose first bit has a place in the capture: how many epochs there are, how many of them are
 -- aligned, and the events. `begun` says whether an epoch before was aligned
-pub data IsTracked : Bool → ℕ → Fed → ℕ → ℕ → List TrackEvent → Type 0 where
+pub data IsTrackedBy (r : EpochRule) : Bool → ℕ → Fed → ℕ → ℕ → List TrackEvent → Type 0 where
   last_epoch :
       (begun : Bool) (z : ℕ) (fed : Fed) (outcome : Outcome) (events : List Event)
-      → HasNoEnd fed → AreReported fed.blue fed.green fed.red outcome events
-      → IsTracked begun z fed 1 (one_if outcome.aligned) (track_events_of events)
+      → r.none fed → AreReported fed.blue fed.green fed.red outcome events
+      → IsTrackedBy r begun z fed 1 (one_if outcome.aligned) (track_events_of events)
   more_epochs :
-      (begun : Bool) (z : ℕ) (fed : Fed) (outcome : Outcome) (events : List Event) (lane place epochs aligned : ℕ) (rest : List TrackEvent)
-      → IsEnd fed lane place
+      (begun : Bool) (z : ℕ) (fed : Fed) (outcome : Outcome) (events : List Event) (cause : Cause) (place epochs aligned : ℕ) (rest : List TrackEvent)
+      → r.ends fed cause place
       → AreReported (take place fed.blue) (take place fed.green) (take place fed.red) outcome events
-      → IsTracked (begun || outcome.aligned) (z + place) (rest_of place fed) epochs aligned rest
-      → IsTracked begun z fed (1 + epochs) (one_if outcome.aligned + aligned)
-      (track_events_of events ++ (slip_if (begun || outcome.aligned) lane (z + place) ++ rest))
+      → IsTrackedBy r (begun || outcome.aligned) (z + place) (rest_of place fed) epochs aligned rest
+      → IsTrackedBy r begun z fed (1 + epochs) (one_if outcome.aligned + aligned)
+      (track_events_of events ++ (end_events (begun || outcome.aligned) cause (z + place) ++ rest))
 
 -- of a whole capture
+abbrev pub IsTrackBy : EpochRule → Fed → ℕ → ℕ → List TrackEvent → Type 0
+IsTrackBy r fed epochs aligned track_events = IsTrackedBy r false 0 fed epochs aligned track_events
+
+-- the same where epochs end at strays
+abbrev pub IsTracked : Bool → ℕ → Fed → ℕ → ℕ → List TrackEvent → Type 0
+IsTracked begun z fed epochs aligned track_events = IsTrackedBy stray_rule begun z fed epochs aligned track_events
+
 abbrev pub IsTrack : Fed → ℕ → ℕ → List TrackEvent → Type 0
-IsTrack fed epochs aligned track_events = IsTracked false 0 fed epochs aligned track_events
+IsTrack fed epochs aligned track_events = IsTrackBy stray_rule fed epochs aligned track_events

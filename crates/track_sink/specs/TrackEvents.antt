@@ -1,6 +1,8 @@
 -- What a tracker reports: events, and slips between them.
 use Rattle.std.specs.Prelude.{ℕ, Bool, true, false, List, [], ◌∷◌, map}
 use Rattle.period_grammar.specs.Events.{Event}
+use Rattle.track_sink.specs.declared.watch.Cause.{Cause}
+use Rattle.track_sink.specs.declared.watch.Cause.TheVariants.{Slip, Unconfirmed}
 
 pub data TrackEvent : Type 0 where
   event : Event → TrackEvent
@@ -14,3 +16,8 @@ track_events_of events = map event events
 abbrev pub slip_if : Bool → ℕ → ℕ → List TrackEvent
 slip_if true lane place = slip lane place ∷ []
 slip_if false lane place = []
+
+-- of an end for another cause nothing is reported
+abbrev pub end_events : Bool → Cause → ℕ → List TrackEvent
+end_events begun (Slip lane) place = slip_if begun lane place
+end_events begun Unconfirmed place = []

@@ -1,37 +1,50 @@
 -- What a tracker stands for: the bits that it was fed, those of them that it handed on, and the events
 -- that it reported.
-use Rattle.std.specs.Prelude.{◌≡◌, ◌⊎◌, ℕ, ◌+◌, ◌-◌, ◌*◌, ◌%◌, ◌^◌, ◌<◌, ◌≤◌, max, min, Bool, true, List, ◌∷◌, ◌++◌, length, drop}
+use Rattle.std.specs.Prelude.{◌≡◌, ◌⊎◌, ⊤, ℕ, ◌+◌, ◌-◌, ◌%◌, ◌<◌, ◌≤◌, max, min, Bool, true, false, List, ◌∷◌, ◌++◌, length, drop}
 use Rattle.std.proofs.Common.{suc, zero}
 use Rattle.period_grammar.specs.Events.{Event}
 use Rattle.tmds_word.specs.declared.TheConstants.{MOST_BITS}
 use Rattle.lane_align.specs.declared.TheConstants.{FEED_BITS}
-use Rattle.lane_track.specs.Strays.{IsStray}
 use Rattle.link_sink.specs.Sinks.{Fed, IsReportedSoFar}
-use Rattle.link_sink.specs.Streams.{SinkRepresents, bits_fed}
+use Rattle.link_sink.specs.Pieces.{no_bits}
+use Rattle.link_sink.specs.Streams.{SinkSeen, SinkRepresents, bits_fed, most_bits}
 use Rattle.track_sink.specs.TrackEvents.{TrackEvent, track_events_of}
-use Rattle.track_sink.specs.Epochs.{lane_of, rest_of, front_of, IsEnd, IsTracked, IsTrack}
+use Rattle.track_sink.specs.Epochs.{EpochRule, most_of, rest_of, front_of, IsTrackedBy, IsTrackBy}
 use Rattle.track_sink.specs.Tracks.{Grows}
-use Rattle.track_sink.specs.Lanes.{AreSought, EndsAt}
-use Rattle.track_sink.specs.declared.TheConstants.{HELD_BACK}
+use Rattle.track_sink.specs.Lanes.{AreFresh}
 use Rattle.track_sink.specs.declared.lane.Lane.{Lane}
-use Rattle.track_sink.specs.declared.lanes.Stray.{Stray}
+use Rattle.track_sink.specs.declared.lanes.Lanes.{Lanes}
 use Rattle.track_sink.specs.declared.tracker.Tracker.{Tracker}
-
--- the bits of the longest lane
-abbrev pub most_of : Fed → ℕ
-most_of fed = max (length fed.blue) (max (length fed.green) (length fed.red))
+use Rattle.track_sink.specs.declared.watch.Cause.{Cause}
+use Rattle.track_sink.specs.declared.watch.Cause.TheVariants.{Slip, Unconfirmed}
+use Rattle.track_sink.specs.declared.watch.End.{End}
 
 -- these events are reported: so many epochs are closed, so many of them aligned, the next begins at a place, and of
 -- that one so many bits of each lane were handed on
-pub record Follows (fed : Fed) (start handed : ℕ) (begun : Bool) (epochs aligned : ℕ) (reported : List TrackEvent) : Type 0 where
+pub record Follows (r : EpochRule) (fed : Fed) (start handed : ℕ) (begun : Bool) (epochs aligned : ℕ) (reported : List TrackEvent) : Type 0 where
   pub closed : List TrackEvent
   pub events : List Event
   -- whatever follows, the epochs before are closed
   pub goes_on :
       (later : Fed) → Grows fed later
-      → (n m : ℕ) (rest : List TrackEvent) → IsTracked begun start (rest_of start later) n m rest → IsTrack later (epochs + n) (aligned + m) (closed ++ rest)
+      → (n m : ℕ) (rest : List TrackEvent) → IsTrackedBy r begun start (rest_of start later) n m rest → IsTrackBy r later (epochs + n) (aligned + m) (closed ++ rest)
   pub so_far : IsReportedSoFar (front_of handed (rest_of start fed)) events
   pub reported_are : reported ≡ closed ++ track_events_of events
+
+-- a tracker has reported them
+abbrev pub HasReported : EpochRule → Tracker → Fed → List TrackEvent → Type 0
+HasReported r t fed reported = Follows r fed t.start t.handed t.begun t.epochs t.aligned reported
+
+-- one that was fed no bit
+abbrev pub first_tracker : SinkSeen → Lanes → Tracker
+first_tracker link lanes = record { link = link; lanes = lanes; start = 0; handed = 0; begun = false; epochs = 0; aligned = 0 }
+
+pub record IsFirst (t : Tracker) : Type 0 where
+  pub first : t ≡ first_tracker t.link t.lanes
+  pub link_open : t.link.is_open ≡ true
+  pub link : SinkRepresents t.link no_bits
+  pub bits : most_bits t.link ≡ 0
+  pub lanes : AreFresh t.lanes
 
 -- a lane holds the bits that are not handed on
 pub record HoldsRest (lane : Lane) (bits start handed : ℕ) (xs : List Bool) : Type 0 where
@@ -58,57 +71,47 @@ pub record Carries (t : Tracker) (fed : Fed) : Type 0 where
   pub red : HoldsRest t.lanes.red (bits_fed t.link 2) t.start t.handed fed.red
   pub within : t.start + t.handed ≤ most_of fed
   pub small : most_of fed < MOST_BITS
-  pub few : 2 * t.epochs ≤ t.start
+  pub few : t.epochs ≤ t.start
   pub fewer : t.aligned ≤ t.epochs
 
--- it is where it was, however far it has looked since
-pub record Stays (before now : Tracker) : Type 0 where
-  pub link : now.link ≡ before.link
-  pub blue : now.lanes.blue.held ≡ before.lanes.blue.held
-  pub green : now.lanes.green.held ≡ before.lanes.green.held
-  pub red : now.lanes.red.held ≡ before.lanes.red.held
-  pub blue_fed : now.lanes.blue.fed ≡ before.lanes.blue.fed
-  pub green_fed : now.lanes.green.fed ≡ before.lanes.green.fed
-  pub red_fed : now.lanes.red.fed ≡ before.lanes.red.fed
-  pub start : now.start ≡ before.start
-  pub handed : now.handed ≡ before.handed
-  pub begun : now.begun ≡ before.begun
-  pub epochs : now.epochs ≡ before.epochs
-  pub aligned : now.aligned ≡ before.aligned
+-- what looks for the end of the epoch has looked past all that was handed on
+pub record HasLooked {W : Type 0} (looked : W → Fed → Type 0) (passed : W → ℕ) (t : Tracker) (w : W) (fed : Fed) : Type 0 where
+  pub looked_at : looked w (rest_of t.start fed)
+  pub after : t.handed ≤ passed w
 
--- it has looked at the places of the epoch before one
-pub record HasLooked (t : Tracker) (fed : Fed) : Type 0 where
-  pub sought : AreSought t.lanes t.seen (rest_of t.start fed)
-  pub after : t.handed ≤ t.seen
-  pub decided : (t.seen ≡ 0) ⊎ (t.start + t.seen + 119 ≤ most_of fed)
-
--- its epoch ends at a stray
-pub record CanClose (t : Tracker) (fed : Fed) (stray : Stray) : Type 0 where
+-- its epoch ends
+pub record CanClose (r : EpochRule) (t : Tracker) (fed : Fed) (end : End) : Type 0 where
   pub carries : Carries t fed
   pub whole : t.handed % 8 ≡ 0
-  pub room : most_of fed ≤ t.start + t.handed + (FEED_BITS + HELD_BACK)
-  pub ends : EndsAt (rest_of t.start fed) stray
-  pub after : t.handed ≤ stray.place
+  pub room : most_of fed ≤ t.start + t.handed + (FEED_BITS + (r.back + 7))
+  pub ends : r.ends (rest_of t.start fed) end.cause end.place
+  pub after : t.handed ≤ end.place
 
--- all bits of it before the stray are handed on
-pub record CanTurn (t : Tracker) (fed : Fed) (stray : Stray) : Type 0 where
+-- all bits of it before its end are handed on
+pub record CanTurn (r : EpochRule) (t : Tracker) (fed : Fed) (end : End) : Type 0 where
   pub carries : Carries t fed
-  pub ends : EndsAt (rest_of t.start fed) stray
-  pub here : t.handed ≡ stray.place
+  pub ends : r.ends (rest_of t.start fed) end.cause end.place
+  pub here : t.handed ≡ end.place
+
+-- where it is a slip, it is one of a lane
+abbrev pub IsLane : Cause → Type 0
+IsLane (Slip lane) = lane < 3
+IsLane Unconfirmed = ⊤
 
 -- it has reported these events, and goes on
-pub record Stands (t : Tracker) (fed : Fed) (reported : List TrackEvent) : Type 0 where
+pub record Stands {W : Type 0} (r : EpochRule) (looked : W → Fed → Type 0) (passed : W → ℕ) (t : Tracker) (w : W) (fed : Fed) (reported : List TrackEvent) : Type 0 where
   pub carries : Carries t fed
-  pub looked : HasLooked t fed
-  pub follows : Follows fed t.start t.handed t.begun t.epochs t.aligned reported
+  pub looked_on : HasLooked looked passed t w fed
+  pub follows : HasReported r t fed reported
   pub whole : t.handed % 8 ≡ 0
-  pub room : most_of fed ≤ t.start + t.handed + (FEED_BITS + HELD_BACK)
+  pub room : most_of fed ≤ t.start + t.handed + (FEED_BITS + (r.back + 7))
 
--- it has looked at all places that are decided, and handed on what it can
-pub record IsSettled (t : Tracker) (fed : Fed) (reported : List TrackEvent) : Type 0 where
-  pub stands : Stands t fed reported
-  pub all : most_of fed ≤ t.start + t.seen + 119
-  pub near : t.seen ≤ t.handed + 7
+-- all that its bits decide was looked at, and it has handed on what it can
+pub record IsSettled {W : Type 0} (r : EpochRule) (looked : W → Fed → Type 0) (passed : W → ℕ) (t : Tracker) (w : W) (fed : Fed) (reported : List TrackEvent) : Type 0 where
+  pub stands : Stands r looked passed t w fed reported
+  pub endless : r.none (rest_of t.start fed)
+  pub all : most_of fed ≤ t.start + passed w + r.back
+  pub near : passed w ≤ t.handed + 7
 
 -- Where an ear fails.
 
@@ -124,14 +127,15 @@ pub record Stops {A : Type 0} (tracked : A → A → List TrackEvent → Type 0)
 
 -- these events are the first that are reported of bits: what is reported of closed epochs, and of some of the bits that
 -- are decided of the next one, before the end that it may have
-pub record Passes (fed : Fed) (reported : List TrackEvent) : Type 0 where
+pub record Passes (r : EpochRule) (fed : Fed) (reported : List TrackEvent) : Type 0 where
   pub start : ℕ
   pub handed : ℕ
   pub begun : Bool
   pub epochs : ℕ
   pub aligned : ℕ
-  pub follows : Follows fed start handed begun epochs aligned reported
-  pub within : start + handed ≤ most_of fed
-  pub none : (l p : ℕ) → l < 3 → p < handed → IsStray (lane_of (rest_of start fed) l) p → ⊥
-  pub whole : (handed % 8 ≡ 0) ⊎ ((lane place : ℕ) × IsEnd (rest_of start fed) lane place)
-  pub early : (handed ≡ 0) ⊎ (start + handed + 119 ≤ most_of fed)
+  pub follows : Follows r fed start handed begun epochs aligned reported
+  pub reached : start + handed ≤ most_of fed
+  pub before : (cause : Cause) (place : ℕ) → r.ends (rest_of start fed) cause place → handed ≤ place
+  pub early :
+      ((handed % 8 ≡ 0) × ((handed ≡ 0) ⊎ (start + handed + r.back ≤ most_of fed)))
+      ⊎ ((cause : Cause) × (place : ℕ) × r.ends (rest_of start fed) cause place)

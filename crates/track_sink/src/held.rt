@@ -1,7 +1,9 @@
 //! Bits of one lane that are not handed on yet, and those that are handed on next: one buffer has both.
 ghost use Rattle.std.specs.Prelude.{ℕ, ◌≡◌, ◌<◌, ◌≤◌, ◌+◌, ◌*◌, ◌/◌, ◌%◌, ◌^◌, ◌++◌, [], IfOk, length, take, drop};
 ghost use Rattle.tmds_word.specs.Bits.{bits_of, bytes_bits, number};
+ghost use Rattle.track_sink.specs.Lents.{HasRoom};
 
+use crate::watch::LentBits;
 use crate::{ROOM, ROOM_BITS};
 use lane_track::eight_bytes;
 use outside_io::NoMemory;
@@ -20,13 +22,6 @@ pub(crate) struct Held {
     border: u32,
     /// How many they are.
     released: u32,
-}
-
-/// Bytes that are lent for their bits after the first few.
-#[derive(Clone, Copy)]
-pub(crate) struct Lent<'a> {
-    pub(crate) bytes: &'a [u8],
-    pub(crate) skip: u32,
 }
 
 impl Model for Held {
@@ -68,15 +63,15 @@ impl Held {
     }
 
     /// The bytes that have its bits.
-    pub(crate) fn lent(&self) -> Lent<'_>
-        ensures bits { take (length self.now.bits) (drop result.skip (bytes_bits result.bytes.now)) ≡ self.now.bits }
-        ensures size { result.skip + length self.now.bits + 16 ≤ 8 * length result.bytes.now }
-        ensures few { result.skip < 8 }
-        ensures within { length result.bytes.now ≤ ROOM }
+    pub(crate) fn lent(&self) -> LentBits<'_>
+        ensures bits { take result.count (drop result.skip (bytes_bits result.bytes.now)) ≡ self.now.bits }
+        ensures many { result.count ≡ length self.now.bits }
+        ensures room { HasRoom result }
     {
-        Lent {
+        LentBits {
             bytes: &self.bytes[self.start as usize / 8..],
             skip: self.start % 8,
+            count: self.count,
         }
     }
 

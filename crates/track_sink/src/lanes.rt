@@ -1,20 +1,16 @@
 //! Three lanes of an epoch.
-ghost use Rattle.std.specs.Prelude.{ℕ, ◌≡◌, ◌<◌, ◌≤◌, ◌+◌, max, List, Bool, [], IfOk, MatchOption, Option, None, Some, length, drop, slice_index};
-ghost use Rattle.lane_track.specs.Scouts.{HasSought};
+ghost use Rattle.std.specs.Prelude.{ℕ, ◌≡◌, ◌<◌, ◌≤◌, ◌+◌, max, IfOk, length, slice_index};
+ghost use Rattle.tmds_word.specs.declared.TheConstants.{MOST_BITS};
 ghost use Rattle.link_sink.specs.Sinks.{Fed};
-ghost use Rattle.track_sink.specs.Lanes.{AreFresh, AreHeld, AreSought, EndsAt, IsReleased, last_stray};
+ghost use Rattle.track_sink.specs.Epochs.{most_of};
+ghost use Rattle.track_sink.specs.Lanes.{AreFresh, AreHeld, IsReleased};
+ghost use Rattle.track_sink.specs.Lents.{AreLent};
 
 use crate::ROOM_BITS;
 use crate::lane::Lane;
+use crate::watch::LentLanes;
 use outside_io::NoMemory;
 use std::alloc::Global;
-
-/// A stray of a lane, at a place of the epoch.
-#[derive(Clone, Copy)]
-pub(crate) struct Stray {
-    pub(crate) lane: u8,
-    pub(crate) place: u64,
-}
 
 /// Three lanes.
 #[derive(Drop)]
@@ -47,27 +43,17 @@ impl Lanes {
         blue.max(green.max(red))
     }
 
-    /// Looks at the epoch's places from `from` on and before `until`, where bit `base` is the first that is held, and
-    /// answers the least stray of any lane, of the least lane that has it. Where a lane has one, the next are looked
-    /// through up to its place alone.
-    pub(crate) fn seek(&mut self, base: u64, from: u64, until: u64) -> Option<Stray>
-        requires after { base ≤ from }
-        requires order { from ≤ until }
-        ensures blue { self.new.blue.held ≡ self.old.blue.held }
-        ensures green { self.new.green.held ≡ self.old.green.held }
-        ensures red { self.new.red.held ≡ self.old.red.held }
-        ensures blue_fed { self.new.blue.fed ≡ self.old.blue.fed }
-        ensures green_fed { self.new.green.fed ≡ self.old.green.fed }
-        ensures red_fed { self.new.red.fed ≡ self.old.red.fed }
-        ensures sought { (fed : Fed) → AreHeld self.old base fed → AreSought self.old from fed
-            → MatchOption result (AreSought self.new until fed) (EndsAt fed) }
+    /// Lends the bits that are held, the first of which is at a place of the epoch.
+    pub(crate) fn lent(&self, base: u64) -> LentLanes<'_>
+        ensures lent { (fed : Fed) → AreHeld self.now base fed → base ≤ most_of fed → most_of fed < MOST_BITS → AreLent result fed }
+        ensures base { result.base ≡ base }
     {
-        let blue = self.blue.seek(base, from, until);
-        let before_blue = end_of(blue, from, until);
-        let green = self.green.seek(base, from, before_blue);
-        let before_green = end_of(green, from, before_blue);
-        let red = self.red.seek(base, from, before_green);
-        last_of(blue, green, red)
+        LentLanes {
+            blue: self.blue.held.lent(),
+            green: self.green.held.lent(),
+            red: self.red.held.lent(),
+            base,
+        }
     }
 
     /// Releases the first bits of each, or all where there are fewer, and answers how many.
@@ -81,44 +67,5 @@ impl Lanes {
             self.green.release(bits),
             self.red.release(bits),
         ]
-    }
-
-    /// Forgets what was looked at: an epoch begins with the first bits that are held.
-    pub(crate) fn restart(&mut self)
-        ensures blue { self.new.blue.held ≡ self.old.blue.held }
-        ensures green { self.new.green.held ≡ self.old.green.held }
-        ensures red { self.new.red.held ≡ self.old.red.held }
-        ensures blue_fed { self.new.blue.fed ≡ self.old.blue.fed }
-        ensures green_fed { self.new.green.fed ≡ self.old.green.fed }
-        ensures red_fed { self.new.red.fed ≡ self.old.red.fed }
-        ensures sought { (fed : Fed) → AreSought self.new 0 fed }
-    {
-        self.blue.restart();
-        self.green.restart();
-        self.red.restart();
-    }
-}
-
-/// The end of the places of the next lane that can still be the least: a place that was found, or where none was.
-fn end_of(found: Option<u64>, from: u64, until: u64) -> u64
-    requires { from ≤ until }
-    ensures order { from ≤ result }
-    ensures end { MatchOption found (result ≡ until) (λ place. result ≡ max place from) }
-{
-    match found {
-        Some(place) => place.max(from),
-        None => until,
-    }
-}
-
-/// The place of the last lane that has one.
-fn last_of(blue: Option<u64>, green: Option<u64>, red: Option<u64>) -> Option<Stray>
-    ensures { result ≡ last_stray blue green red }
-{
-    match (blue, green, red) {
-        (_, _, Some(place)) => Some(Stray { lane: 2, place }),
-        (_, Some(place), None) => Some(Stray { lane: 1, place }),
-        (Some(place), None, None) => Some(Stray { lane: 0, place }),
-        (None, None, None) => None,
     }
 }

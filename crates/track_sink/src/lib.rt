@@ -1,15 +1,22 @@
-//! What is reported of three lanes that may lose bits: epochs, each of which begins where a lane lost some.
+//! What is reported of three lanes that may lose bits: epochs, each of which begins where one before ends, as where a lane lost
+//! some.
 #![tactic(auto)]
 
 mod ear;
+mod feeding;
+mod follower;
 mod held;
 mod lane;
 mod lanes;
 mod sink;
+mod strays;
 mod tracker;
+mod watch;
 
 pub use ear::{TrackEar, TrackOutcome};
-pub use sink::TrackSink;
+pub use sink::{EpochSink, TrackSink};
+pub use strays::Strays;
+pub use watch::{Cause, End, LentBits, LentLanes, Watch};
 
 #[cfg(test)]
 mod tests;
@@ -19,6 +26,3 @@ const ROOM: usize = 4_224;
 
 /// How many bits of them are used.
 const ROOM_BITS: u32 = 33_720;
-
-/// How many bits of a lane are held back at most: those of a run but its last one, and those of a byte that is not whole.
-const HELD_BACK: u32 = 126;

@@ -5,12 +5,15 @@ ghost use Rattle.link_sink.specs.Sinks.{Fed, grown_by};
 ghost use Rattle.link_sink.specs.Pieces.{no_bits};
 ghost use Rattle.link_sink.specs.Received.{CanFeedLanes, AreFedMore};
 ghost use Rattle.track_sink.specs.TrackEvents.{TrackEvent};
-ghost use Rattle.track_sink.specs.Epochs.{IsTrack};
-ghost use Rattle.track_sink.specs.Tracks.{HasTracked};
+ghost use Rattle.track_sink.specs.Epochs.{IsTrackBy};
+ghost use Rattle.track_sink.specs.Tracks.{HasTrackedBy};
 ghost use Rattle.track_sink.specs.Trackers.{Stops};
-ghost use Rattle.track_sink.specs.TrackSinks.{TrackSinkRepresents, bits_fed, most_bits};
+ghost use Rattle.track_sink.specs.TrackSinks.{EpochSinkRepresents, bits_fed, most_bits};
 
-use crate::tracker::Tracker;
+use crate::feeding::{ByWorkers, Feeds, InTurn};
+use crate::follower::Follower;
+use crate::strays::Strays;
+use crate::watch::Watch;
 use crate::{TrackEar, TrackOutcome};
 use outside_io::{Failed, NoMemory};
 use std::alloc::Global;
@@ -18,35 +21,36 @@ use std::marker::Model;
 use std::thread::Threads;
 use tmds_word::LaneBits;
 
-/// Hears three lanes whose bits arrive feed after feed, begins anew where a lane lost bits, and reports to an ear what
+/// Hears three lanes that may lose bits, and begins anew where one lost some.
+pub type TrackSink = EpochSink<Strays>;
+
+/// Hears three lanes whose bits arrive feed after feed, begins anew where an epoch of them ends, and reports to an ear what
 /// they say. It has taken all its memory when it is opened: a `LinkSink`, and a buffer of 4,224 bytes for each lane.
 #[derive(Drop)]
-pub struct TrackSink {
-    tracker: Tracker,
+pub struct EpochSink<W: Watch> {
+    follower: Follower<W>,
     is_open: bool,
 }
 
-impl Model for TrackSink {
-    ghost use Rattle.track_sink.specs.Tracks.{HasTracked};
-    ghost use Rattle.track_sink.specs.Trackers.{Stops};
-    ghost use Rattle.track_sink.specs.TrackSinks.{TrackSinkSeen, IsKept};
+impl<W: Watch> Model for EpochSink<W> {
+    ghost use Rattle.track_sink.specs.TrackSinks.{EpochSinkSeen, IsKept};
 
-    ghost Value = { TrackSinkSeen };
+    ghost Value = { EpochSinkSeen W };
 
-    ghost view = { λ s. record { tracker = s.tracker; is_open = s.is_open } };
+    ghost view = { λ s. record { tracker = s.follower.tracker; watch = s.follower.watch; is_open = s.is_open } };
 
-    ghost invariant = { λ s. IsKept s.is_open s.tracker };
+    ghost invariant = { λ s. IsKept W.rule W.looked W.passed s.is_open s.follower.tracker s.follower.watch };
 }
 
-impl TrackSink {
+impl<W: Watch> EpochSink<W> {
     /// A sink that was fed no bits, with all memory that it ever has.
-    pub fn open(alloc: Global) -> Result<TrackSink, NoMemory>
+    pub fn open(alloc: Global) -> Result<EpochSink<W>, NoMemory>
         ensures open { IfOk result (λ s. s.is_open ≡ true) }
-        ensures fed { IfOk result (λ s. TrackSinkRepresents s no_bits []) }
+        ensures fed { IfOk result (λ s. EpochSinkRepresents W.rule W.looked W.passed s no_bits []) }
         ensures bits { IfOk result (λ s. most_bits s ≡ 0) }
     {
-        Ok(TrackSink {
-            tracker: Tracker::open(alloc)?,
+        Ok(EpochSink {
+            follower: Follower::open(alloc)?,
             is_open: true,
         })
     }
@@ -75,15 +79,62 @@ impl TrackSink {
         requires lanes { CanFeedLanes (bits_fed self.old) (most_bits self.old) lanes }
         ensures open { OnOk result (self.new.is_open ≡ true) }
         ensures more { OnOk result (AreFedMore (bits_fed self.old) (bits_fed self.new) lanes.entry) }
-        ensures reported { (fed : Fed) (reported : List TrackEvent) → TrackSinkRepresents self.old fed reported
-            → OnOk result ((more : List TrackEvent) × E.tracked ear.old ear.new more × TrackSinkRepresents self.new (grown_by fed lanes.entry) (reported ++ more)) }
-        ensures stopped { (fed : Fed) (reported : List TrackEvent) → TrackSinkRepresents self.old fed reported
-            → OnErr result ((more : List TrackEvent) × Stops E.tracked E.lost ear.old ear.new more × HasTracked (grown_by fed lanes.entry) (reported ++ more)) }
+        ensures reported { (fed : Fed) (reported : List TrackEvent) → EpochSinkRepresents W.rule W.looked W.passed self.old fed reported
+            → OnOk result ((more : List TrackEvent) × E.tracked ear.old ear.new more × EpochSinkRepresents W.rule W.looked W.passed self.new (grown_by fed lanes.entry) (reported ++ more)) }
+        ensures stopped { (fed : Fed) (reported : List TrackEvent) → EpochSinkRepresents W.rule W.looked W.passed self.old fed reported
+            → OnErr result ((more : List TrackEvent) × Stops E.tracked E.lost ear.old ear.new more × HasTrackedBy W.rule (grown_by fed lanes.entry) (reported ++ more)) }
         ensures spent { OnErr result (self.new.is_open ≡ false) }
         ensures cause { HasCause (E.faults ear.old) (E.faults ear.new) result }
     {
-        self.tracker.append(lanes);
-        match self.tracker.follow(rt, ear) {
+        self.feed_by(&ByWorkers { rt }, lanes, ear)
+    }
+
+    /// Takes the bits of each lane as `feed` does, one lane after another: by the caller's own thread, however many they
+    /// are.
+    ///
+    /// # Errors
+    ///
+    /// Where a call of the ear failed; the sink is then spent. The ear took the first of the events that are reported
+    /// of these bits, and failed in the next.
+    pub fn feed_in_turn<E: TrackEar>(
+        &mut self,
+        lanes: LaneBits<'_>,
+        ear: &mut E,
+    ) -> Result<(), Failed>
+        requires open { self.old.is_open ≡ true }
+        requires lanes { CanFeedLanes (bits_fed self.old) (most_bits self.old) lanes }
+        ensures open { OnOk result (self.new.is_open ≡ true) }
+        ensures more { OnOk result (AreFedMore (bits_fed self.old) (bits_fed self.new) lanes.entry) }
+        ensures reported { (fed : Fed) (reported : List TrackEvent) → EpochSinkRepresents W.rule W.looked W.passed self.old fed reported
+            → OnOk result ((more : List TrackEvent) × E.tracked ear.old ear.new more × EpochSinkRepresents W.rule W.looked W.passed self.new (grown_by fed lanes.entry) (reported ++ more)) }
+        ensures stopped { (fed : Fed) (reported : List TrackEvent) → EpochSinkRepresents W.rule W.looked W.passed self.old fed reported
+            → OnErr result ((more : List TrackEvent) × Stops E.tracked E.lost ear.old ear.new more × HasTrackedBy W.rule (grown_by fed lanes.entry) (reported ++ more)) }
+        ensures spent { OnErr result (self.new.is_open ≡ false) }
+        ensures cause { HasCause (E.faults ear.old) (E.faults ear.new) result }
+    {
+        self.feed_by(&InTurn, lanes, ear)
+    }
+
+    /// Takes the bits of each lane, in one of these ways.
+    fn feed_by<F: Feeds, E: TrackEar>(
+        &mut self,
+        feeding: &F,
+        lanes: LaneBits<'_>,
+        ear: &mut E,
+    ) -> Result<(), Failed>
+        requires open { self.old.is_open ≡ true }
+        requires lanes { CanFeedLanes (bits_fed self.old) (most_bits self.old) lanes }
+        ensures open { OnOk result (self.new.is_open ≡ true) }
+        ensures more { OnOk result (AreFedMore (bits_fed self.old) (bits_fed self.new) lanes.entry) }
+        ensures reported { (fed : Fed) (reported : List TrackEvent) → EpochSinkRepresents W.rule W.looked W.passed self.old fed reported
+            → OnOk result ((more : List TrackEvent) × E.tracked ear.old ear.new more × EpochSinkRepresents W.rule W.looked W.passed self.new (grown_by fed lanes.entry) (reported ++ more)) }
+        ensures stopped { (fed : Fed) (reported : List TrackEvent) → EpochSinkRepresents W.rule W.looked W.passed self.old fed reported
+            → OnErr result ((more : List TrackEvent) × Stops E.tracked E.lost ear.old ear.new more × HasTrackedBy W.rule (grown_by fed lanes.entry) (reported ++ more)) }
+        ensures spent { OnErr result (self.new.is_open ≡ false) }
+        ensures cause { HasCause (E.faults ear.old) (E.faults ear.new) result }
+    {
+        self.follower.append(lanes);
+        match self.follower.follow(feeding, ear) {
             Ok(()) => Ok(()),
             Err(_) => {
                 self.is_open = false;
@@ -106,13 +157,48 @@ impl TrackSink {
     ) -> Result<TrackOutcome, Failed>
         requires open { self.old.is_open ≡ true }
         ensures closed { self.new.is_open ≡ false }
-        ensures reported { (fed : Fed) (reported : List TrackEvent) → TrackSinkRepresents self.old fed reported
-            → IfOk result (λ outcome. (last : List TrackEvent) × E.tracked ear.old ear.new last × IsTrack fed outcome.epochs outcome.aligned (reported ++ last)) }
-        ensures stopped { (fed : Fed) (reported : List TrackEvent) → TrackSinkRepresents self.old fed reported
-            → OnErr result ((epochs aligned : ℕ) × (last : List TrackEvent) × Stops E.tracked E.lost ear.old ear.new last × IsTrack fed epochs aligned (reported ++ last)) }
+        ensures reported { (fed : Fed) (reported : List TrackEvent) → EpochSinkRepresents W.rule W.looked W.passed self.old fed reported
+            → IfOk result (λ outcome. (last : List TrackEvent) × E.tracked ear.old ear.new last × IsTrackBy W.rule fed outcome.epochs outcome.aligned (reported ++ last)) }
+        ensures stopped { (fed : Fed) (reported : List TrackEvent) → EpochSinkRepresents W.rule W.looked W.passed self.old fed reported
+            → OnErr result ((epochs aligned : ℕ) × (last : List TrackEvent) × Stops E.tracked E.lost ear.old ear.new last × IsTrackBy W.rule fed epochs aligned (reported ++ last)) }
+        ensures cause { HasCause (E.faults ear.old) (E.faults ear.new) result }
+    {
+        self.finish_by(&ByWorkers { rt }, ear)
+    }
+
+    /// Reports the rest to the ear as `finish` does, by the caller's own thread.
+    ///
+    /// # Errors
+    ///
+    /// Where a call of the ear failed: it took the first of the events that are reported of the rest, and failed
+    /// in the next.
+    pub fn finish_in_turn<E: TrackEar>(&mut self, ear: &mut E) -> Result<TrackOutcome, Failed>
+        requires open { self.old.is_open ≡ true }
+        ensures closed { self.new.is_open ≡ false }
+        ensures reported { (fed : Fed) (reported : List TrackEvent) → EpochSinkRepresents W.rule W.looked W.passed self.old fed reported
+            → IfOk result (λ outcome. (last : List TrackEvent) × E.tracked ear.old ear.new last × IsTrackBy W.rule fed outcome.epochs outcome.aligned (reported ++ last)) }
+        ensures stopped { (fed : Fed) (reported : List TrackEvent) → EpochSinkRepresents W.rule W.looked W.passed self.old fed reported
+            → OnErr result ((epochs aligned : ℕ) × (last : List TrackEvent) × Stops E.tracked E.lost ear.old ear.new last × IsTrackBy W.rule fed epochs aligned (reported ++ last)) }
+        ensures cause { HasCause (E.faults ear.old) (E.faults ear.new) result }
+    {
+        self.finish_by(&InTurn, ear)
+    }
+
+    /// Reports the rest to the ear, in one of these ways.
+    fn finish_by<F: Feeds, E: TrackEar>(
+        &mut self,
+        feeding: &F,
+        ear: &mut E,
+    ) -> Result<TrackOutcome, Failed>
+        requires open { self.old.is_open ≡ true }
+        ensures closed { self.new.is_open ≡ false }
+        ensures reported { (fed : Fed) (reported : List TrackEvent) → EpochSinkRepresents W.rule W.looked W.passed self.old fed reported
+            → IfOk result (λ outcome. (last : List TrackEvent) × E.tracked ear.old ear.new last × IsTrackBy W.rule fed outcome.epochs outcome.aligned (reported ++ last)) }
+        ensures stopped { (fed : Fed) (reported : List TrackEvent) → EpochSinkRepresents W.rule W.looked W.passed self.old fed reported
+            → OnErr result ((epochs aligned : ℕ) × (last : List TrackEvent) × Stops E.tracked E.lost ear.old ear.new last × IsTrackBy W.rule fed epochs aligned (reported ++ last)) }
         ensures cause { HasCause (E.faults ear.old) (E.faults ear.new) result }
     {
         self.is_open = false;
-        self.tracker.finish(rt, ear)
+        self.follower.finish(feeding, ear)
     }
 }

@@ -1,4 +1,5 @@
-use Rattle.std.proofs.Common.{◌*◌, ◌/◌, ◌%◌, ◌++◌, arith}
+use Rattle.std.proofs.Common.{◌-◌, ◌++◌, arith}
+use Rattle.lane_align.specs.declared.TheConstants.{FEED_BITS}
 use Rattle.track_sink.specs.Epochs.{rest_of}
 use Rattle.track_sink.proofs.Turning.{rose_after, gains_two}
 use Rattle.link_sink.proofs.Stops.{on_err, stops_after}
@@ -26,14 +27,14 @@ returns-clause-reported g c = λ fed carries room.
     let first = c.in_ok-hand_on.ensures.reported fed carries (omega arith) in
     let second = c.in_ok-hand_on-2.ensures.reported fed (c.in_ok-hand_on.ensures.carries fed carries (omega arith)) (omega (arith, room, c.in_ok-hand_on.ensures.handed, c.hand_on-2.ensures.start)) in (
       first.0 ++ second.0,
-      gains_two fed t.start c.hand_on-2.new.self.start t.handed c.hand_on-2.new.self.handed (bits / 8 * 8) (bits % 8) bits first.0 second.0 c.hand_on-2.ensures.start c.in_ok-hand_on.ensures.handed (omega arith) first.1 second.1,
+      gains_two fed t.start c.hand_on-2.new.self.start t.handed c.hand_on-2.new.self.handed FEED_BITS (bits - FEED_BITS) bits first.0 second.0 c.hand_on-2.ensures.start c.in_ok-hand_on.ensures.handed (omega arith) first.1 second.1,
       g.met.E.Ear.took_both c.args.ear.now c.hand_on-2.new.ear c.hand_on-3.new.ear first.0 second.0 first.2 second.2,
     )
 
 pub returns-in_err-hand_on-clause-stopped : goal.returns-in_err-hand_on-clause-stopped
 returns-in_err-hand_on-clause-stopped g c = λ fed carries room.
     let first = c.in_err-hand_on.ensures.stopped fed carries (omega arith) in
-    on_err {P = LostSome g.E.Ear.took g.E.Ear.broke c.args.ear.now c.hand_on-2.new.ear (rest_of c.args.self.now.start fed) c.args.self.now.handed c.args.bits} _ (c.args.bits / 8 * 8, omega arith, first.0, first.1, first.2)
+    on_err {P = LostSome g.E.Ear.took g.E.Ear.broke c.args.ear.now c.hand_on-2.new.ear (rest_of c.args.self.now.start fed) c.args.self.now.handed c.args.bits} _ (FEED_BITS, omega arith, first.0, first.1, first.2)
 
 pub returns-in_err-hand_on-2-clause-stopped : goal.returns-in_err-hand_on-2-clause-stopped
 returns-in_err-hand_on-2-clause-stopped g c = λ fed carries room.
@@ -45,6 +46,6 @@ returns-in_err-hand_on-2-clause-stopped g c = λ fed carries room.
       bits,
       omega arith,
       first.0 ++ second.0,
-      gains_two fed t.start c.hand_on-2.new.self.start t.handed c.hand_on-2.new.self.handed (bits / 8 * 8) (bits % 8) bits first.0 second.0 c.hand_on-2.ensures.start c.in_ok-hand_on.ensures.handed (omega arith) first.1 second.1,
+      gains_two fed t.start c.hand_on-2.new.self.start t.handed c.hand_on-2.new.self.handed FEED_BITS (bits - FEED_BITS) bits first.0 second.0 c.hand_on-2.ensures.start c.in_ok-hand_on.ensures.handed (omega arith) first.1 second.1,
       stops_after g.E.Ear.took g.E.Ear.broke g.met.E.Ear.took_both c.args.ear.now c.hand_on-2.new.ear c.hand_on-3.new.ear first.0 second.0 first.2 second.2,
     )

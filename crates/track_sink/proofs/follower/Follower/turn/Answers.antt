@@ -1,0 +1,62 @@
+use Rattle.std.proofs.Common.{◌+◌, ◌||◌, ◌++◌, ◌∙◌, ap₂, arith}
+use Rattle.link_sink.proofs.Stops.{on_err}
+use Rattle.track_sink.specs.TrackEvents.{track_events_of, end_events}
+use Rattle.track_sink.specs.Epochs.{rest_of, front_of}
+use Rattle.track_sink.proofs.Turning.{rose_after, is_lane, carries_turned, follows_turned, took_then}
+use Rattle.track_sink.proofs.Failing.{LostMore, stops_events, stops_before, stops_then, passes_turn}
+use Rattle.track_sink.proofs.follower.Follower.turn.Goals as goal
+
+pub end-requires-clause-open : goal.end-requires-clause-open
+end-requires-clause-open g c = c.requires.turn.1.carries.link_open
+
+pub tell_end-requires : goal.tell_end-requires
+tell_end-requires g c = is_lane g.met.W.Watch.is_rule (rest_of c.args.self.now.tracker.start c.requires.turn.0) c.args.end.cause c.args.end.place c.requires.turn.1.ends
+
+pub returns-in_err-tell_end-clause-cause : goal.returns-in_err-tell_end-clause-cause
+returns-in_err-tell_end-clause-cause g c = grind (arith, on_err, rose_after)
+
+pub returns-clause-carries : goal.returns-clause-carries
+returns-clause-carries g c = λ fed can.
+    let t = c.args.self.now.tracker in
+    let u = c.restart.new.self in
+    let e = c.in_ok-end.ensures in
+    carries_turned g.met.W.Watch.is_rule t u c.restart-2.new.self fed c.args.end c.in_ok-end.field-0.aligned can c.restart.ensures.open c.restart.ensures.link c.restart.ensures.bits
+    (c.restart.ensures.lanes ∙ c.end.ensures.lanes) (c.restart.ensures.start ∙ ap₂ (λ m n. m + n) c.end.ensures.start c.end.ensures.handed) c.restart.ensures.handed
+    (c.restart.ensures.epochs ∙ e.epochs) (c.restart.ensures.aligned ∙ e.aligned) c.restart-2.ensures.looked c.restart-2.ensures.passed
+
+pub returns-clause-reported : goal.returns-clause-reported
+returns-clause-reported g c = λ fed reported can was.
+    let t = c.args.self.now.tracker in
+    let u = c.restart.new.self in
+    let e = c.in_ok-end.ensures in
+    let last = e.reported (front_of t.handed (rest_of t.start fed)) can.carries.link in (
+      track_events_of last.0 ++ end_events u.begun c.args.end.cause u.start,
+      took_then g.E.Ear.took g.E.TrackEar.tracked g.met.E.TrackEar.tracked_events g.met.E.TrackEar.tracked_both c.args.ear.now c.end.new.ear c.tell_end.new.ear last.0 (end_events u.begun c.args.end.cause u.start) last.2 c.in_ok-tell_end.ensures.ok,
+      follows_turned g.met.W.Watch.is_rule t u fed c.args.end reported c.in_ok-end.field-0 last.0 can last.1
+          (c.restart.ensures.start ∙ ap₂ (λ m n. m + n) c.end.ensures.start c.end.ensures.handed) c.restart.ensures.handed (c.restart.ensures.begun ∙ e.begun) (c.restart.ensures.epochs ∙ e.epochs) (c.restart.ensures.aligned ∙ e.aligned) was,
+    )
+
+pub returns-in_err-end-clause-stopped : goal.returns-in_err-end-clause-stopped
+returns-in_err-end-clause-stopped g c = λ fed reported can was.
+    let t = c.args.self.now.tracker in
+    let last = c.in_err-end.ensures.stopped (front_of t.handed (rest_of t.start fed)) can.carries.link in
+    let told = end_events (t.begun || last.0.aligned) c.args.end.cause (t.start + t.handed) in
+    on_err {P = LostMore g.W.Watch.rule g.E.TrackEar.tracked g.E.TrackEar.lost c.args.ear.now c.end.new.ear fed reported} _ (
+      track_events_of last.1 ++ told,
+      stops_before g.E.Ear.took g.E.Ear.broke g.E.TrackEar.tracked g.E.TrackEar.lost g.met.E.TrackEar.tracked_events g.met.E.TrackEar.lost_event g.met.E.TrackEar.tracked_both c.args.ear.now c.end.new.ear (track_events_of last.1) told
+          (stops_events g.E.Ear.took g.E.Ear.broke g.E.TrackEar.tracked g.E.TrackEar.lost g.met.E.TrackEar.tracked_events g.met.E.TrackEar.lost_event g.met.E.TrackEar.tracked_both c.args.ear.now c.end.new.ear last.1 last.3),
+      passes_turn g.met.W.Watch.is_rule t fed c.args.end reported last.0 last.1 can last.2 was,
+    )
+
+pub returns-in_err-tell_end-clause-stopped : goal.returns-in_err-tell_end-clause-stopped
+returns-in_err-tell_end-clause-stopped g c = λ fed reported can was.
+    let t = c.args.self.now.tracker in
+    let u = c.restart.new.self in
+    let outcome = c.in_ok-end.field-0 in
+    let last = c.in_ok-end.ensures.reported (front_of t.handed (rest_of t.start fed)) can.carries.link in
+    on_err {P = LostMore g.W.Watch.rule g.E.TrackEar.tracked g.E.TrackEar.lost c.args.ear.now c.tell_end.new.ear fed reported} _ (
+      track_events_of last.0 ++ end_events (t.begun || outcome.aligned) c.args.end.cause (t.start + t.handed),
+      stops_then g.E.Ear.took g.E.Ear.broke g.E.TrackEar.tracked g.E.TrackEar.lost g.met.E.TrackEar.tracked_events g.met.E.TrackEar.lost_event g.met.E.TrackEar.tracked_both c.args.ear.now c.end.new.ear c.tell_end.new.ear last.0 u.begun (t.begun || outcome.aligned) c.args.end.cause u.start (t.start + t.handed)
+          (c.restart.ensures.begun ∙ c.in_ok-end.ensures.begun) (c.restart.ensures.start ∙ ap₂ (λ m n. m + n) c.end.ensures.start c.end.ensures.handed) last.2 c.in_err-tell_end.ensures.err,
+      passes_turn g.met.W.Watch.is_rule t fed c.args.end reported outcome last.0 can last.1 was,
+    )

@@ -1,7 +1,0 @@
-use Rattle.std.proofs.Common.{[]}
-use Rattle.link_sink.specs.Pieces.{no_bits}
-use Rattle.track_sink.proofs.Settling.{settled_tracks}
-use Rattle.track_sink.proofs.sink.TrackSink.open.Goals as goal
-
-pub returns-clause-fed : goal.returns-clause-fed
-returns-clause-fed c = record { tracked = settled_tracks c.in_ok-open.field-0 no_bits [] c.in_ok-open.ensures; settled = c.in_ok-open.ensures }
