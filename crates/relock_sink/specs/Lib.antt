@@ -1,0 +1,7 @@
+pub mod Relocks
+pub mod Columns
+pub mod Watches
+pub mod Growing
+pub mod Ends
+pub mod Watching
+pub mod RelockRule

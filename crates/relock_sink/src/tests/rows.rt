@@ -1,0 +1,49 @@
+//! Three lanes, and their epochs, as a program finds them that looks at each place.
+
+/// Cases with an empty line between them. The first line is what the lanes show, how many epochs they have, how many of these are aligned,
+/// and how many slips are reported. Then follow the lanes: how many bits a lane has, and its bits, eight to a byte, the first lowest.
+pub(crate) static CASES: &str = "\
+a video period opens|1|1|0
+170|54af42d5aa54af42d5aa54af42d5aacc320b20800002
+173|5885aa55a95e85aa55a95e85aa55a99e69a600030c10
+210|000000000054ad4af52a54ad4af52a54ad4af52acc320b1f7cf001
+
+a data island opens, a word of its second column damaged|1|1|0
+175|80ea55a85a95ea55a85a95ea55a85ad5d13801041040
+170|ab50b52ad5ab50b52ad5ab50b52ad533cd1460800102
+240|00000000000000000055ab52bd0a55ab52bd0a55ab52bdca4c11c1071f7c
+
+a word of the first column damaged, and the next control period is good|2|1|0
+342|50bd0a55ab52bd0a55ab52bd0a55ab32cb2c80000248f52a54ad4af52a54ad4af52a54ad4a35b3cc020820
+340|ab50b52ad5ab50b52ad5ab50b52ad501ce14608001ae42d5aa54af42d5aa54af42d5aa54af32d34c010608
+347|00aa56a57a15aa56a57a15aa56a57a156699850f3ef8a85a95ea55a85a95ea55a85a95ea55a8629659f8e003
+
+no period opens|2|0|0
+160|54af42d5aa54af42d5aa54af42d5aa0002082080
+160|ab50b52ad5ab50b52ad5ab50b52ad50106186080
+160|54ad4af52a54ad4af52a54ad4af52af0c1071f7c
+
+two words of the second column damaged|2|0|0
+170|54af42d5aa54af42d5aa54af42d5aacc020820800002
+170|ab50b52ad5ab50b52ad5ab50b52ad533cd1460800102
+170|54ad4af52a54ad4af52a54ad4af52acc360b1f7cf001
+
+guards of two kinds|2|0|0
+170|54af42d5aa54af42d5aa54af42d5aacc3a0a20800002
+170|ab50b52ad5ab50b52ad5ab50b52ad533cd1460800102
+170|54ad4af52a54ad4af52a54ad4af52accce041f7cf001
+
+a lane ends within the second column|1|1|0
+160|54af42d5aa54af42d5aa54af42d5aa0002082080
+160|ab50b52ad5ab50b52ad5ab50b52ad50106186080
+135|54ad4af52a54ad4af52a54ad4af52af041
+
+a stray before an unconfirmed alignment|3|0|0
+437|54af42d5aa54af42d5aa54af42d5aa0002082080000208208040000104104000a95e85aa55a95e85aa55a95e85aa55a95e054000010410
+440|000208208000020820800002b82ad50106186080010618608001061860800106b80a55ab52bd0a55ab52bd0a55ab52bd0a550106186080
+440|54ad4af52a54ad4af52a54ad4af52af0c1071f7cf0c1071f7cf0c1071f7cf0c147d5aa54af42d5aa54af42d5aa54af42d5aaf0c1071f7c
+
+a stray after an alignment that stands, and an unconfirmed one|3|1|1
+457|54af42d5aa54af42d5aa54af42d5aacc320b2080000208208040000104104000010490ea55a85a95ea55a85a95ea55a85a95ea55000410400001
+460|ab50b52ad5ab50b52ad5ab50b52ad533cd146080010618608001061860800106186080ab50b52ad5ab50b52ad5ab50b52ad5ab50156080010608
+460|54ad4af52a54ad4af52a54ad4af52acc320b1f7cf0c1071f7cf0c1071f7cf0c1071f7c54ad4af52a54ad4af52a54ad4af52a54ad0a1f7cf0c107";

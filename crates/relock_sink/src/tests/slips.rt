@@ -1,0 +1,74 @@
+//! An ear that counts slips.
+ghost use Rattle.std.specs.Prelude.{⊤};
+ghost use Rattle.outside_io.specs.Causes.{HasCause};
+
+use link_sink::Ear;
+use outside_io::Failed;
+use period_grammar::EventRef;
+use track_sink::TrackEar;
+
+/// How many slips were reported to it.
+#[derive(Drop)]
+pub struct Slips {
+    pub count: u64,
+}
+
+impl Slips {
+    pub fn new() -> Slips {
+        Slips { count: 0 }
+    }
+}
+
+impl Ear for Slips {
+    ghost faults = { λ _. 0 };
+
+    ghost took = { λ _ _ _. ⊤ };
+
+    ghost took_at = { λ _ _ _. ⊤ };
+
+    ghost broke = { λ _ _ _. ⊤ };
+
+    fn hear(&mut self, _: u64, event: EventRef<'_>) -> Result<(), Failed> {
+        match event {
+            EventRef::Run { value: _, count: _ }
+            | EventRef::Line { pixels: _ }
+            | EventRef::Open { sync: _ }
+            | EventRef::Packet {
+                packet: _,
+                column: _,
+            }
+            | EventRef::Close { sync: _ }
+            | EventRef::Fault(_)
+            | EventRef::Cut { column: _ } => Ok(()),
+        }
+    }
+
+    ghost took_none = { λ _. tt };
+
+    ghost took_both = { λ _ _ _ _ _ _ _. tt };
+
+    ghost took_none_at = { λ _. tt };
+
+    ghost took_both_at = { λ _ _ _ _ _ _ _. tt };
+
+    ghost forgets = { λ _ _ _ _. tt };
+}
+
+impl TrackEar for Slips {
+    ghost tracked = { λ _ _ _. ⊤ };
+
+    ghost lost = { λ _ _ _. ⊤ };
+
+    fn slip(&mut self, _: u8, _: u64) -> Result<(), Failed> {
+        self.count = self.count.saturating_add(1);
+        Ok(())
+    }
+
+    ghost tracked_none = { λ _. tt };
+
+    ghost tracked_both = { λ _ _ _ _ _ _ _. tt };
+
+    ghost tracked_events = { λ _ _ _. (λ _. tt, λ _. tt) };
+
+    ghost lost_event = { λ _ _ _. (λ _. tt, λ _. tt) };
+}
