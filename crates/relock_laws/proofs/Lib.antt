@@ -1,0 +1,12 @@
+pub mod Windows
+pub mod Announced
+pub mod Last
+pub mod Seen
+pub mod SlipSeen
+pub mod SlipEnds
+pub mod Examples
+pub mod Ending
+pub mod GoodPeriod
+pub mod Settling
+pub mod Again
+pub mod AgainExample
