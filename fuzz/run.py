@@ -35,7 +35,7 @@ from pathlib import Path
 
 TOP = Path(__file__).resolve().parents[1]
 sys.path[:0] = [str(TOP / "python"), str(TOP)]
-from tests.models import feeding, hearing, model, rasters  # noqa: E402
+from tests.models import feeding, hearing, model, rasters, relocking  # noqa: E402
 from tests.support import USAGE  # noqa: E402
 from vabgrot.capture import BLOCK  # noqa: E402
 from vabgrot.formats.characters import CONTROL, ISLAND_GUARD, ISLAND_PREAMBLE, TERC4, VIDEO_GUARD, VIDEO_PREAMBLE  # noqa: E402
@@ -53,6 +53,7 @@ REFUSED = {
     "damage": CAPTURE + rb"|place \d+",
     "make dvi": LINE,
     "recover track": CAPTURE,
+    "recover relock": CAPTURE,
     "recover dvi": CAPTURE,
     "recover biphase": CAPTURE,
     "slip": CAPTURE + rb"|place 0",
@@ -352,7 +353,7 @@ def tap(rng):
     return words
 
 
-ODD_WORDS = ("--", "-", "--offset", "--offset=7", "", "link", "dvi", "check", "biphase", "track", "relay", "4")
+ODD_WORDS = ("--", "-", "--offset", "--offset=7", "", "link", "dvi", "check", "biphase", "track", "relock", "relay", "4")
 ODD_WORDS += ("--skew=1,2", "0:0:000", "é", "\udcff", "x" * 5000)
 
 
@@ -487,7 +488,7 @@ def wrong_output(name, status, output, notes):
             return "a last line without a line feed"
         if (status in (0, 1)) != (lines[-2:] == [b"end", b""]):
             return "a wrong last line"
-        is_whole = name in ("recover link", "recover track", "recover dvi") and status in (0, 1)
+        is_whole = name in ("recover link", "recover track", "recover relock", "recover dvi") and status in (0, 1)
         if is_whole and (status == 1) != any(it.startswith(b"! ") for it in lines):
             return "fault lines that do not fit the status"
     if name == "check":
@@ -564,6 +565,8 @@ def modelled(words, data):
         return 0, model.capture_of(2, model.slipped(lanes, lane, place, drop))
     if words == ["recover", "track"]:
         return model.tracked(lanes, hearing.link_of)
+    if words == ["recover", "relock"]:
+        return relocking.relocked(lanes, hearing.link_of)
     columns = model.aligned(lanes)
     if columns is None:
         return 7, b""
@@ -584,7 +587,7 @@ def modelled(words, data):
 HIT = r"[0-2]:\d{1,10}:[0-3][0-9a-f]{2}"
 TAP = r"(?: --(?:offset|skew|bits|version)[ =][\d,]+)*"
 MODELLED = re.compile(rf"check|relay|read biphase|slip [0-2]:\d{{1,10}}:[1-9]|damage {HIT}(?: {HIT})*|make (?:link|content|dvi){TAP}|"
-                      r"recover (?:link|content|track|dvi|biphase [0-3])")
+                      r"recover (?:link|content|track|relock|dvi|biphase [0-3])")
 
 
 def unlike_models(words, data, answer):

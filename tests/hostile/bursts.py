@@ -14,7 +14,7 @@ import random
 from collections.abc import Iterator
 from dataclasses import dataclass, field
 
-from tests.models import feeding, hearing, model
+from tests.models import feeding, hearing, model, relocking
 from tests.models.hearing import nibble, value_of
 from tests.models.model import is_control
 from tests.models.tables import CONTROL, ISLAND_GUARD, TERC4, VIDEO_GUARD
@@ -357,6 +357,7 @@ def captures(program: str, seed: int, count: int) -> Iterator[Case]:
         wanted = [listing, hearing.content_text(columns), hearing.check_text(listing[1]), (listing[0], again)]
         for words, answer in zip((*READERS[:3], FURTHER[3]), wanted):
             yield f"{words} of {name}", run(program, words, data)[:2], answer
+        yield f"recover relock of {name}", run(program, FURTHER[4], data)[:2], relocking.relocked(lanes, hearing.link_of)
         if not any(end for _, end, _ in model.epochs(lanes)):  # no lane has a stray
             counted["one epoch"] += 1
             yield f"recover track of {name}", run(program, FURTHER[0], data)[:2], listing

@@ -8,17 +8,19 @@ import itertools
 import os
 import re
 import resource
+import signal
 import subprocess
 import tempfile
 
 from tests.hostile.inputs import CONTENT, DVI, ISLAND, SILENT, SLIPPED, busy, frames, noisy, sources
-from tests.models import hearing, model
+from tests.models import hearing, model, relocking
 from tests.models.feeding import answers, feeds
 from tests.models.model import BLOCK, lanes_of, packed, replaced, sent
 from tests.models.pouring import OPENING, PIXEL, Poured, contents, endless, growing, long, loud, most, texts
 from tests.models.tables import CONTROL
 from tests.support import FURTHER, HANGS, LISTING, READERS, SLIP, TOP, USAGE, run
 
+STACK = 64  # KiB of stack that a command takes at most
 KNOWN = (["make", "link"], ["make", "content"], *READERS)  # little room for the others is tried half as often
 
 
@@ -206,6 +208,8 @@ def tracks(program, lanes):
                     bits = model.slipped(bits, lane, place + 10 * lane * (drop % 3), drop)
             came, wanted = run(program, FURTHER[0], model.capture_of(2, bits))[:2], model.tracked(bits, lambda it: once(*it))
             yield f"recover track of {len(lanes[0])} bits with slips of {drop} on {hit}", came, wanted
+            came, wanted = run(program, FURTHER[4], model.capture_of(2, bits))[:2], relocking.relocked(bits, lambda it: once(*it))
+            yield f"recover relock of {len(lanes[0])} bits with slips of {drop} on {hit}", came, wanted
 
 
 def worn_out(program):
@@ -526,7 +530,9 @@ def memory(program):
             came = in_room(program, words, source, room)
             loader = came[:2] == (127, b"") and any(text in came[2] for text in LOADER)
             spared = came in ((6, b"", b"out of memory\n"), (6, b"", b""))
-            yield f"{words} in {room} KiB", loader or spared or came == whole, True
+            # what was taken before the last pages of its stack leaves no room for these, and the system ends any such process
+            stack = came[0] == -signal.SIGSEGV and in_room(program, words, source, room + STACK) == whole
+            yield f"{words} in {room} KiB", loader or spared or stack or came == whole, True
 
 
 def in_room(program, words, source, room):

@@ -4,7 +4,7 @@ take whole lanes and search from each place anew."""
 import functools
 import random
 
-from tests.models import hearing, model, rasters
+from tests.models import hearing, model, rasters, relocking
 from tests.models.model import BLOCK
 from tests.models.tables import CONTROL, ISLAND_GUARD, TERC4, VIDEO_GUARD
 from tests.support import FURTHER, READERS, run
@@ -126,6 +126,7 @@ def answers(lanes):
     yield READERS[1], hearing.content_text(columns) if columns else (7, b"")
     yield READERS[2], hearing.check_text(listing) if columns else (7, b"")
     yield FURTHER[0], model.tracked(lanes, hearing.link_of)
+    yield FURTHER[4], relocking.relocked(lanes, hearing.link_of)
     yield FURTHER[1], model.dvi_text(columns) if columns else (7, b"")
     for pair in range(4):
         yield ["recover", "biphase", str(pair)], model.biphase_of(listing, pair) if columns else (7, b"")

@@ -48,6 +48,18 @@ def slipped(program):
         yield f"slip {word}", run(program, ["slip", word], made), (2, b"", USAGE)
 
 
+def marginal(program):
+    """A damaged control character ends the first control period too early on one lane: the alignment there is not confirmed."""
+    listing = b"c 00 22\nc 04 8\nv ff0000\nc 00 12\nc 04 8\nv ff0000\nc 00 12\nend\n"
+    made = run(program, ["make", "link"], listing)[1]
+    worn = run(program, ["damage", "1:260:1f0"], made)[1]
+    yield "recover relock", run(program, ["recover", "relock"], worn), (0, LISTING, b"")
+    yield "recover link of the same", run(program, ["recover", "link"], worn)[0], 1
+    clean = run(program, ["recover", "link"], made)
+    yield "recover relock of a clean capture", run(program, ["recover", "relock"], made), clean
+    yield "recover relock of nothing to align", run(program, ["recover", "relock"], b"TMC1\0\0\0\0"), (7, b"", b"no alignment\n")
+
+
 def sound(program):
     """Samples are made into a capture, written as a biphase stream, and read again; a lost packet is left out."""
     numbers = ((77 * at, 16_777_215 - at, at % 8, at // 8 % 8, int(at % 192 == 0)) for at in range(400))
@@ -181,4 +193,4 @@ def usual(program):
     yield "no alignment", run(program, ["recover", "link"], b"TMC1\0\0\0\0"), (7, b"", b"no alignment\n")
 
 
-TABLES = (usual, wide, slipped, sound, relayed, dvi)
+TABLES = (usual, wide, slipped, marginal, sound, relayed, dvi)

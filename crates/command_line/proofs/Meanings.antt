@@ -11,7 +11,7 @@ use Rattle.command_line.specs.Commands.{IsTap, Means}
 use Rattle.command_line.specs.declared.options.OptionName.{OptionName}
 use Rattle.command_line.specs.declared.tap.TapWords.{TapWords}
 use Rattle.command_line.specs.declared.command.Command.{Command}
-use Rattle.command_line.specs.declared.command.Command.TheVariants.{MakeLink, MakeContent, MakeDvi, RecoverLink, RecoverContent, RecoverTrack, RecoverBiphase, RecoverDvi, Check, Damage, Slip, ReadBiphase, Relay, Sample}
+use Rattle.command_line.specs.declared.command.Command.TheVariants.{MakeLink, MakeContent, MakeDvi, RecoverLink, RecoverContent, RecoverTrack, RecoverRelock, RecoverBiphase, RecoverDvi, Check, Damage, Slip, ReadBiphase, Relay, Sample}
 use Rattle.command_line.proofs.Triples.{number_found}
 use Rattle.command_line.proofs.SlipTexts.{digit_found, slip_found}
 
@@ -33,6 +33,7 @@ name_of (MakeDvi tap) = codes "make"
 name_of RecoverLink = codes "recover"
 name_of RecoverContent = codes "recover"
 name_of RecoverTrack = codes "recover"
+name_of RecoverRelock = codes "recover"
 name_of (RecoverBiphase k) = codes "recover"
 name_of RecoverDvi = codes "recover"
 name_of Check = codes "check"

@@ -14,7 +14,7 @@ use Rattle.command_line.specs.declared.tap.TapWords.{TapWords}
 use Rattle.command_line.specs.declared.damage.DamageWord.{DamageWord}
 use Rattle.command_line.specs.declared.slip.SlipWord.{SlipWord}
 use Rattle.command_line.specs.declared.command.Command.{Command}
-use Rattle.command_line.specs.declared.command.Command.TheVariants.{MakeLink, MakeContent, MakeDvi, RecoverLink, RecoverContent, RecoverTrack, RecoverBiphase, RecoverDvi, Check, Damage, Slip, ReadBiphase, Relay, Sample}
+use Rattle.command_line.specs.declared.command.Command.TheVariants.{MakeLink, MakeContent, MakeDvi, RecoverLink, RecoverContent, RecoverTrack, RecoverRelock, RecoverBiphase, RecoverDvi, Check, Damage, Slip, ReadBiphase, Relay, Sample}
 use Rattle.command_line.proofs.Triples.{number_found, three_found}
 use Rattle.command_line.proofs.DamageTexts.{damage_found}
 use Rattle.command_line.proofs.SlipTexts.{digit_found, slip_found}
@@ -64,14 +64,15 @@ form (MakeDvi tap) = 2
 form RecoverLink = 3
 form RecoverContent = 4
 form RecoverTrack = 5
-form (RecoverBiphase k) = 6
-form RecoverDvi = 7
-form Check = 8
-form (Damage damages) = 9
-form (Slip slip) = 10
-form ReadBiphase = 11
-form Relay = 12
-form (Sample n) = 13
+form RecoverRelock = 6
+form (RecoverBiphase k) = 7
+form RecoverDvi = 8
+form Check = 9
+form (Damage damages) = 10
+form (Slip slip) = 11
+form ReadBiphase = 12
+form Relay = 13
+form (Sample n) = 14
 
 -- and the place that a name and a first operand give
 abbrev make_form_of : Text → ℕ
@@ -82,19 +83,20 @@ recover_form_of first =
     if bytes_eq first (codes "link") then 3
     else if bytes_eq first (codes "content") then 4
     else if bytes_eq first (codes "track") then 5
-    else if bytes_eq first (codes "biphase") then 6
-    else 7
+    else if bytes_eq first (codes "relock") then 6
+    else if bytes_eq first (codes "biphase") then 7
+    else 8
 
 abbrev form_of : Text → List Text → ℕ
 form_of name operands =
     if bytes_eq name (codes "make") then make_form_of (head_of operands)
     else if bytes_eq name (codes "recover") then recover_form_of (head_of operands)
-    else if bytes_eq name (codes "check") then 8
-    else if bytes_eq name (codes "damage") then 9
-    else if bytes_eq name (codes "slip") then 10
-    else if bytes_eq name (codes "read") then 11
-    else if bytes_eq name (codes "relay") then 12
-    else 13
+    else if bytes_eq name (codes "check") then 9
+    else if bytes_eq name (codes "damage") then 10
+    else if bytes_eq name (codes "slip") then 11
+    else if bytes_eq name (codes "read") then 12
+    else if bytes_eq name (codes "relay") then 13
+    else 14
 
 by_name : (name other : Text) (operands : List Text) (n : ℕ) → name ≡ other → form_of other operands ≡ n → form_of name operands ≡ n
 by_name name other operands n is e = ap (λ (t : Text). form_of t operands) is ∙ e
@@ -111,6 +113,7 @@ form_once name options operands (MakeDvi t) (MakeDvi u) e a b = ap MakeDvi (tap_
 form_once name options operands RecoverLink RecoverLink e a b = refl
 form_once name options operands RecoverContent RecoverContent e a b = refl
 form_once name options operands RecoverTrack RecoverTrack e a b = refl
+form_once name options operands RecoverRelock RecoverRelock e a b = refl
 form_once name options operands (RecoverBiphase k) (RecoverBiphase l) e a b = grind (arith, same_second, same_Some, digit_found)
 form_once name options operands RecoverDvi RecoverDvi e a b = refl
 form_once name options operands Check Check e a b = refl

@@ -39,6 +39,8 @@ pub enum Command {
     RecoverContent,
     /// `recover track`: recover the listing of a capture whose lanes may lack bits.
     RecoverTrack,
+    /// `recover relock`: recover the listing of a capture whose lanes may lack bits and whose alignment is confirmed.
+    RecoverRelock,
     /// `recover biphase K`: recover the line code of the pair of audio channels K of a capture, from 0 to 3.
     RecoverBiphase(u8),
     /// `recover dvi`: recover the listing of a capture of a stream without guard bands.
@@ -185,7 +187,7 @@ fn recover_command(operands: &[&str]) -> Option<Command>
     }
 }
 
-/// `recover link`, `recover content`, `recover track` or `recover dvi`.
+/// `recover link`, `recover content`, `recover track`, `recover relock` or `recover dvi`.
 fn recover_kind(kind: &str) -> Option<Command>
     ensures { MatchOption result ((c : Command) → Means c (codes "recover") [] (kind.now ∷ []) → ⊥) (λ c. Means c (codes "recover") [] (kind.now ∷ [])) }
 {
@@ -193,6 +195,7 @@ fn recover_kind(kind: &str) -> Option<Command>
         "link" => Some(Command::RecoverLink),
         "content" => Some(Command::RecoverContent),
         "track" => Some(Command::RecoverTrack),
+        "relock" => Some(Command::RecoverRelock),
         "dvi" => Some(Command::RecoverDvi),
         _ => None,
     }

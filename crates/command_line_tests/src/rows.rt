@@ -279,6 +279,8 @@ none|make|dvi|--skew|4096,0,0
 none|make|track
 none|make|biphase
 recover track|recover|track|--
+recover relock|recover|relock
+none|recover|relock|track
 recover track|recover|--|track
 none|recover|track|link
 none|recover|track|track

@@ -91,7 +91,7 @@ broken_part g listing after last took broke held faults left rest reads read_fau
 }
 
 -- a command that writes while it reads does not write last
-on_last : (command : Command) → WritesOn command → WritesLast command → ⊥
+pub on_last : (command : Command) → WritesOn command → WritesLast command → ⊥
 on_last command on last = grind arith
 
 -- the ending of what was not heard to its end

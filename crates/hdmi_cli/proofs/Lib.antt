@@ -17,6 +17,7 @@ pub mod Trackings
 pub mod Tracked
 pub mod TrackHeadline
 pub mod TrackSlip
+pub mod RelockAgain
 pub mod Unnoticed
 pub mod NoticedOrNot
 pub mod TrackPasses

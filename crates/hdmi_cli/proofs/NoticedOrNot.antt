@@ -9,7 +9,7 @@ use Rattle.terc4.specs.Tables.{is_control}
 use Rattle.lane_align.specs.Lanes.{IsRun}
 use Rattle.link_sink.proofs.Decided.{IsLeast, each_below, least_or_none}
 use Rattle.track_sink.specs.Epochs.{lane_of}
-use Rattle.track_sink.proofs.Reaching.{run_decided}
+use Rattle.track_sink.specs.Ends.{run_decided}
 use Rattle.track_laws.specs.Laws.{words_at}
 use Rattle.hdmi_cli.specs.Headline.{TappedStream}
 use Rattle.hdmi_cli.specs.TrackPasses.{EndsBeforeTwelve, HasNoLockBefore, IsLockBefore, IsNoticedOrNot, IsUnnoticed}

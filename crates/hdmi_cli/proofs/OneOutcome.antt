@@ -8,9 +8,13 @@ use Rattle.listing_reader.specs.DviReading.{dvi_reads_as}
 use Rattle.listing_reader.specs.ContentReading.{content_reads_as}
 use Rattle.link_sink.specs.Grammar.{link_grammar}
 use Rattle.dvi_hearing.specs.DviGrammar.{dvi_grammar}
+use Rattle.track_sink.specs.Epochs.{stray_rule}
+use Rattle.track_sink.specs.StrayRule.{stray_is_rule}
+use Rattle.relock_sink.specs.Relocks.{relock_rule}
+use Rattle.relock_sink.specs.RelockRule.{relock_is_rule}
 use Rattle.command_line.specs.Commands.{IsCommand}
 use Rattle.command_line.specs.declared.command.Command.{Command}
-use Rattle.command_line.specs.declared.command.Command.TheVariants.{MakeLink, MakeContent, MakeDvi, RecoverLink, RecoverContent, RecoverTrack, RecoverBiphase, RecoverDvi, Check, Damage, Slip, ReadBiphase, Relay, Sample}
+use Rattle.command_line.specs.declared.command.Command.TheVariants.{MakeLink, MakeContent, MakeDvi, RecoverLink, RecoverContent, RecoverTrack, RecoverRelock, RecoverBiphase, RecoverDvi, Check, Damage, Slip, ReadBiphase, Relay, Sample}
 use Rattle.command_line.proofs.OneCommand.{command_once}
 use Rattle.relay_laws.proofs.OneSpelling.{one_spelling}
 use Rattle.hdmi_cli.specs.Commands.{hit_asked, tap_asked}
@@ -30,7 +34,8 @@ does_once words (MakeContent tap) bytes o p named decides a b = content_once (ta
 does_once words (MakeDvi tap) bytes o p named decides a b = makes_once DviSpells one_dvi_spelling (tap_asked tap) (dvi_reads_as bytes) o p a b
 does_once words RecoverLink bytes o p named decides a b = lists_once link_grammar link_listing bytes o p a b
 does_once words RecoverContent bytes o p named decides a b = lists_once link_grammar content_listing bytes o p a b
-does_once words RecoverTrack bytes o p named decides a b = tracks_once bytes o p decides a b
+does_once words RecoverTrack bytes o p named decides a b = tracks_once stray_rule stray_is_rule bytes o p decides a b
+does_once words RecoverRelock bytes o p named decides a b = tracks_once relock_rule relock_is_rule bytes o p decides a b
 does_once words (RecoverBiphase pair) bytes o p named decides a b = lists_once link_grammar (biphase_listing pair) bytes o p a b
 does_once words RecoverDvi bytes o p named decides a b = lists_once dvi_grammar link_listing bytes o p a b
 does_once words Check bytes o p named decides a b = lists_once link_grammar check_listing bytes o p a b

@@ -10,7 +10,9 @@ use Rattle.period_grammar.specs.Events.{Event}
 use Rattle.link_sink.specs.Grammar.{Grammar}
 use Rattle.link_sink.specs.Sinks.{Fed, IsReportedBy}
 use Rattle.link_sink.proofs.Following.{reported_one}
-use Rattle.track_laws.proofs.One.{one_track}
+use Rattle.track_sink.specs.Epochs.{EpochRule}
+use Rattle.track_sink.specs.Rules.{IsRule}
+use Rattle.track_laws.proofs.One.{one_track_by}
 use Rattle.hdmi_cli.specs.Blocks.{AreBefore, HasBlocks}
 use Rattle.hdmi_cli.specs.Listings.{Listing}
 use Rattle.hdmi_cli.specs.Notes.{capture_note}
@@ -72,17 +74,17 @@ lists_once g listing bytes o p (inr (fault, refused)) (inr (other, again)) = one
 
 -- ---- tracks
 
-one_tracking : (fed : Fed) (o p : RunOutcome) → TracksLanes fed o → TracksLanes fed p → o ≡ p
-one_tracking fed o p (n, m, us, a, inl (some, is)) (k, j, vs, b, inl (more, are)) =
-    let one = one_track _ _ fed n m k j us vs a b in
+one_tracking : (r : EpochRule) → IsRule r → (fed : Fed) (o p : RunOutcome) → TracksLanes r fed o → TracksLanes r fed p → o ≡ p
+one_tracking r rule fed o p (n, m, us, a, inl (some, is)) (k, j, vs, b, inl (more, are)) =
+    let one = one_track_by rule _ _ fed n m k j us vs a b in
     is ∙ ap (λ ts. record { status = status_with (track_faults ts); output = track_text ts; note = [] }) one.2 ∙ sym are
-one_tracking fed o p (n, m, us, a, inl (some, is)) (k, j, vs, b, inr (none, are)) = let one = one_track _ _ fed n m k j us vs a b in absurd (omega (arith, one.1, some, none))
-one_tracking fed o p (n, m, us, a, inr (none, is)) (k, j, vs, b, inl (some, are)) = let one = one_track _ _ fed n m k j us vs a b in absurd (omega (arith, one.1, some, none))
-one_tracking fed o p (n, m, us, a, inr (none, is)) (k, j, vs, b, inr (still, are)) = is ∙ sym are
+one_tracking r rule fed o p (n, m, us, a, inl (some, is)) (k, j, vs, b, inr (none, are)) = let one = one_track_by rule _ _ fed n m k j us vs a b in absurd (omega (arith, one.1, some, none))
+one_tracking r rule fed o p (n, m, us, a, inr (none, is)) (k, j, vs, b, inl (some, are)) = let one = one_track_by rule _ _ fed n m k j us vs a b in absurd (omega (arith, one.1, some, none))
+one_tracking r rule fed o p (n, m, us, a, inr (none, is)) (k, j, vs, b, inr (still, are)) = is ∙ sym are
 
-pub tracks_once : (bytes : List ℕ) (o p : RunOutcome) → IsCapture bytes → TracksCapture bytes o → TracksCapture bytes p → o ≡ p
-tracks_once bytes o p capture (inl (f, is, tracks)) (inl (g, are, others)) =
+pub tracks_once : (r : EpochRule) → IsRule r → (bytes : List ℕ) (o p : RunOutcome) → IsCapture bytes → TracksCapture r bytes o → TracksCapture r bytes p → o ≡ p
+tracks_once r rule bytes o p capture (inl (f, is, tracks)) (inl (g, are, others)) =
     let same = one_capture g.blue g.green g.red f.blue f.green f.red bytes are is in
-    one_tracking f o p tracks (subst (λ x. TracksLanes x p) (same_fed g f same) others)
-tracks_once bytes o p capture (inl a) (inr (fault, g, events, is, before, tracked, are)) = absurd (no_fault bytes fault capture is)
-tracks_once bytes o p capture (inr (fault, g, events, is, before, tracked, are)) b = absurd (no_fault bytes fault capture is)
+    one_tracking r rule f o p tracks (subst (λ x. TracksLanes r x p) (same_fed g f same) others)
+tracks_once r rule bytes o p capture (inl a) (inr (fault, g, events, is, before, tracked, are)) = absurd (no_fault bytes fault capture is)
+tracks_once r rule bytes o p capture (inr (fault, g, events, is, before, tracked, are)) b = absurd (no_fault bytes fault capture is)

@@ -51,7 +51,7 @@ pictured words ending before after status ends is named mode frames none t raste
     (λ s old new. FromFirst t (λ d e f a. ArePictures mode frames t d e f a old new))
     status before after
     (λ h. (h.0, h.1, h.2, h.3, (h.4.0, h.4.1, pictures_are mode frames none t raster h.0 h.1 h.2 h.4.0 status before.held after.held tapped.reception h.4.2)))
-    (recovered content_listing RecoverContent (λ t tapped o does. does) words ending before after status ends is named t tapped aligns left)
+    (recovered content_listing RecoverContent (λ t tapped aligns o does. does) words ending before after status ends is named t tapped aligns left)
 
 -- the packets of a raster are those of its content
 packets_of_content : (t : TappedStream) (mode : Mode) (frames : List Frame) → raster_fault mode frames ≡ None → t.periods ≡ raster_of mode frames
@@ -83,4 +83,4 @@ packeted words ending before after status ends is named t tapped aligns left =
     (λ s old new. FromFirst t (λ d e f a. ArePackets t d e f a old new))
     status before after
     (λ h. (h.0, h.1, h.2, h.3, (h.4.0, h.4.1, packets_are t h.0 h.1 h.2 h.4.0 status before.held after.held tapped.reception h.4.2)))
-    (recovered content_listing RecoverContent (λ t tapped o does. does) words ending before after status ends is named t tapped aligns left)
+    (recovered content_listing RecoverContent (λ t tapped aligns o does. does) words ending before after status ends is named t tapped aligns left)

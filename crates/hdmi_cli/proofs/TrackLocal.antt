@@ -4,6 +4,8 @@ use Rattle.std.specs.Prelude.{Some}
 use Rattle.command_line.specs.Commands.{IsCommand}
 use Rattle.command_line.specs.declared.command.Command.TheVariants.{RecoverTrack}
 use Rattle.link_sink.specs.Sinks.{Fed}
+use Rattle.track_sink.specs.Epochs.{stray_rule}
+use Rattle.track_sink.specs.StrayRule.{stray_is_rule}
 use Rattle.hdmi_cli.specs.Endings.{Devices, RunEnds, Unless, status_of}
 use Rattle.hdmi_cli.specs.Headline.{TappedStream, AlignsBy}
 use Rattle.hdmi_cli.specs.Listings.{link_listing}
@@ -17,4 +19,4 @@ pub tracked_locally : (words : List (List ℕ)) (ending : Ending) (before after 
     → (t : TappedStream) (until : ℕ) → IsTappedUntil t until → AlignsBy t until → HasNoStrays t → before.left ≡ Some t.bytes → Unless (IsHeardBy link_listing t until) status before after
 tracked_locally words ending before after status ends is named t until tapped aligns none left =
     let x : Fed = record { blue = t.blue; green = t.green; red = t.red } in
-    headlined_here link_listing after_link last_link link_is_text RecoverTrack t (lists_as_link t.bytes x tapped.captured none) words ending before after status ends is named until tapped aligns left
+    headlined_here link_listing after_link last_link link_is_text RecoverTrack t (lists_as_link stray_rule stray_is_rule t.bytes x tapped.captured none) words ending before after status ends is named until tapped aligns left

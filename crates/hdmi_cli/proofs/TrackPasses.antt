@@ -1,4 +1,5 @@
--- `recover track` of a tapped stream one lane of which lost bits within a line, unnoticed: there is one epoch, and the text is that of `recover link`.
+-- `recover track` and `recover relock` of a tapped stream one lane of which lost bits within a line, unnoticed: there is one epoch,
+-- and the text is that of `recover link`.
 use Rattle.std.proofs.Common.{arith, ◌≡◌, ℕ, List, sym, ◌∙◌, subst, inl, inr}
 use Rattle.std.specs.Prelude.{Option, Some}
 use Rattle.std.specs.Io.KnownBytes.{Appends}
@@ -6,15 +7,21 @@ use Rattle.link_laws.specs.Account.{account}
 use Rattle.link_sink.specs.Grammar.{link_grammar}
 use Rattle.link_sink.specs.Sinks.{Fed}
 use Rattle.command_line.specs.Commands.{IsCommand}
-use Rattle.command_line.specs.declared.command.Command.TheVariants.{RecoverTrack}
-use Rattle.track_sink.specs.Epochs.{front_of, HasNoEnd}
+use Rattle.command_line.specs.declared.command.Command.{Command}
+use Rattle.command_line.specs.declared.command.Command.TheVariants.{RecoverTrack, RecoverRelock}
+use Rattle.track_sink.specs.Epochs.{EpochRule, stray_rule, front_of, HasNoEnd}
+use Rattle.track_sink.specs.Rules.{IsRule}
+use Rattle.track_sink.specs.StrayRule.{stray_is_rule}
+use Rattle.relock_sink.specs.Relocks.{relock_rule}
+use Rattle.relock_sink.specs.RelockRule.{relock_is_rule}
+use Rattle.relock_laws.proofs.SlipEnds.{slip_ends}
 use Rattle.track_laws.specs.Laws.{Received, FirstAccounted}
 use Rattle.track_laws.proofs.Noticed.{slip_passes}
 use Rattle.hdmi_cli.proofs.Unnoticed.{passed_reported, short_passes, short_reported}
 use Rattle.hdmi_cli.specs.Endings.{Devices, RunEnds, Unless, status_of}
 use Rattle.hdmi_cli.specs.Headline.{TappedStream}
 use Rattle.hdmi_cli.specs.Listings.{link_listing}
-use Rattle.hdmi_cli.specs.Outcome.{RunOutcome, TracksCapture}
+use Rattle.hdmi_cli.specs.Outcome.{Does, RunOutcome, TracksCapture}
 use Rattle.hdmi_cli.specs.TrackPasses.{IsUnnoticed, IsAccountedBefore, IsTrackedAsOne}
 use Rattle.hdmi_cli.specs.TrackSlip.{LineSlip, lanes_of, IsSlippedTap, columns_in}
 use Rattle.hdmi_cli.specs.declared.ending.Ending.{Ending}
@@ -35,11 +42,11 @@ front_is : (t : TappedStream) (s : LineSlip) (y : Fed) (d e f start : ℕ) → f
     → IsAccountedBefore t s y d e f
 front_is t s y d e f start whole reported = grind arith
 
-as_one : (t : TappedStream) (s : LineSlip) (y : Fed) → IsSlippedTap t s y → IsUnnoticed t s → (o : RunOutcome) (status : ℕ) (old new : Option (List ℕ))
-    → TracksCapture t.bytes o → o.status ≡ status → Appends old new o.output → IsTrackedAsOne t s y status old new
-as_one t s y tapped unnoticed o status old new tracks status_is written =
+as_one : (r : EpochRule) → IsRule r → (t : TappedStream) (s : LineSlip) (y : Fed) → (HasNoEnd y → r.none y) → IsSlippedTap t s y → IsUnnoticed t s → (o : RunOutcome) (status : ℕ) (old new : Option (List ℕ))
+    → TracksCapture r t.bytes o → o.status ≡ status → Appends old new o.output → IsTrackedAsOne t s y status old new
+as_one r rule t s y also tapped unnoticed o status old new tracks status_is written =
     let none = passes t s y tapped unnoticed in
-    let lists = lists_as_link t.bytes y tapped.captured none o tracks in
+    let lists = lists_as_link r rule t.bytes y tapped.captured (also none) o tracks in
     record {
       one = none;
       link = o;
@@ -65,9 +72,21 @@ as_one t s y tapped unnoticed o status old new tracks status_is written =
           front_is t s y d e f law.0 law.1 law.2;
     }
 
+as_one_of : (r : EpochRule) → IsRule r → (this : Command) → ((bytes : List ℕ) (o : RunOutcome) → Does this bytes o → TracksCapture r bytes o)
+    → (words : List (List ℕ)) (ending : Ending) (before after : Devices) (status : ℕ) → RunEnds words ending before after → status ≡ status_of ending → IsCommand words this
+    → (t : TappedStream) (s : LineSlip) (y : Fed) → (HasNoEnd y → r.none y) → IsSlippedTap t s y → IsUnnoticed t s → before.left ≡ Some t.bytes → Unless (IsTrackedAsOne t s y) status before after
+as_one_of r rule this tracks words ending before after status ends is named t s y also tapped unnoticed left =
+    run_ended (IsTrackedAsOne t s y) this words ending before after status ends is named (λ answers.
+    let answer = answers t.bytes left in
+    as_one r rule t s y also tapped unnoticed answer.outcome (status_of ending) before.held after.held (tracks t.bytes answer.outcome answer.does) answer.status answer.written)
+
 pub tracked_as_one : (words : List (List ℕ)) (ending : Ending) (before after : Devices) (status : ℕ) → RunEnds words ending before after → status ≡ status_of ending → IsCommand words RecoverTrack
     → (t : TappedStream) (s : LineSlip) (y : Fed) → IsSlippedTap t s y → IsUnnoticed t s → before.left ≡ Some t.bytes → Unless (IsTrackedAsOne t s y) status before after
 tracked_as_one words ending before after status ends is named t s y tapped unnoticed left =
-    run_ended (IsTrackedAsOne t s y) RecoverTrack words ending before after status ends is named (λ answers.
-    let answer = answers t.bytes left in
-    as_one t s y tapped unnoticed answer.outcome (status_of ending) before.held after.held answer.does answer.status answer.written)
+    as_one_of stray_rule stray_is_rule RecoverTrack (λ bytes o does. does) words ending before after status ends is named t s y (λ none. none) tapped unnoticed left
+
+pub relocked_as_one : (words : List (List ℕ)) (ending : Ending) (before after : Devices) (status : ℕ) → RunEnds words ending before after → status ≡ status_of ending → IsCommand words RecoverRelock
+    → (t : TappedStream) (s : LineSlip) (y : Fed) → IsSlippedTap t s y → IsUnnoticed t s → before.left ≡ Some t.bytes → Unless (IsTrackedAsOne t s y) status before after
+relocked_as_one words ending before after status ends is named t s y tapped unnoticed left =
+    let law = slip_ends t.periods t.sent t.received t.offset t.skews t.counts (lanes_of t) y s.lane s.place s.dropped s.first s.next (received_of t s y tapped) tapped.slips tapped.in_line in
+    as_one_of relock_rule relock_is_rule RecoverRelock (λ bytes o does. does) words ending before after status ends is named t s y law.last tapped unnoticed left

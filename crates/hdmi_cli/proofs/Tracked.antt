@@ -1,4 +1,4 @@
--- How `recover track` ends, from how the capture was followed.
+-- How a command ends that lists a capture epoch after epoch, from how the capture was followed.
 use Rattle.std.proofs.Common.{◌≡◌, ◌⊎◌, ℕ, zero, suc, ◌+◌, ◌<◌, ◌≤◌, Bool, false, ◌||◌, List, [], ◌∷◌, ◌++◌, length, take, refl, ap, sym, ◌∙◌, subst, inl, inr, arith, length-append}
 use Rattle.std.specs.Prelude.{Option, Some, Result, Ok, Err, OnOk, OnErr, codes}
 use Rattle.std.specs.Io.KnownBytes.{Appends, Consumes, IsAtEnd}
@@ -11,10 +11,13 @@ use Rattle.period_grammar.specs.Events.{Event}
 use Rattle.link_sink.specs.Alignment.{reported_by}
 use Rattle.link_sink.specs.Sinks.{Fed}
 use Rattle.listing_writer.specs.Texts.{counted}
-use Rattle.track_sink.specs.Epochs.{IsTrack, IsTracked, last_epoch, more_epochs}
-use Rattle.track_sink.specs.TrackEvents.{TrackEvent, track_events_of, slip_if}
-use Rattle.track_sink.specs.Tracks.{HasTracked}
-use Rattle.command_line.specs.declared.command.Command.TheVariants.{RecoverTrack}
+use Rattle.track_sink.specs.Epochs.{EpochRule, IsTrackBy, IsTrackedBy, last_epoch, more_epochs}
+use Rattle.track_sink.specs.TrackEvents.{TrackEvent, track_events_of, slip_if, end_events}
+use Rattle.track_sink.specs.declared.watch.Cause.{Cause}
+use Rattle.track_sink.specs.declared.watch.Cause.TheVariants.{Slip, Unconfirmed}
+use Rattle.track_sink.specs.Tracks.{HasTrackedBy}
+use Rattle.command_line.specs.declared.command.Command.{Command}
+use Rattle.hdmi_cli.specs.ListsCommands.{IsTracks}
 use Rattle.hdmi_cli.specs.Blocks.{AreNext}
 use Rattle.hdmi_cli.specs.Endings.{Devices, Ends, IsAnswered, IsWrittenPast, TracksPart, heard_ending, judged_ending, note_of, seen, status_of}
 use Rattle.hdmi_cli.specs.Reading.{IsCausedBy, IsUntaken}
@@ -26,7 +29,7 @@ use Rattle.hdmi_cli.specs.declared.ending.Ending.{Ending}
 use Rattle.hdmi_cli.specs.declared.ending.Ending.TheVariants.{Done, Faulty, Unaligned}
 use Rattle.hdmi_cli.specs.declared.reading.HearError.{HearError}
 use Rattle.hdmi_cli.specs.declared.reading.HearError.TheVariants.{Bad, Read, Ear}
-use Rattle.hdmi_cli.proofs.Heard.{all_read, no_faults, some_faults}
+use Rattle.hdmi_cli.proofs.Heard.{all_read, no_faults, on_last, some_faults}
 use Rattle.hdmi_cli.proofs.BlockReading.{rose_after}
 use Rattle.hdmi_cli.proofs.Listings.{Goes, front_of, goes_on, kept_nothing, shorter}
 
@@ -45,33 +48,34 @@ unaligned_none aligned x y z columns events is reported = (subst (λ b. reported
 false_or : (a b : Bool) → a ≡ false → b ≡ false → (a || b) ≡ false
 false_or a b first second = ap (λ c. c || b) first ∙ second
 
-no_slip : (b : Bool) (lane place : ℕ) → b ≡ false → slip_if b lane place ≡ []
-no_slip b lane place is = ap (λ c. slip_if c lane place) is
+none_at_end : (b : Bool) (cause : Cause) (place : ℕ) → b ≡ false → end_events b cause place ≡ []
+none_at_end b (Slip lane) place is = ap (λ c. slip_if c lane place) is
+none_at_end b Unconfirmed place is = refl
 
-pub nothing_reported : (begun : Bool) (z : ℕ) (fed : Fed) (n m : ℕ) (track_events : List TrackEvent) → IsTracked begun z fed n m track_events → begun ≡ false → m ≡ 0 → track_events ≡ []
-nothing_reported begun z fed n m track_events (last_epoch _ _ _ o events none reported) start zeros =
+pub nothing_reported : (r : EpochRule) (begun : Bool) (z : ℕ) (fed : Fed) (n m : ℕ) (track_events : List TrackEvent) → IsTrackedBy r begun z fed n m track_events → begun ≡ false → m ≡ 0 → track_events ≡ []
+nothing_reported r begun z fed n m track_events (last_epoch _ _ _ o events none reported) start zeros =
     ap track_events_of (unaligned_none o.aligned fed.blue fed.green fed.red o.columns events (one_of o.aligned zeros) reported)
-nothing_reported begun z fed n m track_events (more_epochs _ _ _ o events lane place n1 m1 rest end reported track) start zeros =
+nothing_reported r begun z fed n m track_events (more_epochs _ _ _ o events cause place n1 m1 rest end reported track) start zeros =
     let split = first_zero (one_if o.aligned) m1 zeros in
     let not = one_of o.aligned split.0 in
     let none = unaligned_none o.aligned (take place fed.blue) (take place fed.green) (take place fed.red) o.columns events not reported in
     let later = false_or begun o.aligned start not in
-    let rest_none = nothing_reported (begun || o.aligned) (z + place) _ n1 m1 rest track later split.1 in
-    ap (λ ts. track_events_of ts ++ (slip_if (begun || o.aligned) lane (z + place) ++ rest)) none
-    ∙ ap (λ es. es ++ rest) (no_slip (begun || o.aligned) lane (z + place) later) ∙ rest_none
+    let rest_none = nothing_reported r (begun || o.aligned) (z + place) _ n1 m1 rest track later split.1 in
+    ap (λ ts. track_events_of ts ++ (end_events (begun || o.aligned) cause (z + place) ++ rest)) none
+    ∙ ap (λ es. es ++ rest) (none_at_end (begun || o.aligned) cause (z + place) later) ∙ rest_none
 
 -- lanes that were followed to the end, and of which no epoch is aligned
-pub unaligned_ends : (fed : Fed) (epochs aligned : ℕ) (track_events : List TrackEvent) (before now : Devices) → IsTrack fed epochs aligned track_events → aligned ≡ 0
+pub unaligned_ends : (r : EpochRule) (command : Command) → IsTracks r command → (fed : Fed) (epochs aligned : ℕ) (track_events : List TrackEvent) (before now : Devices) → IsTrackBy r fed epochs aligned track_events → aligned ≡ 0
     → ((bytes : List ℕ) → before.left ≡ Some bytes → IsCaptureOf fed.blue fed.green fed.red bytes) → IsAtEnd now.left → Appends before.held now.held (track_lines track_events)
-    → Ends RecoverTrack Unaligned before now
-unaligned_ends fed epochs aligned track_events before now track none captured end written =
-    let empty = nothing_reported false 0 fed epochs aligned track_events track refl none in
+    → Ends command Unaligned before now
+unaligned_ends r command tracks fed epochs aligned track_events before now track none captured end written =
+    let empty = nothing_reported r false 0 fed epochs aligned track_events track refl none in
     let nothing = subst (λ (bytes : List ℕ). Appends before.held now.held bytes) (ap track_lines empty ∙ no_track_events) written in (
       end,
       kept_nothing before.held now.held nothing,
       λ bytes is. record {
         outcome = record { status = 7; output = []; note = alignment_note };
-        does = inl (fed, captured bytes is, (epochs, aligned, track_events, track, inr (none, refl)));
+        does = tracks.does bytes (record { status = 7; output = []; note = alignment_note }) (inl (fed, captured bytes is, (epochs, aligned, track_events, track, inr (none, refl))));
         status = refl;
         note = refl;
         written = nothing;
@@ -84,21 +88,21 @@ text_whole : (track_events : List TrackEvent) → track_text track_events ≡ tr
 unfolding track_text
 text_whole track_events = refl
 
-record IsFollowed (fed : Fed) (epochs aligned : ℕ) (track_events : List TrackEvent) (mid : Option (List ℕ)) (before now : Devices) : Type 0 where
+record IsFollowed (r : EpochRule) (fed : Fed) (epochs aligned : ℕ) (track_events : List TrackEvent) (mid : Option (List ℕ)) (before now : Devices) : Type 0 where
   first : List TrackEvent
-  reported : HasTracked fed first
+  reported : HasTrackedBy r fed first
   goes : Goes first track_events
-  track : IsTrack fed epochs aligned track_events
+  track : IsTrackBy r fed epochs aligned track_events
   some : 0 < aligned
   captured : (bytes : List ℕ) → before.left ≡ Some bytes → IsCaptureOf fed.blue fed.green fed.red bytes
   ended : IsAtEnd now.left
   written : Appends before.held mid (track_lines track_events)
 
-all_followed : (e : Ending) (fed : Fed) (epochs aligned : ℕ) (track_events : List TrackEvent) (mid : Option (List ℕ)) (before now : Devices) (bytes : List ℕ) → IsFollowed fed epochs aligned track_events mid before now
-    → before.left ≡ Some bytes → status_with (track_faults track_events) ≡ status_of e → [] ≡ note_of e → Appends mid now.held (codes "end\n") → IsAnswered RecoverTrack e before now bytes
-all_followed e fed epochs aligned track_events mid before now bytes h is status note then = record {
+all_followed : (r : EpochRule) (command : Command) → IsTracks r command → (e : Ending) (fed : Fed) (epochs aligned : ℕ) (track_events : List TrackEvent) (mid : Option (List ℕ)) (before now : Devices) (bytes : List ℕ) → IsFollowed r fed epochs aligned track_events mid before now
+    → before.left ≡ Some bytes → status_with (track_faults track_events) ≡ status_of e → [] ≡ note_of e → Appends mid now.held (codes "end\n") → IsAnswered command e before now bytes
+all_followed r command tracks e fed epochs aligned track_events mid before now bytes h is status note then = record {
   outcome = record { status = status_with (track_faults track_events); output = track_text track_events; note = [] };
-  does = inl (fed, h.captured bytes is, (epochs, aligned, track_events, h.track, inl (h.some, refl)));
+  does = tracks.does bytes (record { status = status_with (track_faults track_events); output = track_text track_events; note = [] }) (inl (fed, h.captured bytes is, (epochs, aligned, track_events, h.track, inl (h.some, refl))));
   status = status;
   note = note;
   written = subst (λ (bs : List ℕ). Appends before.held now.held bs) (sym (text_whole track_events)) (Appends-trans before.held mid now.held (track_lines track_events) (codes "end\n") h.written then);
@@ -123,32 +127,32 @@ end_past first track_events n old mid new g lt written then =
           (Appends-trans old mid new (track_lines track_events) (take n (codes "end\n")) written then);
     }
 
-judged_track : {E : Type 0} (fed : Fed) (epochs aligned : ℕ) (track_events : List TrackEvent) (mid : Option (List ℕ)) (middle : ℕ) (before now : Devices) (r : Result (Unit {0}) E) (faults : ℕ)
-    → IsFollowed fed epochs aligned track_events mid before now → faults ≡ counted 0 (track_faults track_events) → before.output_faults ≤ middle
-    → OnOk r (Appends mid now.held (codes "end\n")) → OnErr r ((n : ℕ) × (n < 4) × Appends mid now.held (take n (codes "end\n"))) → OnErr r (Rose middle now.output_faults)
-    → Ends RecoverTrack (judged_ending r faults) before now
-judged_track fed epochs aligned track_events mid middle before now (Ok done) zero h count le whole part rose =
-    (h.ended, λ bytes is. all_followed Done fed epochs aligned track_events mid before now bytes h is (no_faults (track_faults track_events) count) refl whole)
-judged_track fed epochs aligned track_events mid middle before now (Ok done) (suc m) h count le whole part rose =
-    (h.ended, λ bytes is. all_followed Faulty fed epochs aligned track_events mid before now bytes h is (some_faults (track_faults track_events) m count) refl whole)
-judged_track fed epochs aligned track_events mid middle before now (Err failed) faults h count le whole part rose = (
+judged_track : {E : Type 0} (r : EpochRule) (command : Command) → IsTracks r command → (fed : Fed) (epochs aligned : ℕ) (track_events : List TrackEvent) (mid : Option (List ℕ)) (middle : ℕ) (before now : Devices) (res : Result (Unit {0}) E) (faults : ℕ)
+    → IsFollowed r fed epochs aligned track_events mid before now → faults ≡ counted 0 (track_faults track_events) → before.output_faults ≤ middle
+    → OnOk res (Appends mid now.held (codes "end\n")) → OnErr res ((n : ℕ) × (n < 4) × Appends mid now.held (take n (codes "end\n"))) → OnErr res (Rose middle now.output_faults)
+    → Ends command (judged_ending res faults) before now
+judged_track r command tracks fed epochs aligned track_events mid middle before now (Ok done) zero h count le whole part rose =
+    (h.ended, λ bytes is. all_followed r command tracks Done fed epochs aligned track_events mid before now bytes h is (no_faults (track_faults track_events) count) refl whole)
+judged_track r command tracks fed epochs aligned track_events mid middle before now (Ok done) (suc m) h count le whole part rose =
+    (h.ended, λ bytes is. all_followed r command tracks Faulty fed epochs aligned track_events mid before now bytes h is (some_faults (track_faults track_events) m count) refl whole)
+judged_track r command tracks fed epochs aligned track_events mid middle before now (Err failed) faults h count le whole part rose = (
   rose_after before.output_faults middle now.output_faults le rose,
-  record {
+  tracks.write_failed before now (record {
     fed = fed;
     first = h.first;
     reported = h.reported;
     track_events = track_events;
     some = inr (epochs, aligned, h.ended, h.captured, h.track, end_past h.first track_events part.0 before.held mid now.held h.goes part.1 h.written part.2);
-  },
+  }),
 )
 
-pub aligned_ends : {E : Type 0} (fed : Fed) (epochs aligned : ℕ) (first track_events : List TrackEvent) (mid : Option (List ℕ)) (middle : ℕ) (before now : Devices) (r : Result (Unit {0}) E) (faults : ℕ)
-    → HasTracked fed first → Goes first track_events → IsTrack fed epochs aligned track_events → 0 < aligned → ((bytes : List ℕ) → before.left ≡ Some bytes → IsCaptureOf fed.blue fed.green fed.red bytes) → IsAtEnd now.left → Appends before.held mid (track_lines track_events)
+pub aligned_ends : {E : Type 0} (r : EpochRule) (command : Command) → IsTracks r command → (fed : Fed) (epochs aligned : ℕ) (first track_events : List TrackEvent) (mid : Option (List ℕ)) (middle : ℕ) (before now : Devices) (res : Result (Unit {0}) E) (faults : ℕ)
+    → HasTrackedBy r fed first → Goes first track_events → IsTrackBy r fed epochs aligned track_events → 0 < aligned → ((bytes : List ℕ) → before.left ≡ Some bytes → IsCaptureOf fed.blue fed.green fed.red bytes) → IsAtEnd now.left → Appends before.held mid (track_lines track_events)
     → faults ≡ counted 0 (track_faults track_events) → before.output_faults ≤ middle
-    → OnOk r (Appends mid now.held (codes "end\n")) → OnErr r ((n : ℕ) × (n < 4) × Appends mid now.held (take n (codes "end\n"))) → OnErr r (Rose middle now.output_faults)
-    → Ends RecoverTrack (judged_ending r faults) before now
-aligned_ends fed epochs aligned first track_events mid middle before now r faults reported goes track some captured end written count le whole part rose =
-    judged_track fed epochs aligned track_events mid middle before now r faults (record { first = first; reported = reported; goes = goes; track = track; some = some; captured = captured; ended = end; written = written }) count le whole part rose
+    → OnOk res (Appends mid now.held (codes "end\n")) → OnErr res ((n : ℕ) × (n < 4) × Appends mid now.held (take n (codes "end\n"))) → OnErr res (Rose middle now.output_faults)
+    → Ends command (judged_ending res faults) before now
+aligned_ends r command tracks fed epochs aligned first track_events mid middle before now res faults reported goes track some captured end written count le whole part rose =
+    judged_track r command tracks fed epochs aligned track_events mid middle before now res faults (record { first = first; reported = reported; goes = goes; track = track; some = some; captured = captured; ended = end; written = written }) count le whole part rose
 
 -- a capture that was not followed to its end
 
@@ -161,9 +165,9 @@ lines_parts : (track_events taken rest : List TrackEvent) (next : TrackEvent) �
 lines_parts track_events taken rest next is =
     ap track_lines is ∙ track_lines_append taken (next ∷ rest) ∙ ap (λ t. track_lines taken ++ t) (track_lines_append (next ∷ []) rest ∙ ap (λ t. t ++ track_lines rest) (one_track_event next))
 
-lost_past : {A : Type 0} (tracked : A → A → List TrackEvent → Type 0) (lost : A → A → TrackEvent → Type 0) (held : A → Option (List ℕ)) (fed : Fed) (track_events : List TrackEvent) (old new : A)
-    → WritesTrackEvents tracked lost held → (b : StopsPast tracked lost fed track_events old new) → IsWrittenPast (track_lines b.first) (track_lines track_events) (held old) (held new)
-lost_past tracked lost held fed track_events old new writes b =
+lost_past : {A : Type 0} (r : EpochRule) (tracked : A → A → List TrackEvent → Type 0) (lost : A → A → TrackEvent → Type 0) (held : A → Option (List ℕ)) (fed : Fed) (track_events : List TrackEvent) (old new : A)
+    → WritesTrackEvents tracked lost held → (b : StopsPast r tracked lost fed track_events old new) → IsWrittenPast (track_lines b.first) (track_lines track_events) (held old) (held new)
+lost_past r tracked lost held fed track_events old new writes b =
     let s = b.stops in
     let broken = writes.breaks s.between new s.next s.lost_then in
     let line = track_event_text s.next in
@@ -193,18 +197,18 @@ text_past first track_events old new p =
           (sym (ap (take p.gone) (text_whole track_events) ∙ take-append-le p.gone (track_lines track_events) (codes "end\n") (omega (arith, missing)))) p.written;
     }
 
-untaken_part : {A : Type 0} (tracked : A → A → List TrackEvent → Type 0) (lost : A → A → TrackEvent → Type 0) (held : A → Option (List ℕ)) (faults : A → ℕ) (left rest : Option (List ℕ)) (reads read_faults : ℕ) (old new : A)
-    → WritesTrackEvents tracked lost held → IsUntaken (LosesPast tracked lost) (LosesLast tracked lost) left rest old new → TracksPart (seen left reads (held old) (faults old)) (seen rest read_faults (held new) (faults new))
-untaken_part tracked lost held faults left rest reads read_faults old new writes u = by u.some
+untaken_part : {A : Type 0} (r : EpochRule) (tracked : A → A → List TrackEvent → Type 0) (lost : A → A → TrackEvent → Type 0) (held : A → Option (List ℕ)) (faults : A → ℕ) (left rest : Option (List ℕ)) (reads read_faults : ℕ) (old new : A)
+    → WritesTrackEvents tracked lost held → IsUntaken (LosesPast r tracked lost) (LosesLast r tracked lost) left rest old new → TracksPart r (seen left reads (held old) (faults old)) (seen rest read_faults (held new) (faults new))
+untaken_part r tracked lost held faults left rest reads read_faults old new writes u = by u.some
   where
-    by : ((now : Fed) × AreNext u.fed now u.read × LosesPast tracked lost u.fed now old new) ⊎ (IsAtEnd rest × IsCaptureOf u.fed.blue u.fed.green u.fed.red u.read × LosesLast tracked lost u.fed old new)
-        → TracksPart (seen left reads (held old) (faults old)) (seen rest read_faults (held new) (faults new))
+    by : ((now : Fed) × AreNext u.fed now u.read × LosesPast r tracked lost u.fed now old new) ⊎ (IsAtEnd rest × IsCaptureOf u.fed.blue u.fed.green u.fed.red u.read × LosesLast r tracked lost u.fed old new)
+        → TracksPart r (seen left reads (held old) (faults old)) (seen rest read_faults (held new) (faults new))
     by (inl (now, next, l)) = record {
       fed = u.fed;
       first = l.2.first;
       reported = l.2.reported;
       track_events = l.0;
-      some = inl (now, u.read, u.consumed, next, l.1, lost_past tracked lost held u.fed l.0 old new writes l.2);
+      some = inl (now, u.read, u.consumed, next, l.1, lost_past r tracked lost held u.fed l.0 old new writes l.2);
     }
     by (inr (end, captured, l)) = record {
       fed = u.fed;
@@ -218,40 +222,51 @@ untaken_part tracked lost held faults left rest reads read_faults old new writes
             end,
             λ bytes is. subst (λ (bs : List ℕ). IsCaptureOf u.fed.blue u.fed.green u.fed.red bs) (sym (all_read left rest u.read bytes u.consumed end is)) captured,
             l.3,
-            text_past (track_lines l.4.first) l.2 (held old) (held new) (lost_past tracked lost held u.fed l.2 old new writes l.4),
+            text_past (track_lines l.4.first) l.2 (held old) (held new) (lost_past r tracked lost held u.fed l.2 old new writes l.4),
           );
     }
 
-pub short_ends : {A : Type 0} (tracked : A → A → List TrackEvent → Type 0) (lost : A → A → TrackEvent → Type 0) (held : A → Option (List ℕ)) (faults : A → ℕ) (left rest : Option (List ℕ)) (reads read_faults : ℕ) (old new : A) (e : HearError)
-    → WritesTrackEvents tracked lost held → StopsOn tracked lost left rest old new e → IsCausedBy reads read_faults (faults old) (faults new) e
-    → Ends RecoverTrack (heard_ending e) (seen left reads (held old) (faults old)) (seen rest read_faults (held new) (faults new))
-short_ends tracked lost held faults left rest reads read_faults old new (Bad fault) writes short cause = (
-  λ last. absurd last,
+pub short_ends : {A : Type 0} (r : EpochRule) (command : Command) → IsTracks r command → (tracked : A → A → List TrackEvent → Type 0) (lost : A → A → TrackEvent → Type 0) (held : A → Option (List ℕ)) (faults : A → ℕ) (left rest : Option (List ℕ)) (reads read_faults : ℕ) (old new : A) (e : HearError)
+    → WritesTrackEvents tracked lost held → StopsOn r tracked lost left rest old new e → IsCausedBy reads read_faults (faults old) (faults new) e
+    → Ends command (heard_ending e) (seen left reads (held old) (faults old)) (seen rest read_faults (held new) (faults new))
+short_ends r command tracks tracked lost held faults left rest reads read_faults old new (Bad fault) writes short cause = (
+  λ last. absurd (on_last command tracks.on last),
   λ bytes reported. let b = short.1 bytes reported in let h = b.heard in record {
     outcome = record { status = 3; output = track_lines h.track_events; note = capture_note fault };
-    does = inr (fault, b.fed, h.track_events, b.faulty, b.before, h.reported, refl);
+    does = tracks.does bytes (record { status = 3; output = track_lines h.track_events; note = capture_note fault }) (inr (fault, b.fed, h.track_events, b.faulty, b.before, h.reported, refl));
     status = refl;
     note = refl;
     written = writes.grows old new h.track_events h.heard;
   },
 )
-short_ends tracked lost held faults left rest reads read_faults old new Read writes short cause = grind arith
-short_ends tracked lost held faults left rest reads read_faults old new Ear writes short cause =
-    (cause, untaken_part tracked lost held faults left rest reads read_faults old new writes short)
+short_ends r command tracks tracked lost held faults left rest reads read_faults old new Read writes short cause = (
+  cause,
+  tracks.read_failed (seen left reads (held old) (faults old)) (seen rest read_faults (held new) (faults new)) (record {
+    read = short.read;
+    consumed = short.consumed;
+    fed = short.fed;
+    are = short.are_read;
+    track_events = short.heard.track_events;
+    reported = short.heard.reported;
+    written = writes.grows old new short.heard.track_events short.heard.heard;
+  }),
+)
+short_ends r command tracks tracked lost held faults left rest reads read_faults old new Ear writes short cause =
+    (cause, tracks.write_failed (seen left reads (held old) (faults old)) (seen rest read_faults (held new) (faults new)) (untaken_part r tracked lost held faults left rest reads read_faults old new writes short))
 
 -- what taking and losing keep is kept there
-kept_past : {A G : Type 0} (tracked : A → A → List TrackEvent → Type 0) (lost : A → A → TrackEvent → Type 0) (name : A → G) → ((x y : A) (h : List TrackEvent) → tracked x y h → name y ≡ name x) → ((x y : A) (e : TrackEvent) → lost x y e → name y ≡ name x)
-    → (fed : Fed) (track_events : List TrackEvent) (old new : A) → StopsPast tracked lost fed track_events old new → name new ≡ name old
-kept_past tracked lost name by_tracked by_lost fed track_events old new b = by_lost b.stops.between new b.stops.next b.stops.lost_then ∙ by_tracked old b.stops.between b.stops.taken b.stops.took_some
+kept_past : {A G : Type 0} (r : EpochRule) (tracked : A → A → List TrackEvent → Type 0) (lost : A → A → TrackEvent → Type 0) (name : A → G) → ((x y : A) (h : List TrackEvent) → tracked x y h → name y ≡ name x) → ((x y : A) (e : TrackEvent) → lost x y e → name y ≡ name x)
+    → (fed : Fed) (track_events : List TrackEvent) (old new : A) → StopsPast r tracked lost fed track_events old new → name new ≡ name old
+kept_past r tracked lost name by_tracked by_lost fed track_events old new b = by_lost b.stops.between new b.stops.next b.stops.lost_then ∙ by_tracked old b.stops.between b.stops.taken b.stops.took_some
 
-kept_either : {A G : Type 0} (tracked : A → A → List TrackEvent → Type 0) (lost : A → A → TrackEvent → Type 0) (name : A → G) → ((x y : A) (h : List TrackEvent) → tracked x y h → name y ≡ name x) → ((x y : A) (e : TrackEvent) → lost x y e → name y ≡ name x)
+kept_either : {A G : Type 0} (r : EpochRule) (tracked : A → A → List TrackEvent → Type 0) (lost : A → A → TrackEvent → Type 0) (name : A → G) → ((x y : A) (h : List TrackEvent) → tracked x y h → name y ≡ name x) → ((x y : A) (e : TrackEvent) → lost x y e → name y ≡ name x)
     → (rest : Option (List ℕ)) (fed : Fed) (read : List ℕ) (old new : A)
-    → ((now : Fed) × AreNext fed now read × LosesPast tracked lost fed now old new) ⊎ (IsAtEnd rest × IsCaptureOf fed.blue fed.green fed.red read × LosesLast tracked lost fed old new) → name new ≡ name old
-kept_either tracked lost name by_tracked by_lost rest fed read old new (inl (now, next, l)) = kept_past tracked lost name by_tracked by_lost fed l.0 old new l.2
-kept_either tracked lost name by_tracked by_lost rest fed read old new (inr (end, captured, l)) = kept_past tracked lost name by_tracked by_lost fed l.2 old new l.4
+    → ((now : Fed) × AreNext fed now read × LosesPast r tracked lost fed now old new) ⊎ (IsAtEnd rest × IsCaptureOf fed.blue fed.green fed.red read × LosesLast r tracked lost fed old new) → name new ≡ name old
+kept_either r tracked lost name by_tracked by_lost rest fed read old new (inl (now, next, l)) = kept_past r tracked lost name by_tracked by_lost fed l.0 old new l.2
+kept_either r tracked lost name by_tracked by_lost rest fed read old new (inr (end, captured, l)) = kept_past r tracked lost name by_tracked by_lost fed l.2 old new l.4
 
-pub kept_short : {A G : Type 0} (tracked : A → A → List TrackEvent → Type 0) (lost : A → A → TrackEvent → Type 0) (name : A → G) → ((x y : A) (h : List TrackEvent) → tracked x y h → name y ≡ name x) → ((x y : A) (e : TrackEvent) → lost x y e → name y ≡ name x)
-    → (left rest : Option (List ℕ)) (old new : A) (e : HearError) → StopsOn tracked lost left rest old new e → name new ≡ name old
-kept_short tracked lost name by_tracked by_lost left rest old new (Bad fault) short = by_tracked old new short.0.1.track_events short.0.1.heard
-kept_short tracked lost name by_tracked by_lost left rest old new Read short = by_tracked old new short.heard.track_events short.heard.heard
-kept_short tracked lost name by_tracked by_lost left rest old new Ear short = kept_either tracked lost name by_tracked by_lost rest short.fed short.read old new short.some
+pub kept_short : {A G : Type 0} (r : EpochRule) (tracked : A → A → List TrackEvent → Type 0) (lost : A → A → TrackEvent → Type 0) (name : A → G) → ((x y : A) (h : List TrackEvent) → tracked x y h → name y ≡ name x) → ((x y : A) (e : TrackEvent) → lost x y e → name y ≡ name x)
+    → (left rest : Option (List ℕ)) (old new : A) (e : HearError) → StopsOn r tracked lost left rest old new e → name new ≡ name old
+kept_short r tracked lost name by_tracked by_lost left rest old new (Bad fault) short = by_tracked old new short.0.1.track_events short.0.1.heard
+kept_short r tracked lost name by_tracked by_lost left rest old new Read short = by_tracked old new short.heard.track_events short.heard.heard
+kept_short r tracked lost name by_tracked by_lost left rest old new Ear short = kept_either r tracked lost name by_tracked by_lost rest short.fed short.read old new short.some

@@ -18,9 +18,10 @@ use Rattle.period_grammar.specs.Exact.{faultless}
 use Rattle.relay.specs.Relayed.{relayed}
 use Rattle.relay.specs.declared.relaying.RelayFault.{RelayFault}
 use Rattle.relay.specs.declared.relaying.RelayFault.TheVariants as relay_faults
-use Rattle.track_sink.specs.Epochs.{IsTrack}
+use Rattle.relock_sink.specs.Relocks.{relock_rule}
+use Rattle.track_sink.specs.Epochs.{EpochRule, stray_rule, IsTrackBy}
 use Rattle.track_sink.specs.TrackEvents.{TrackEvent}
-use Rattle.track_sink.specs.Tracks.{HasTracked}
+use Rattle.track_sink.specs.Tracks.{HasTrackedBy}
 use Rattle.hdmi_cli.specs.TrackText.{track_lines, track_text}
 use Rattle.hdmi_cli.specs.Relays.{whole_tap}
 use Rattle.source_end.specs.declared.refusal.RasterFault.{RasterFault}
@@ -45,7 +46,7 @@ use Rattle.hdmi_cli.specs.Samples.{IsSampleCut, SampleEnds}
 use Rattle.hdmi_cli.specs.Taken.{StopsOf}
 use Rattle.command_line.specs.Commands.{IsCommand}
 use Rattle.command_line.specs.declared.command.Command.{Command}
-use Rattle.command_line.specs.declared.command.Command.TheVariants.{MakeLink, MakeContent, MakeDvi, RecoverLink, RecoverContent, RecoverTrack, RecoverBiphase, RecoverDvi, Check, Damage, Slip, ReadBiphase, Relay, Sample}
+use Rattle.command_line.specs.declared.command.Command.TheVariants.{MakeLink, MakeContent, MakeDvi, RecoverLink, RecoverContent, RecoverTrack, RecoverRelock, RecoverBiphase, RecoverDvi, Check, Damage, Slip, ReadBiphase, Relay, Sample}
 use Rattle.hdmi_cli.specs.declared.reading.HearError.{HearError}
 use Rattle.hdmi_cli.specs.declared.reading.HearError.TheVariants as heards
 use Rattle.hdmi_cli.specs.declared.ending.Ending.{Ending}
@@ -150,27 +151,27 @@ pub record ListsPart (g : Grammar) (listing : ListingOf) (before after : Devices
       × IsAlignedBy g fed.blue fed.green fed.red columns events × IsWrittenPast (listing.lines first) (listing.text events) before.held after.held)
 
 -- a read failed: what was reported so far of the whole blocks that were read was listed
-pub record TracksRead (before after : Devices) : Type 0 where
+pub record TracksRead (r : EpochRule) (before after : Devices) : Type 0 where
   pub read : List ℕ
   pub consumed : Consumes before.left after.left read
   pub fed : Fed
   pub are : AreRead read fed
   pub track_events : List TrackEvent
-  pub reported : HasTracked fed track_events
+  pub reported : HasTrackedBy r fed track_events
   pub written : Appends before.held after.held (track_lines track_events)
 
 -- a write failed: a part was written of the lines of what was reported so far of the blocks that were read, or at the end
 -- of the whole text, and at least the lines of what was reported before the last block that was read
-pub record TracksPart (before after : Devices) : Type 0 where
+pub record TracksPart (r : EpochRule) (before after : Devices) : Type 0 where
   pub fed : Fed
   pub first : List TrackEvent
-  pub reported : HasTracked fed first
+  pub reported : HasTrackedBy r fed first
   pub track_events : List TrackEvent
   pub some :
-      ((now : Fed) × (read : List ℕ) × Consumes before.left after.left read × AreNext fed now read × HasTracked now track_events
+      ((now : Fed) × (read : List ℕ) × Consumes before.left after.left read × AreNext fed now read × HasTrackedBy r now track_events
       × IsWrittenPast (track_lines first) (track_lines track_events) before.held after.held)
       ⊎ ((epochs aligned : ℕ) × IsAtEnd after.left × ((bytes : List ℕ) → before.left ≡ Some bytes → IsCaptureOf fed.blue fed.green fed.red bytes)
-      × IsTrack fed epochs aligned track_events × IsWrittenPast (track_lines first) (track_text track_events) before.held after.held)
+      × IsTrackBy r fed epochs aligned track_events × IsWrittenPast (track_lines first) (track_text track_events) before.held after.held)
 
 -- how a command ends whose listing was not read
 abbrev pub list_ending : ListError → Ending
@@ -283,7 +284,8 @@ EndsReadFailed (MakeContent tap) before after = Keeps before.held after.held
 EndsReadFailed (MakeDvi tap) before after = Keeps before.held after.held
 EndsReadFailed RecoverLink before after = ListsRead link_grammar link_listing before after
 EndsReadFailed RecoverContent before after = ListsRead link_grammar content_listing before after
-EndsReadFailed RecoverTrack before after = TracksRead before after
+EndsReadFailed RecoverTrack before after = TracksRead stray_rule before after
+EndsReadFailed RecoverRelock before after = TracksRead relock_rule before after
 EndsReadFailed (RecoverBiphase pair) before after = ListsRead link_grammar (biphase_listing pair) before after
 EndsReadFailed RecoverDvi before after = ListsRead dvi_grammar link_listing before after
 EndsReadFailed Check before after = ListsRead link_grammar check_listing before after
@@ -300,7 +302,8 @@ EndsWriteFailed (MakeContent tap) before after = Parts (MakeContent tap) before 
 EndsWriteFailed (MakeDvi tap) before after = Parts (MakeDvi tap) before after
 EndsWriteFailed RecoverLink before after = ListsPart link_grammar link_listing before after
 EndsWriteFailed RecoverContent before after = ListsPart link_grammar content_listing before after
-EndsWriteFailed RecoverTrack before after = TracksPart before after
+EndsWriteFailed RecoverTrack before after = TracksPart stray_rule before after
+EndsWriteFailed RecoverRelock before after = TracksPart relock_rule before after
 EndsWriteFailed (RecoverBiphase pair) before after = ListsPart link_grammar (biphase_listing pair) before after
 EndsWriteFailed RecoverDvi before after = ListsPart dvi_grammar link_listing before after
 EndsWriteFailed Check before after = ListsPart link_grammar check_listing before after

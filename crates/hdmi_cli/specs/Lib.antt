@@ -18,6 +18,7 @@ pub mod ListsCommands
 pub mod RunNotes
 pub mod Headline
 pub mod TrackSlip
+pub mod RelockAgain
 pub mod TrackPasses
 pub mod TrackExamples
 pub mod RelayClauses

@@ -1,11 +1,12 @@
 -- The commands that list what a capture says.
 use Rattle.std.specs.Prelude.{ℕ, List}
 use Rattle.link_sink.specs.Grammar.{Grammar}
+use Rattle.track_sink.specs.Epochs.{EpochRule}
 use Rattle.command_line.specs.declared.command.Command.{Command}
-use Rattle.hdmi_cli.specs.Endings.{Devices, ListsRead, ListsPart, EndsReadFailed, EndsWriteFailed}
+use Rattle.hdmi_cli.specs.Endings.{Devices, ListsRead, ListsPart, TracksRead, TracksPart, EndsReadFailed, EndsWriteFailed}
 use Rattle.hdmi_cli.specs.Manners.{WritesOn}
 use Rattle.hdmi_cli.specs.Listings.{Listing}
-use Rattle.hdmi_cli.specs.Outcome.{RunOutcome, ListsCapture, Does}
+use Rattle.hdmi_cli.specs.Outcome.{RunOutcome, ListsCapture, TracksCapture, Does}
 
 -- a command that lists captures so
 pub record IsLists (g : Grammar) (listing : Listing) (command : Command) : Type 0 where
@@ -13,3 +14,10 @@ pub record IsLists (g : Grammar) (listing : Listing) (command : Command) : Type 
   pub on : WritesOn command
   pub read_failed : (before after : Devices) → ListsRead g listing before after → EndsReadFailed command before after
   pub write_failed : (before after : Devices) → ListsPart g listing before after → EndsWriteFailed command before after
+
+-- a command that lists captures epoch after epoch, which end by a rule
+pub record IsTracks (r : EpochRule) (command : Command) : Type 0 where
+  pub does : (bytes : List ℕ) (o : RunOutcome) → TracksCapture r bytes o → Does command bytes o
+  pub on : WritesOn command
+  pub read_failed : (before after : Devices) → TracksRead r before after → EndsReadFailed command before after
+  pub write_failed : (before after : Devices) → TracksPart r before after → EndsWriteFailed command before after

@@ -41,14 +41,15 @@ use Rattle.hdmi_cli.specs.Blocks.{AreBefore}
 use Rattle.hdmi_cli.specs.Commands.{hit_asked, tap_asked}
 use Rattle.hdmi_cli.specs.Listings.{Listing, link_listing, check_listing, content_listing, biphase_listing}
 use Rattle.hdmi_cli.specs.Notes.{listing_note, raster_note, capture_note, place_note, long_note, frames_note, usage_note, alignment_note}
-use Rattle.track_sink.specs.Epochs.{IsTrack}
+use Rattle.relock_sink.specs.Relocks.{relock_rule}
+use Rattle.track_sink.specs.Epochs.{EpochRule, stray_rule, IsTrackBy}
 use Rattle.track_sink.specs.TrackEvents.{TrackEvent}
-use Rattle.track_sink.specs.Tracks.{HasTracked}
+use Rattle.track_sink.specs.Tracks.{HasTrackedBy}
 use Rattle.hdmi_cli.specs.TrackText.{track_faults, track_lines, track_text}
 use Rattle.hdmi_cli.specs.Relays.{IsRelayed, PassesLimit, RelaysBefore, relay_status}
 use Rattle.command_line.specs.Commands.{IsCommand}
 use Rattle.command_line.specs.declared.command.Command.{Command}
-use Rattle.command_line.specs.declared.command.Command.TheVariants.{MakeLink, MakeContent, MakeDvi, RecoverLink, RecoverContent, RecoverTrack, RecoverBiphase, RecoverDvi, Check, Damage, Slip, ReadBiphase, Relay, Sample}
+use Rattle.command_line.specs.declared.command.Command.TheVariants.{MakeLink, MakeContent, MakeDvi, RecoverLink, RecoverContent, RecoverTrack, RecoverRelock, RecoverBiphase, RecoverDvi, Check, Damage, Slip, ReadBiphase, Relay, Sample}
 
 pub record RunOutcome : Type 0 where
   pub status : ℕ
@@ -117,18 +118,18 @@ abbrev pub Samples : ℕ → RunOutcome → Type 0
 Samples frames outcome = (counts : Counts) × IsSampled frames counts × (outcome ≡ record { status = 0; output = counts_text counts; note = [] })
 
 -- the events of lanes are listed, or nothing is where no epoch has a full alignment
-abbrev pub TracksLanes : Fed → RunOutcome → Type 0
-TracksLanes fed outcome =
-    ((epochs aligned : ℕ) × (track_events : List TrackEvent) × IsTrack fed epochs aligned track_events
+abbrev pub TracksLanes : EpochRule → Fed → RunOutcome → Type 0
+TracksLanes r fed outcome =
+    ((epochs aligned : ℕ) × (track_events : List TrackEvent) × IsTrackBy r fed epochs aligned track_events
     × (((0 < aligned) × (outcome ≡ record { status = status_with (track_faults track_events); output = track_text track_events; note = [] }))
     ⊎ ((aligned ≡ 0) × (outcome ≡ record { status = 7; output = []; note = alignment_note }))))
 
--- bytes are a capture whose lanes are followed through slips, or are refused: what was reported so far of the whole
+-- bytes are a capture whose lanes are followed from epoch to epoch, or are refused: what was reported so far of the whole
 -- blocks before is listed
-abbrev pub TracksCapture : List ℕ → RunOutcome → Type 0
-TracksCapture bytes outcome =
-    ((fed : Fed) × IsCaptureOf fed.blue fed.green fed.red bytes × TracksLanes fed outcome)
-    ⊎ ((fault : CaptureFault) × (fed : Fed) × (track_events : List TrackEvent) × IsFault bytes fault × AreBefore bytes (place_of fault) fed × HasTracked fed track_events
+abbrev pub TracksCapture : EpochRule → List ℕ → RunOutcome → Type 0
+TracksCapture r bytes outcome =
+    ((fed : Fed) × IsCaptureOf fed.blue fed.green fed.red bytes × TracksLanes r fed outcome)
+    ⊎ ((fault : CaptureFault) × (fed : Fed) × (track_events : List TrackEvent) × IsFault bytes fault × AreBefore bytes (place_of fault) fed × HasTrackedBy r fed track_events
     × (outcome ≡ record { status = 3; output = track_lines track_events; note = capture_note fault }))
 
 -- the bits of a slip pass the end of their lane, as a header says it
@@ -166,7 +167,8 @@ Does (MakeContent tap) input outcome = MakesContent (tap_asked tap) (content_rea
 Does RecoverLink input outcome = ListsCapture link_grammar link_listing input outcome
 Does (MakeDvi tap) input outcome = MakesLink DviSpells (tap_asked tap) (dvi_reads_as input) outcome
 Does RecoverContent input outcome = ListsCapture link_grammar content_listing input outcome
-Does RecoverTrack input outcome = TracksCapture input outcome
+Does RecoverTrack input outcome = TracksCapture stray_rule input outcome
+Does RecoverRelock input outcome = TracksCapture relock_rule input outcome
 Does (RecoverBiphase pair) input outcome = ListsCapture link_grammar (biphase_listing pair) input outcome
 Does RecoverDvi input outcome = ListsCapture dvi_grammar link_listing input outcome
 Does Check input outcome = ListsCapture link_grammar check_listing input outcome

@@ -14,6 +14,7 @@ use Rattle.hdmi_cli.specs.DviLocal.{IsDviTappedUntil, DviAlignsBy, IsDviHeardBy}
 use Rattle.hdmi_cli.specs.LocalPictures.{ArePicturesBy}
 use Rattle.hdmi_cli.specs.TrackSlip.{LineSlip, IsSlippedTap, IsNoticed, IsTrackedAcross}
 use Rattle.hdmi_cli.specs.TrackPasses.{IsUnnoticed, IsTrackedAsOne}
+use Rattle.hdmi_cli.specs.RelockAgain.{AgainStream, ComesAgain, IsRelockedAgain}
 use Rattle.hdmi_cli.specs.RelayClauses.{IsCleanToEnd, IsPassedOn, IsRelayedAgain, IsSentWithin}
 use Rattle.hdmi_cli.specs.RelayLocal.{IsRelayedBy}
 use Rattle.hdmi_cli.specs.RelaySettles.{IsWritten, IsWrittenButBit3}
@@ -27,7 +28,7 @@ use Rattle.hdmi_cli.specs.Listings.{link_listing, content_listing, check_listing
 use Rattle.hdmi_cli.specs.Outcome.{RunOutcome, Relays}
 use Rattle.hdmi_cli.specs.Endings.{Devices, Unless}
 use Rattle.command_line.specs.Commands.{IsCommand}
-use Rattle.command_line.specs.declared.command.Command.TheVariants.{RecoverLink, RecoverContent, RecoverTrack, RecoverBiphase, RecoverDvi, Check, Relay}
+use Rattle.command_line.specs.declared.command.Command.TheVariants.{RecoverLink, RecoverContent, RecoverTrack, RecoverRelock, RecoverBiphase, RecoverDvi, Check, Relay}
 
 -- Each theorem holds but where a device failed or memory was wanting (`Unless`). Where it begins with `Aligns t`, it holds of damage of
 -- pixels and packets alone and of damage anywhere after an alignment.
@@ -123,6 +124,19 @@ pub record Promises (words : List (List ℕ)) (status : ℕ) (before after : Dev
   -- nor where the lane ends before it has twelve characters of the control period after the line.
   pub track_slip_passes : IsCommand words RecoverTrack → (t : TappedStream) → (s : LineSlip) → (y : Fed) → IsSlippedTap t s y → IsUnnoticed t s
       → before.left ≡ Some t.bytes → Unless (IsTrackedAsOne t s y) status before after
+  -- `recover relock` writes the text of `recover link`, and across a slip what `recover track` writes: the alignment of a stream that was
+  -- received with sparse damage is confirmed by the guard band after it.
+  pub relock_headline : IsCommand words RecoverRelock → (t : TappedStream) → IsTapped t → Aligns t → before.left ≡ Some t.bytes
+      → Unless (λ status held holds. FromFirst t (λ d e f a. IsRecovered link_listing t d e f a status held holds)) status before after
+  pub relock_slip : IsCommand words RecoverRelock → (t : TappedStream) → (s : LineSlip) → (y : Fed) → IsSlippedTap t s y → IsNoticed t s
+      → before.left ≡ Some t.bytes → Unless (IsTrackedAcross t s y) status before after
+  pub relock_slip_passes : IsCommand words RecoverRelock → (t : TappedStream) → (s : LineSlip) → (y : Fed) → IsSlippedTap t s y → IsUnnoticed t s
+      → before.left ≡ Some t.bytes → Unless (IsTrackedAsOne t s y) status before after
+  -- Whatever bits came before: from a control period on of which nineteen characters were received on each lane, and a guard band
+  -- after it, the stream is listed as it was sent, where its alignment is at that control period. It is at that one, or at one before
+  -- that a guard band confirmed.
+  pub relock_again : IsCommand words RecoverRelock → (t : AgainStream) → ComesAgain t → before.left ≡ Some t.bytes
+      → Unless (λ _ held holds. IsRelockedAgain t held holds) status before after
   -- `relay` sends on what was received of the periods that were sent, from the first full alignment on; or it ends with 3 and
   -- writes nothing, where that has more than 20,000,000 columns.
   pub relay_headline : IsCommand words Relay → (t : TappedStream) → IsTapped t → Aligns t → before.left ≡ Some t.bytes

@@ -9,6 +9,7 @@ pub(crate) mod recover_biphase;
 pub(crate) mod recover_content;
 pub(crate) mod recover_dvi;
 pub(crate) mod recover_link;
+pub(crate) mod recover_relock;
 pub(crate) mod recover_track;
 pub(crate) mod relay_capture;
 pub(crate) mod sample;

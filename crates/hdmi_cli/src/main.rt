@@ -15,6 +15,7 @@ mod slice_source;
 #[cfg(test)]
 mod tests;
 mod track_lister;
+mod track_listing;
 mod tracking;
 mod words;
 mod writing;

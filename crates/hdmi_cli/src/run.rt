@@ -25,6 +25,7 @@ use crate::commands::recover_biphase::recover_biphase;
 use crate::commands::recover_content::recover_content;
 use crate::commands::recover_dvi::recover_dvi;
 use crate::commands::recover_link::recover_link;
+use crate::commands::recover_relock::recover_relock;
 use crate::commands::recover_track::recover_track;
 use crate::commands::relay_capture::relay_capture;
 use crate::commands::sample::count_sample;
@@ -40,7 +41,7 @@ use std::thread::Threads;
 /// refused, 4 read failed, 5 write failed, 6 out of memory, 7 no alignment. `make link` reads a link listing and writes
 /// the capture of a tap of it, `make dvi` that of the same without guard bands, and `make content` that of the raster of a
 /// content listing; `recover link` reads a capture and writes its link listing while it reads, `recover track` with the
-/// slips of its lanes, `recover dvi` that of a stream without guard bands, `recover content` its pictures and sound,
+/// slips of its lanes, `recover relock` the same from an alignment that is confirmed, `recover dvi` that of a stream without guard bands, `recover content` its pictures and sound,
 /// `recover biphase` the frames of one pair of channels, and `check` only the lines of its faults and of a cut and whether
 /// there was a fault; `read biphase` lists such frames; `relay` writes the capture of what was heard, sent anew; `damage`
 /// copies a capture, block by block, with the ten bits of each hit replaced, and `slip` without some bits of a lane;
@@ -149,6 +150,7 @@ fn carry_out<R: Threads, S: Source, K: Sink, G: BlockGate>(
         Command::RecoverLink => recover_link(rt, alloc, input, output, gate),
         Command::RecoverContent => recover_content(rt, alloc, input, output, gate),
         Command::RecoverTrack => recover_track(rt, alloc, input, output),
+        Command::RecoverRelock => recover_relock(rt, alloc, input, output),
         Command::RecoverBiphase(pair) => recover_biphase(rt, alloc, pair, input, output, gate),
         Command::RecoverDvi => recover_dvi(rt, alloc, input, output, gate),
         Command::Check => check(rt, alloc, input, output, gate),

@@ -15,6 +15,7 @@ mod link;
 mod packet;
 mod pieces;
 mod relayed;
+mod relock;
 mod sample;
 mod sparse;
 mod tap;
@@ -46,6 +47,8 @@ fn tables(rt: HostRuntime) -> Result<(), Fail> {
         (pieces::ROWS, 7),
         (pieces::ROWS, 1),
         (relayed::ROWS, 65_536),
+        (relock::ROWS, 65_536),
+        (relock::ROWS, 7),
         (sparse::ROWS, 65_536),
         (tap::ROWS, 65_536),
         (track::ROWS, 65_536),

@@ -1,8 +1,8 @@
-//! Follows a capture whose lanes may lose bits, block by block, while it is read.
+//! Follows a capture from epoch to epoch, block by block, while it is read.
 ghost use Rattle.std.specs.Prelude.{◌≡◌, ◌≤◌, ℕ, List, [], true, IfOk, OnOk, IfErr};
 ghost use Rattle.std.specs.Io.KnownBytes.{Consumes, IsAtEnd};
 ghost use Rattle.link_sink.specs.Pieces.{no_bits};
-ghost use Rattle.track_sink.specs.TrackSinks.{TrackSinkRepresents, bits_fed, most_bits};
+ghost use Rattle.track_sink.specs.TrackSinks.{EpochSinkRepresents, bits_fed, most_bits};
 ghost use Rattle.hdmi_cli.specs.Reading.{IsCausedBy};
 ghost use Rattle.hdmi_cli.specs.Tracking.{IsTrackedSoFar, IsTrackedWhole, LosesLast, LosesPast, StopsOn, TracksOn, TracksWhole};
 
@@ -12,9 +12,9 @@ use lane_team::Open;
 use outside_io::{Failed, Source};
 use std::thread::Threads;
 use tmds_word::LaneBits;
-use track_sink::{TrackEar, TrackOutcome, TrackSink};
+use track_sink::{EpochSink, TrackEar, TrackOutcome, Watch};
 
-impl<E: TrackEar> BlockSink<E> for TrackSink {
+impl<W: Watch, E: TrackEar> BlockSink<E> for EpochSink<W> {
     ghost use Rattle.hdmi_cli.specs.Tracking.{tracked_so_far};
 
     type Outcome = TrackOutcome;
@@ -25,15 +25,15 @@ impl<E: TrackEar> BlockSink<E> for TrackSink {
 
     ghost faults = { E.faults };
 
-    ghost heard = { λ s fed x y. TracksOn E.tracked s fed x y };
+    ghost heard = { λ s fed x y. TracksOn W.rule W.looked W.passed E.tracked s fed x y };
 
-    ghost so_far = { λ fed x y. IsTrackedSoFar E.tracked fed x y };
+    ghost so_far = { λ fed x y. IsTrackedSoFar W.rule E.tracked fed x y };
 
-    ghost stops = { λ before after x y. LosesPast E.tracked E.lost before after x y };
+    ghost stops = { λ before after x y. LosesPast W.rule E.tracked E.lost before after x y };
 
-    ghost whole = { λ fed outcome x y. TracksWhole E.tracked fed outcome.epochs outcome.aligned x y };
+    ghost whole = { λ fed outcome x y. TracksWhole W.rule E.tracked fed outcome.epochs outcome.aligned x y };
 
-    ghost stops_last = { λ fed x y. LosesLast E.tracked E.lost fed x y };
+    ghost stops_last = { λ fed x y. LosesLast W.rule E.tracked E.lost fed x y };
 
     fn feed_block<R: Threads, G: BlockGate>(
         &mut self,
@@ -49,7 +49,7 @@ impl<E: TrackEar> BlockSink<E> for TrackSink {
         self.finish(rt, ear)
     }
 
-    ghost reported = { λ sink fed x y h. tracked_so_far E.tracked sink fed x y h };
+    ghost reported = { λ sink fed x y h. tracked_so_far W.rule W.looked W.passed E.tracked sink fed x y h };
 }
 
 /// Reads a capture, feeds each block to the sink and reports to the ear what it decides, and at the end the rest.
@@ -59,18 +59,18 @@ impl<E: TrackEar> BlockSink<E> for TrackSink {
 /// `Bad` where the bytes are no capture, and `Read` where a read failed: what is reported so far of the whole blocks
 /// before was reported to the ear. `Ear` where a call of the ear failed: it took all that was reported before the last block
 /// that was read.
-pub(crate) fn follow_capture<R: Threads, S: Source, E: TrackEar>(
+pub(crate) fn follow_capture<R: Threads, S: Source, W: Watch, E: TrackEar>(
     rt: &R,
-    sink: &mut TrackSink,
+    sink: &mut EpochSink<W>,
     input: &mut S,
     ear: &mut E,
 ) -> Result<TrackOutcome, HearError>
     requires open { sink.old.is_open ≡ true }
-    requires fresh { TrackSinkRepresents sink.old no_bits [] }
+    requires fresh { EpochSinkRepresents W.rule W.looked W.passed sink.old no_bits [] }
     requires unfed { most_bits sink.old ≡ 0 }
-    ensures heard { IfOk result (λ outcome. IsTrackedWhole E.tracked (S.left input.old) outcome.epochs outcome.aligned ear.old ear.new) }
+    ensures heard { IfOk result (λ outcome. IsTrackedWhole W.rule E.tracked (S.left input.old) outcome.epochs outcome.aligned ear.old ear.new) }
     ensures ended { OnOk result (IsAtEnd (S.left input.new)) }
-    ensures short { IfErr result (StopsOn E.tracked E.lost (S.left input.old) (S.left input.new) ear.old ear.new) }
+    ensures short { IfErr result (StopsOn W.rule E.tracked E.lost (S.left input.old) (S.left input.new) ear.old ear.new) }
     ensures caused { IfErr result (IsCausedBy (S.faults input.old) (S.faults input.new) (E.faults ear.old) (E.faults ear.new)) }
     ensures taken { (taken : List ℕ) × Consumes (S.left input.old) (S.left input.new) taken }
     ensures input_later { S.faults input.old ≤ S.faults input.new }

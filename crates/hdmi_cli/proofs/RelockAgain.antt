@@ -1,0 +1,148 @@
+-- `recover relock` of a stream that comes after any bits: the epochs before its last one are passed, and what is reported of that one is the account.
+use Rattle.std.proofs.Common.{◌≡◌, ◌⊎◌, ℕ, zero, suc, ◌+◌, ◌<◌, Bool, true, false, ◌||◌, List, [], ◌++◌, refl, ap, ap₂, sym, ◌∙◌, subst, inl, inr, arith, append_assoc}
+use Rattle.std.specs.Prelude.{Option, Some}
+use Rattle.std.specs.Io.KnownBytes.{Appends}
+use Rattle.terc4.specs.Columns.{one_if}
+use Rattle.lane_deskew.specs.Aligned.{aligned_columns}
+use Rattle.lane_deskew.specs.Triples.{IsFirst}
+use Rattle.period_grammar.specs.Events.{Event}
+use Rattle.period_grammar.specs.Heard.{heard}
+use Rattle.link_laws.specs.Account.{account}
+use Rattle.link_sink.specs.Alignment.{reported_by}
+use Rattle.link_sink.specs.Sinks.{Fed}
+use Rattle.capture_file.proofs.OneCapture.{one_capture, no_fault}
+use Rattle.command_line.specs.Commands.{IsCommand}
+use Rattle.command_line.specs.declared.command.Command.TheVariants.{RecoverRelock}
+use Rattle.track_sink.specs.Epochs.{EpochRule, rest_of, IsTrackBy, IsTrackedBy, last_epoch, more_epochs}
+use Rattle.track_sink.specs.Feds.{rest_of_rest, same_fed}
+use Rattle.track_sink.specs.Rules.{IsRule}
+use Rattle.track_sink.specs.TrackEvents.{TrackEvent, track_events_of, end_events}
+use Rattle.track_sink.specs.declared.watch.Cause.{Cause}
+use Rattle.relock_sink.specs.Relocks.{relock_rule, IsLastEpoch}
+use Rattle.relock_sink.specs.RelockRule.{relock_is_rule}
+use Rattle.relock_laws.specs.Settled.{IsStart, first_start, next_start}
+use Rattle.relock_laws.proofs.Again.{recovers_again}
+use Rattle.hdmi_cli.specs.Endings.{Devices, RunEnds, Unless, status_of}
+use Rattle.hdmi_cli.specs.Notes.{alignment_note}
+use Rattle.hdmi_cli.specs.Outcome.{RunOutcome, TracksLanes, TracksCapture, status_with}
+use Rattle.hdmi_cli.specs.RelockAgain.{AgainStream, ComesAgain, IsRelockedAgain}
+use Rattle.hdmi_cli.specs.TrackText.{track_faults, track_text}
+use Rattle.hdmi_cli.specs.declared.ending.Ending.{Ending}
+use Rattle.hdmi_cli.proofs.Headline.{run_ended}
+use Rattle.hdmi_cli.proofs.TrackHeadline.{epoch_reported}
+use Rattle.hdmi_cli.proofs.TrackSlip.{reported_at}
+
+-- what is reported from a place on at which an epoch begins
+record FromStart (r : EpochRule) (fed : Fed) (start aligned : ℕ) (track_events : List TrackEvent) : Type 0 where
+  first : List TrackEvent
+  before : ℕ
+  begun : Bool
+  epochs : ℕ
+  more : ℕ
+  rest : List TrackEvent
+  are : track_events ≡ first ++ rest
+  count : aligned ≡ before + more
+  tracked : IsTrackedBy r begun start (rest_of start fed) epochs more rest
+
+-- after the end of an epoch
+next_from : (r : EpochRule) → IsRule r → (fed : Fed) (start place aligned : ℕ) (track_events : List TrackEvent) → FromStart r fed start aligned track_events
+    → (cause : Cause) → r.ends (rest_of start fed) cause place → FromStart r fed (start + place) aligned track_events
+next_from r rule fed start place aligned track_events h cause end = by h.epochs h.more h.rest h.tracked h.are h.count
+  where
+    by : (n m : ℕ) (rest : List TrackEvent) → IsTrackedBy r h.begun start (rest_of start fed) n m rest → track_events ≡ h.first ++ rest → aligned ≡ h.before + m
+        → FromStart r fed (start + place) aligned track_events
+    by n m rest (last_epoch _ _ _ o events none reported) are count = absurd (rule.excludes (rest_of start fed) cause place none end)
+    by n m rest (more_epochs _ _ _ o events c p n1 m1 later found reported track) are count =
+        let e = rule.one_end (rest_of start fed) c cause p place found end in
+        let there : IsTrackedBy r (h.begun || o.aligned) (start + place) (rest_of place (rest_of start fed)) n1 m1 later =
+        subst (λ q. IsTrackedBy r (h.begun || o.aligned) (start + q) (rest_of q (rest_of start fed)) n1 m1 later) e.1 track in
+        let head = track_events_of events ++ end_events (h.begun || o.aligned) c (start + p) in
+        record {
+          first = h.first ++ head;
+          before = h.before + one_if o.aligned;
+          begun = h.begun || o.aligned;
+          epochs = n1;
+          more = m1;
+          rest = later;
+          are =
+              are ∙ ap (λ us. h.first ++ us) (sym (append_assoc (track_events_of events) (end_events (h.begun || o.aligned) c (start + p)) later))
+              ∙ sym (append_assoc h.first head later);
+          count = omega (arith, count);
+          tracked = subst (λ x. IsTrackedBy r (h.begun || o.aligned) (start + place) x n1 m1 later) (rest_of_rest place start fed) there;
+        }
+
+from_start : (fed : Fed) (start : ℕ) → IsStart fed start → (epochs aligned : ℕ) (track_events : List TrackEvent) → IsTrackBy relock_rule fed epochs aligned track_events
+    → FromStart relock_rule fed start aligned track_events
+from_start _ _ (first_start fed) epochs aligned track_events track = record {
+  first = [];
+  before = 0;
+  begun = false;
+  epochs = epochs;
+  more = aligned;
+  rest = track_events;
+  are = refl;
+  count = omega arith;
+  tracked = subst (λ x. IsTrackedBy relock_rule false 0 x epochs aligned track_events) (same_fed fed (rest_of 0 fed) refl refl refl) track;
+}
+from_start _ _ (next_start fed start place begins end) epochs aligned track_events track =
+    next_from relock_rule relock_is_rule fed start place aligned track_events (from_start fed start begins epochs aligned track_events track) end.0 end.1
+
+-- an epoch with a full alignment is aligned
+is_aligned : (b : Bool) (xs ys zs : List Bool) (columns : ℕ) (events : List Event) (d e f : ℕ) → reported_by b xs ys zs columns events → IsFirst xs ys zs d e f → one_if b ≡ 1
+unfolding one_if
+is_aligned true xs ys zs columns events d e f reported first = refl
+is_aligned false xs ys zs columns events d e f reported first = absurd (reported.nowhere d e f first.triple)
+
+-- what is written of lanes of which an epoch is aligned
+text_is : (o : RunOutcome) (aligned : ℕ) (track_events : List TrackEvent)
+    → ((0 < aligned) × (o ≡ record { status = status_with (track_faults track_events); output = track_text track_events; note = [] }))
+    ⊎ ((aligned ≡ 0) × (o ≡ record { status = 7; output = []; note = alignment_note }))
+    → 0 < aligned → o.output ≡ track_text track_events
+text_is o aligned track_events (inl (some, is)) more = ap (λ (x : RunOutcome). x.output) is
+text_is o aligned track_events (inr (none, is)) more = absurd (omega (arith, none, more))
+
+again : (t : AgainStream) → ComesAgain t → (o : RunOutcome) (old new : Option (List ℕ)) → TracksLanes relock_rule t.lanes o → Appends old new o.output → IsRelockedAgain t old new
+again t comes o old new (epochs, aligned, track_events, track, outcome) written =
+    let law = recovers_again t.periods t.sent t.received t.offset t.skews t.counts t.tapped t.lanes t.before t.a t.blue t.green t.red comes.again in
+    let start = law.0 in
+    let p = law.2.0 in
+    let q = law.2.1 in
+    let r = law.2.2 in
+    let settled = law.2.3 in
+    let last = law.2.4 in
+    let rest = rest_of start t.lanes in
+    let from = from_start t.lanes start law.1 epochs aligned track_events track in
+    let epoch = epoch_reported relock_rule relock_is_rule from.begun start rest from.epochs from.more from.rest from.tracked last in
+    let some = is_aligned epoch.outcome.aligned rest.blue rest.green rest.red epoch.outcome.columns epoch.events p q r epoch.reported settled.first in
+    let here = reported_at epoch.outcome.aligned rest.blue rest.green rest.red epoch.outcome.columns epoch.events p q r epoch.reported settled.first in
+    record {
+      start = start;
+      begins = law.1;
+      edge_blue = p;
+      edge_green = q;
+      edge_red = r;
+      settled = settled;
+      last = last;
+      written = λ there.
+          let is = law.2.5 there in
+          let events_are = here ∙ is.reported in
+          let count = from.count in
+          let aligned_is = epoch.aligned_is in
+          let text = text_is o aligned track_events outcome (omega (arith, count, aligned_is, some)) in
+          let all = from.are ∙ ap (λ us. from.first ++ us) (epoch.track_events_are ∙ ap track_events_of events_are) in
+          (from.first, subst (λ (bytes : List ℕ). Appends old new bytes) (text ∙ ap track_text all) written);
+    }
+
+of_bytes : (t : AgainStream) → ComesAgain t → (o : RunOutcome) (old new : Option (List ℕ)) → TracksCapture relock_rule t.bytes o → Appends old new o.output → IsRelockedAgain t old new
+of_bytes t comes o old new (inl (fed, captured, lanes)) written =
+    let same = one_capture t.lanes.blue t.lanes.green t.lanes.red fed.blue fed.green fed.red t.bytes comes.captured captured in
+    again t comes o old new (subst (λ x. TracksLanes relock_rule x o) (sym (same_fed t.lanes fed same.blue same.green same.red)) lanes) written
+of_bytes t comes o old new (inr (fault, fed, track_events, faulty, before, reported, is)) written =
+    absurd (no_fault t.bytes fault (record { blue = t.lanes.blue; green = t.lanes.green; red = t.lanes.red; holds = comes.captured }) faulty)
+
+pub relocked_again : (words : List (List ℕ)) (ending : Ending) (before after : Devices) (status : ℕ) → RunEnds words ending before after → status ≡ status_of ending → IsCommand words RecoverRelock
+    → (t : AgainStream) → ComesAgain t → before.left ≡ Some t.bytes → Unless (λ _ old new. IsRelockedAgain t old new) status before after
+relocked_again words ending before after status ends is named t comes left =
+    run_ended (λ _ old new. IsRelockedAgain t old new) RecoverRelock words ending before after status ends is named (λ answers.
+    let answer = answers t.bytes left in
+    of_bytes t comes answer.outcome before.held after.held answer.does answer.written)
