@@ -11,6 +11,8 @@ columns a second, the pixel clock of 1,920 by 1,080 at 60 Hz. What is measured:
 
     feed     vabgrot_feed with all events and pixels written into one array and one buffer, and no look at them
     faults   the same, and of each event whether it is a fault
+    views    Receiver.feed_views of the package, 1 MiB of each lane at a time
+    watched  the same, and all that tools/watch counts of it
     arrays   Receiver.feed_arrays of the package
     objects  Receiver.feed of the package, an object an event
 
@@ -36,6 +38,10 @@ from vabgrot import Receiver, capture, library  # noqa: E402
 from vabgrot.events import Kind  # noqa: E402
 from vabgrot.place import PROGRAM  # noqa: E402
 from vabgrot.receiving import BYTES, EVENTS, RECORD  # noqa: E402
+from vabgrot.watching import receiving  # noqa: E402
+from vabgrot.watching.blocks import LONGEST  # noqa: E402
+from vabgrot.watching.counting import Count  # noqa: E402
+from vabgrot.watching.records import Recorded  # noqa: E402
 
 PIECE = 1 << 16  # bytes of a lane
 CLOCK = 148.5  # million columns a second
@@ -47,12 +53,14 @@ TAP = ["--offset", "123457", "--skew", "0,70,35", "--version", "2"]
 class Fed:
     """The calls of C without the package's copies."""
 
+    piece = PIECE
+
     def __init__(self, looks):
         self.calls, self.looks, self.found = library.loaded(library.find()), looks, 0
         self.handle, self.answer = library.Handle(), library.Answer()
         self.records, self.bytes = np.empty(EVENTS, RECORD), np.empty(BYTES, np.uint8)
         self.room = self.records.ctypes.data, EVENTS, self.bytes.ctypes.data, BYTES, byref(self.answer)
-        assert self.calls.vabgrot_open(byref(self.handle), library.LINK) == library.OK
+        assert self.calls.vabgrot_open(byref(self.handle), library.KINDS["link"]) == library.OK
 
     def feed(self, lanes):
         places, left, status = [it.ctypes.data for it in lanes], [8 * len(it) for it in lanes], library.FULL
@@ -75,8 +83,30 @@ class Fed:
         return columns
 
 
+class Viewed:
+    """A receiver as tools/watch has it, which makes no copy, and what is counted of it."""
+
+    piece = LONGEST
+
+    def __init__(self, counts):
+        self.receiver, self.counts = Receiver("link", receiving.EVENTS, receiving.BYTES), counts
+
+    def feed(self, lanes):
+        count = Count()
+        for views in self.receiver.feed_views(*lanes):
+            if self.counts:
+                count.take(Recorded(*views))
+
+    def finish(self):
+        end = self.receiver.finish()[-1]
+        self.receiver.restart()
+        return end.columns
+
+
 class Packaged:
     """A receiver of the package."""
+
+    piece = PIECE
 
     def __init__(self, name):
         self.receiver = Receiver()
@@ -94,6 +124,8 @@ class Packaged:
 WAYS = {
     "feed": lambda: Fed(False),
     "faults": lambda: Fed(True),
+    "views": lambda: Viewed(False),
+    "watched": lambda: Viewed(True),
     "arrays": lambda: Packaged("feed_arrays"),
     "objects": lambda: Packaged("feed"),
 }
@@ -105,8 +137,8 @@ def speed(way, lanes, runs):
     size = min(map(len, lanes))  # the last bits of the longer lanes have no column
     for _ in range(runs):
         begin = time.perf_counter()
-        for at in range(0, size, PIECE):
-            it.feed([lane[at : min(size, at + PIECE)] for lane in lanes])
+        for at in range(0, size, it.piece):
+            it.feed([lane[at : min(size, at + it.piece)] for lane in lanes])
         columns = it.finish()
         best = min(best, time.perf_counter() - begin)
     return columns / best / 1e6

@@ -96,12 +96,13 @@ int LLVMFuzzerTestOneInput(const uint8_t *data, size_t size) {
   it.events = malloc((it.event_room + 1) * sizeof *it.events);
   it.bytes = malloc(it.byte_room + 1);
   need(it.events != NULL && it.bytes != NULL);
-  need(vabgrot_open(&it.receiver, VABGROT_LINK) == VABGROT_OK);
+  const uint32_t kind = data[1] % 2 == 0 ? VABGROT_LINK : VABGROT_DVI;
+  need(vabgrot_open(&it.receiver, kind) == VABGROT_OK);
   it.is_open = 1;
   while (at < size) {
     const int call = data[at++] % (2 * CALLS);
     if (call == OPEN) {
-      need(vabgrot_open(&it.receiver, VABGROT_LINK) == (it.is_open ? VABGROT_MISUSE : VABGROT_OK));
+      need(vabgrot_open(&it.receiver, kind) == (it.is_open ? VABGROT_MISUSE : VABGROT_OK));
       if (!it.is_open) it.is_finished = 0, it.column = 0;
       it.is_open = 1;
     } else if (call == FINISH) {

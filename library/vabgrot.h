@@ -6,10 +6,12 @@
 ** lanes up, and writes what they carry as events into an array of the caller's: runs of control columns, lines of pixels,
 ** packets of data islands, and what is wrong with them. A column is one pixel clock: one character of each lane.
 **
-** What the calls write is proved: of all bits that were fed, exactly the events that the program's `recover link` lists, in
-** whatever pieces they were fed. docs/proof/PROVED.md of the project has the theorem, and what it owes to the caller.
+** What the calls write is proved: of all bits that were fed, exactly the events that the program's `recover link` lists, or its
+** `recover dvi`, by the receiver's kind, in whatever pieces they were fed. docs/proof/PROVED.md of the project has the theorem, and
+** what it owes to the caller.
 **
-** Memory. vabgrot_open takes 63,600 bytes from malloc, in seven blocks; no other call takes any; vabgrot_close frees them.
+** Memory. vabgrot_open takes 63,584 bytes from malloc, or 63,360 of VABGROT_DVI, in seven blocks; no other call takes any;
+** vabgrot_close frees them.
 **
 ** Threads. The library keeps nothing outside the handle and starts no thread. Calls on different handles may run side by side.
 ** Calls on one handle must not overlap; between calls a handle may pass to another thread, as any memory does.
@@ -51,10 +53,12 @@ enum vabgrot_status {
 };
 
 /*
-** Kinds of receivers.
+** Kinds of receivers. Both write the same events; of VABGROT_DVI there are runs, lines, the cut, and of the faults VABGROT_WORD,
+** VABGROT_SHORT, VABGROT_CODE and VABGROT_LONG_LINE.
 */
 enum vabgrot_kind {
-  VABGROT_LINK = 0 /* a link with guard bands and preambles (HDMI 1.4, chapter 5) */
+  VABGROT_LINK = 0, /* a link with guard bands and preambles (HDMI 1.4, chapter 5) */
+  VABGROT_DVI = 1   /* one without them: a line begins with its first pixel (DVI 1.0) */
 };
 
 /*
@@ -150,7 +154,7 @@ typedef struct vabgrot_answer {
 #define VABGROT_QUICK_BYTES 22155
 
 /*
-** Opens a receiver of a kind. It was fed nothing. It holds its memory until vabgrot_close.
+** Opens a receiver of a kind (vabgrot_kind), which it has until vabgrot_close, as its memory. It was fed nothing.
 **
 ** VABGROT_MISUSE: the handle is open already, or there is no such kind. VABGROT_NOMEM: malloc answered NULL.
 */
@@ -185,7 +189,7 @@ int vabgrot_finish(vabgrot *v, vabgrot_event *events, size_t event_room, uint8_t
                    vabgrot_answer *answer);
 
 /*
-** Makes an open receiver as vabgrot_open left it, in whatever state it is. VABGROT_MISUSE: the handle is not open.
+** Makes an open receiver as vabgrot_open left it, of the same kind, in whatever state it is. VABGROT_MISUSE: the handle is not open.
 */
 int vabgrot_restart(vabgrot *v);
 

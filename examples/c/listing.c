@@ -1,7 +1,7 @@
 /*
-** Lists what a capture says, event by event, as `vabgrot recover link` does.
+** Lists what a capture says, event by event, as `vabgrot recover link` does, or with --dvi as `recover dvi`.
 **
-**     listing FILE.tmc [BYTES [EVENTS [ROOM]]]
+**     listing [--dvi] FILE.tmc [BYTES [EVENTS [ROOM]]]
 **
 ** The lanes are fed in pieces of BYTES bytes each (4,096), into room for EVENTS events and ROOM bytes. Status 0; 1 where there was a
 ** fault; 3 where the file is no capture; 6 for want of memory; 7 where the lanes were never aligned.
@@ -134,11 +134,11 @@ static int feed(vabgrot *receiver, const struct lanes *lanes, uint64_t at, uint6
   return status;
 }
 
-static int list(const struct lanes *lanes, uint64_t piece, struct room *room) {
+static int list(uint32_t kind, const struct lanes *lanes, uint64_t piece, struct room *room) {
   vabgrot receiver = VABGROT_INIT;
   vabgrot_answer answer = {0, 0, {0, 0, 0}, 0, 0};
   uint64_t most = lanes->bits[0];
-  int status = vabgrot_open(&receiver, VABGROT_LINK);
+  int status = vabgrot_open(&receiver, kind);
   for (int i = 1; i < 3; i++) {
     if (lanes->bits[i] > most) most = lanes->bits[i];
   }
@@ -193,12 +193,15 @@ static size_t number(int count, char **words, int place, size_t otherwise) {
 }
 
 int main(int count, char **words) {
+  const int is_dvi = count > 1 && strcmp(words[1], "--dvi") == 0;
+  count -= is_dvi;
+  words += is_dvi;
   struct lanes lanes = {{NULL, NULL, NULL}, {0, 0, 0}};
   struct room room = {NULL, NULL, number(count, words, 3, VABGROT_QUICK_EVENTS), number(count, words, 4, VABGROT_QUICK_BYTES), 0};
   FILE *file = count > 1 ? fopen(words[1], "rb") : NULL;
   const size_t piece = number(count, words, 2, BLOCK);
   if (file == NULL || piece == 0) {
-    fputs("usage: listing FILE.tmc [BYTES [EVENTS [ROOM]]]\n", stderr);
+    fputs("usage: listing [--dvi] FILE.tmc [BYTES [EVENTS [ROOM]]]\n", stderr);
     return 2;
   }
   int status = read_lanes(file, &lanes);
@@ -206,7 +209,7 @@ int main(int count, char **words) {
   room.events = malloc((room.event_count + 1) * sizeof *room.events);
   room.bytes = malloc(room.byte_count + 1);
   if (room.events == NULL || room.bytes == NULL) status = NO_MEMORY;
-  if (status == DONE) status = list(&lanes, piece, &room);
+  if (status == DONE) status = list(is_dvi ? VABGROT_DVI : VABGROT_LINK, &lanes, piece, &room);
   for (int i = 0; i < 3; i++) free(lanes.bytes[i]);
   free(room.events);
   free(room.bytes);

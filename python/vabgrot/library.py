@@ -5,6 +5,7 @@ import functools
 import os
 from ctypes import POINTER, Structure, c_int, c_size_t, c_uint32, c_uint64, c_void_p
 from pathlib import Path
+from typing import Literal
 
 from vabgrot import place
 from vabgrot.errors import Refused
@@ -12,7 +13,8 @@ from vabgrot.errors import Refused
 NAME = "libvabgrot.so.1"
 BESIDE = place.TOP.parent / NAME if place.IS_INSTALLED else place.TOP / "library" / "out" / NAME
 OK, FULL, MISUSE, TOOBIG, NOMEM = range(5)  # what a call answers
-LINK = 0  # the kind of a receiver
+Grammar = Literal["link", "dvi"]  # the kinds of receivers, as the program's `recover` names them
+KINDS: dict[Grammar, int] = {"link": 0, "dvi": 1}
 QUICK_EVENTS, QUICK_BYTES = 26312, 22155  # the least room with which a feed is quickest
 
 

@@ -3,9 +3,9 @@
 import ctypes
 import threading
 import weakref
-from collections.abc import Iterator, Sequence
+from collections.abc import Callable, Iterator, Sequence
 from ctypes import byref
-from typing import Any, NamedTuple, Self
+from typing import Any, NamedTuple, Self, TypeVar
 
 import numpy as np
 import numpy.typing as npt
@@ -13,7 +13,7 @@ import numpy.typing as npt
 from vabgrot import library
 from vabgrot.errors import Refused
 from vabgrot.events import End, Event, Numbers, event_of
-from vabgrot.library import FULL, MISUSE, NOMEM, OK, TOOBIG, Misuse
+from vabgrot.library import FULL, KINDS, MISUSE, NOMEM, OK, TOOBIG, Grammar, Misuse
 
 # A record of vabgrot.h; its columns are below 2^60.
 RECORD = np.dtype(
@@ -26,6 +26,7 @@ Lane = Any  # bytes, a memoryview or an array of bytes: any buffer of them
 Octets = npt.NDArray[np.uint8]
 Records = npt.NDArray[np.void]
 Empty = np.zeros(1, np.uint8)
+Written = TypeVar("Written")
 
 
 class Arrays(NamedTuple):
@@ -38,6 +39,13 @@ class Arrays(NamedTuple):
         """The same as objects."""
         numbers: Sequence[Numbers] = self.records.tolist()
         return (event_of(it, self.data) for it in numbers)
+
+
+class Views(NamedTuple):
+    """The same where the receiver wrote them: both are valid until the next call of it."""
+
+    records: Records
+    data: Octets
 
 
 def octets(lane: Lane) -> Octets:
@@ -61,9 +69,10 @@ def bits_of(lanes: Sequence[Octets], bits: Sequence[int] | None) -> list[int]:
 
 
 class Receiver:
-    """A receiver of a link. It is fed the raw bits of three lanes, of any offset and up to 70 bits of skew between them, the first bit
-    of a byte lowest; what each call answers is proved to be the events of all bits that were fed (docs/proof/PROVED.md). Calls of several
-    threads wait for one another. Raises NoLibrary where the C library is missing, MemoryError, and of each call Misuse where it does
+    """A receiver of a link, or of one without guard bands and preambles (`kind="dvi"`). It is fed the raw bits of three lanes, of any
+    offset and up to 70 bits of skew between them, the first bit of a byte lowest; what each call answers is proved to be the events of
+    all bits that were fed (docs/proof/PROVED.md). Calls of several threads wait for one another. Raises ValueError where there is no such
+    kind, NoLibrary where the C library is missing, MemoryError, and of each call Misuse where it does
     not fit the calls before it: then it did nothing.
 
         with Receiver() as receiver:
@@ -71,13 +80,16 @@ class Receiver:
                 print(event)
     """
 
-    def __init__(self) -> None:
+    def __init__(self, kind: Grammar = "link", events: int = EVENTS, size: int = BYTES) -> None:
+        """Of a kind, with room for so many events and so many of their bytes, which its calls fill as often as they must."""
+        if kind not in KINDS:
+            raise ValueError(f"there is no receiver of the kind {kind!r}, but of {' and '.join(KINDS)}")
         self._calls = library.loaded(library.find())
         self._lock = threading.Lock()
         self._handle, self._answer = library.Handle(), library.Answer()
-        self._records, self._bytes = np.empty(EVENTS, RECORD), np.empty(BYTES, np.uint8)
-        self._room = self._records.ctypes.data, EVENTS, self._bytes.ctypes.data, BYTES, byref(self._answer)
-        self._check(self._calls.vabgrot_open(byref(self._handle), library.LINK))
+        self._records, self._bytes = np.empty(events, RECORD), np.empty(size, np.uint8)
+        self._room = self._records.ctypes.data, events, self._bytes.ctypes.data, size, byref(self._answer)
+        self._check(self._calls.vabgrot_open(byref(self._handle), KINDS[kind]))
         self._end = weakref.finalize(self, close, self._calls, self._handle)
 
     def __enter__(self) -> Self:
@@ -96,7 +108,13 @@ class Receiver:
         lanes = [octets(lane) for lane in (blue, green, red)]
         left = bits_of(lanes, bits)
         with self._lock:
-            return joined([*self._fed(lanes, left)])
+            return joined([*self._fed(lanes, left, self._written)])
+
+    def feed_views(self, blue: Lane, green: Lane, red: Lane, bits: Sequence[int] | None = None) -> Iterator[Views]:
+        """The same without a copy, as often as the receiver's own arrays are full: each is to be read before the next is asked for, and all
+        of them are to be asked for before another call, which then has the receiver to itself. No other thread may call it meanwhile."""
+        lanes = [octets(lane) for lane in (blue, green, red)]
+        yield from self._fed(lanes, bits_of(lanes, bits), self._seen)
 
     def finish(self) -> list[Event]:
         """Ends the lanes: the one event that is left, if any, and the End. The receiver then takes no bits until `restart`."""
@@ -110,7 +128,7 @@ class Receiver:
             return self._written(), End(self._answer.columns, bool(self._answer.aligned))
 
     def restart(self) -> None:
-        """Makes an open receiver as it was at first."""
+        """Makes an open receiver as it was at first, of its kind."""
         with self._lock:
             self._check(self._calls.vabgrot_restart(byref(self._handle)))
 
@@ -119,22 +137,27 @@ class Receiver:
         with self._lock:
             self._end()
 
-    def _fed(self, lanes: Sequence[Octets], left: list[int]) -> Iterator[Arrays]:
+    def _fed(self, lanes: Sequence[Octets], left: list[int], written: Callable[[], Written]) -> Iterator[Written]:
         """What is written of bits, as often as there was no room for all."""
         places, status = [lane.ctypes.data if len(lane) else Empty.ctypes.data for lane in lanes], FULL
         while status == FULL:
             words = [word for place, count in zip(places, left) for word in (place, (count + 7) // 8)]
             status = self._calls.vabgrot_feed(byref(self._handle), *words, byref(library.Bits(*left)), *self._room)
             self._check(status)
-            yield self._written()
             taken = self._answer.taken
             for at, count in enumerate((taken.blue, taken.green, taken.red)):
                 places[at] += count // 8
                 left[at] -= count
+            yield written()
+
+    def _seen(self) -> Views:
+        """What the last call wrote, where it stands."""
+        return Views(self._records[: self._answer.events], self._bytes[: self._answer.bytes])
 
     def _written(self) -> Arrays:
-        """What the last call wrote."""
-        return Arrays(self._records[: self._answer.events].copy(), self._bytes[: self._answer.bytes].tobytes())
+        """A copy of it."""
+        records, data = self._seen()
+        return Arrays(records.copy(), data.tobytes())
 
     def _check(self, status: int) -> None:
         """Raises what a status says."""
@@ -173,10 +196,10 @@ def pieces(blue: Lane, green: Lane, red: Lane, bits: Sequence[int] | None = None
         yield first, second, third, [min(8 * PIECE, max(0, count - 8 * at)) for count in counts]
 
 
-def receive(blue: Lane, green: Lane, red: Lane, bits: Sequence[int] | None = None) -> Iterator[Event]:
+def receive(blue: Lane, green: Lane, red: Lane, bits: Sequence[int] | None = None, kind: Grammar = "link") -> Iterator[Event]:
     """The events of the bits of three lanes, one after another, all of their bytes or as many as `bits` says of each; the last is the
-    End. Raises as a Receiver does."""
-    with Receiver() as receiver:
+    End. `kind` is that of the Receiver, and it raises as that does."""
+    with Receiver(kind) as receiver:
         for piece in pieces(blue, green, red, bits):
             yield from receiver.feed(*piece)
         yield from receiver.finish()

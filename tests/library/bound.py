@@ -5,7 +5,7 @@ from ctypes import POINTER, Structure, byref, c_int, c_size_t, c_uint8, c_uint32
 
 OK, FULL, MISUSE, TOOBIG, NOMEM = range(5)
 LEAST_EVENTS, LEAST_BYTES = 104, 12327
-LINK = 0
+LINK, DVI = 0, 1
 
 
 class Handle(Structure):

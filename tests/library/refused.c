@@ -1,5 +1,5 @@
 /*
-** Refuses each allocation of vabgrot_open in turn, and counts those of all calls. Linked with --wrap=malloc, realloc and free.
+** Refuses each allocation of vabgrot_open in turn, for each kind, and counts those of all calls. Linked with --wrap=malloc, realloc and free.
 */
 #include <stdio.h>
 #include <stdlib.h>
@@ -40,16 +40,18 @@ static int wrong(const char *what) {
   return 1;
 }
 
-int main(void) {
+static int try_kind(uint32_t kind) {
   static vabgrot_event events[VABGROT_LEAST_EVENTS];
   static uint8_t room[VABGROT_LEAST_BYTES];
   const uint8_t lane[] = {1, 2, 3, 4};
   const vabgrot_bits bits = {32, 32, 32};
   vabgrot_answer answer;
   vabgrot receiver = VABGROT_INIT;
-  if (vabgrot_open(&receiver, VABGROT_LINK) != VABGROT_OK) return wrong("open");
+  asked = 0;
+  bytes = 0;
+  if (vabgrot_open(&receiver, kind) != VABGROT_OK) return wrong("open");
   const long needed = asked;
-  printf("%ld blocks of %zu bytes\n", needed, bytes);
+  printf("kind %lu: %ld blocks of %zu bytes\n", (unsigned long)kind, needed, bytes);
   if (vabgrot_feed(&receiver, lane, 4, lane, 4, lane, 4, &bits, events, VABGROT_LEAST_EVENTS, room, VABGROT_LEAST_BYTES, &answer) !=
       VABGROT_OK) {
     return wrong("feed");
@@ -61,10 +63,14 @@ int main(void) {
   for (long at = 1; at <= needed; at++) {
     asked = 0;
     refused_at = at;
-    if (vabgrot_open(&receiver, VABGROT_LINK) != VABGROT_NOMEM || held != 0) return wrong("refused");
+    if (vabgrot_open(&receiver, kind) != VABGROT_NOMEM || held != 0) return wrong("refused");
     refused_at = 0;
-    if (vabgrot_open(&receiver, VABGROT_LINK) != VABGROT_OK) return wrong("open after a refusal");
+    if (vabgrot_open(&receiver, kind) != VABGROT_OK) return wrong("open after a refusal");
     if (vabgrot_close(&receiver) != VABGROT_OK || held != 0) return wrong("close after a refusal");
   }
   return 0;
+}
+
+int main(void) {
+  return try_kind(VABGROT_LINK) || try_kind(VABGROT_DVI);
 }

@@ -6,7 +6,7 @@ import threading
 import pytest
 
 from tests.library import bound
-from tests.library.bound import FULL, MISUSE, OK, Receiver
+from tests.library.bound import DVI, FULL, MISUSE, OK, Receiver
 from tests.models import hearing, model
 from tests.support import LISTING, TOP, ran
 
@@ -16,7 +16,8 @@ STATES = (CLOSED, EMPTY, FED, ENDED, FINISHED)
 OPEN = (EMPTY, FED, ENDED)
 CALLS = {
     "open": lambda it: (it.open(), {CLOSED: (OK, EMPTY)}),
-    "open no kind": lambda it: (it.open(9), {}),
+    "open of the other kind": lambda it: (it.open(DVI), {CLOSED: (OK, EMPTY)}),
+    "open no kind": lambda it: (it.open(2), {}),
     "feed": lambda it: (it.feed([b"ab", b"cd", b"ef"]), {EMPTY: (OK, FED), FED: (OK, FED)}),
     "feed nothing": lambda it: (it.feed([b"", b"", b""]), {state: (OK, state) for state in OPEN}),
     "end a lane": lambda it: (it.feed([b"ab", b"c", b"ef"], [11, 5, 16]), {EMPTY: (OK, ENDED), FED: (OK, ENDED)}),
@@ -32,9 +33,9 @@ def calls(library):
     return bound.loaded(library / "libvabgrot.so.1")
 
 
-def lanes_of(text, skews=(0, 0, 0)):
+def lanes_of(text, skews=(0, 0, 0), guards=True):
     """The bytes of each lane of the columns of a listing, and how many bits they are."""
-    rows = zip(*hearing.sent_columns(text))
+    rows = zip(*hearing.sent_columns(text, guards))
     bits = [model.sent_bits(row)[skew:] for row, skew in zip(rows, skews)]
     return [int(row[::-1], 2).to_bytes((len(row) + 7) // 8, "little") for row in bits], [len(row) for row in bits]
 
@@ -99,6 +100,27 @@ def test_events(calls):
         assert list(it.written()) == [(27, 0, 0, 12, 0, 0, b"")]
         assert (it.answer.aligned, it.answer.columns) == (1, 27)
         assert it.restart() == OK
+    it.close()
+
+
+def test_a_stream_without_guard_bands(calls):
+    """What is written of it, columns counted by hand; a restart keeps the kind, and an opening after a close has the kind that it names."""
+    lanes, bits = lanes_of(b"c 00 12\nv ff0000\nc 00 12\nend\n", guards=False)
+    wanted = [(12, 0, 0, 12, 0, 0, b""), (13, 1, 0, 0, 0, 0, b"\xff\0\0"), (25, 0, 0, 12, 0, 0, b"")]
+    it = Receiver(calls)
+
+    def heard():
+        assert it.feed(lanes, bits) == OK
+        found = list(it.written())
+        assert it.finish() == OK and (it.answer.aligned, it.answer.columns) == (1, 25)
+        return found + list(it.written())
+
+    assert it.open(DVI) == OK
+    for _ in range(2):
+        assert heard() == wanted
+        assert it.restart() == OK
+    assert it.close() == OK and it.open() == OK
+    assert heard() == [(12, 0, 0, 12, 0, 0, b""), (13, 9, 12, 0, 0, 0, b""), (25, 0, 0, 12, 0, 0, b"")]
     it.close()
 
 

@@ -6,10 +6,11 @@ import shutil
 
 import pytest
 
-from tests.models import feeding, hearing
+from tests.models import feeding, hearing, model
 from tests.support import LISTING, READERS, TOP, ran, run
 
 SPLITS = ((), (1,), (3, 104, 12327), (7,), (4095, 1000, 20000), (4096, 300, 13000), (100000, 100, 1 << 20), (100000,))
+ROOMY = [it for it in SPLITS if it and (len(it) < 3 or it[1] >= 104)]
 CAPTURES = 24
 
 
@@ -41,6 +42,34 @@ def test_listings(executable, listing, compare, tmp_path):
                 few = len(words) == 3 and int(words[1]) < 104
                 came = listed(listing, path, *words)
                 yield f"{name}, {words}", came, (3, came[1]) if few else (status, text)
+
+    compare(cases())
+
+
+def dvi_captures(executable):
+    """The name and the capture: those of a link too, whose guard bands are pixels here."""
+    for at in range(CAPTURES):
+        rng = random.Random(f"library without guard bands {at}")
+        yield f"capture {at}", feeding.made_capture(rng)[0]
+        words = ["make", "dvi", "--offset", str(rng.randrange(1000)), "--skew", f"{rng.randrange(71)},0,{rng.randrange(71)}"]
+        made = run(executable, words, feeding.listing_of(rng, guards=False))[1]
+        yield f"listing {at}", made
+        hits = [f"{rng.randrange(3)}:{rng.randrange(len(made) * 8 // 3 - 80)}:{rng.randrange(1024):03x}" for _ in range(20)]
+        yield f"damaged listing {at}", run(executable, ["damage", *hits], made)[1]
+
+
+@pytest.mark.slow
+def test_listings_without_guard_bands(executable, listing, compare, tmp_path):
+    def cases():
+        path = tmp_path / "capture.tmc"
+        for at, (name, data) in enumerate(dvi_captures(executable)):
+            path.write_bytes(data)
+            aligned = model.aligned(model.lanes_in(data))
+            wanted = model.dvi_text(aligned) if aligned else (7, b"")
+            yield f"the program, {name}", run(executable, ["recover", "dvi"], data)[:2], wanted
+            yield name, listed(listing, "--dvi", path), wanted
+            words = ROOMY[at % len(ROOMY)]
+            yield f"{name}, {words}", listed(listing, "--dvi", path, *words), wanted
 
     compare(cases())
 

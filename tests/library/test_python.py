@@ -58,6 +58,18 @@ def test_events():
     assert [*vabgrot.receive(b"", b"", b"")] == [End(0, False)]
 
 
+def test_a_stream_without_guard_bands():
+    lanes, bits = lanes_of(b"c 00 12\nv ff0000\nc 00 12\nend\n", guards=False)
+    wanted = [Run(12, 0, 12), Line(13, b"\xff\0\0"), Run(25, 0, 12), End(25, True)]
+    assert [*vabgrot.receive(*lanes, bits, kind="dvi")] == wanted
+    with vabgrot.Receiver("dvi") as receiver:
+        for _ in range(2):
+            assert in_pieces(receiver, lanes, bits, 7) == wanted
+            receiver.restart()
+    with pytest.raises(ValueError, match="'track'"):
+        vabgrot.Receiver("track")
+
+
 def test_a_fault_in_words():
     """A character of lane 1 in the second control column."""
     rows = [list(row) for row in zip(*hearing.sent_columns(LISTING))]

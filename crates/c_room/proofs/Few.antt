@@ -1,6 +1,6 @@
 -- How many events a link's columns report, and how many bytes these have.
-use Rattle.std.proofs.Common.{◌≡◌, ℕ, ◌+◌, ◌*◌, ◌==◌, ◌≤◌, Bool, true, false, List, [], ◌∷◌, ◌++◌, length, map, take, refl, ap, sym, ◌∙◌, subst, arith, Option, None, Some, min, append_assoc}
-use Rattle.std.proofs.lemmas.List.{append-nil, length-append, length-take, length-map, map-append, append_cancel_left}
+use Rattle.std.proofs.Common.{◌≡◌, ℕ, ◌+◌, ◌*◌, ◌==◌, ◌≤◌, Bool, true, false, List, [], ◌∷◌, ◌++◌, length, map, take, refl, ap, ◌∙◌, arith, Option, None, Some, min}
+use Rattle.std.proofs.lemmas.List.{length-append, length-take, length-map, map-append}
 use Rattle.bch_block.specs.declared.Verdict.{Verdict}
 use Rattle.bch_block.specs.declared.Verdict.TheVariants.{Clean, Mended, Lost}
 use Rattle.tmds_word.specs.Column.{Column}
@@ -15,7 +15,7 @@ use Rattle.period_grammar.specs.Column.{value_of}
 use Rattle.period_grammar.specs.Events.{Event, line, packet as packet_event, empty, long_line, cut, broken, long_island, all_at, event_of}
 use Rattle.period_grammar.specs.Cut.{Stretch, stretch, stretches, Run, columns, runs}
 use Rattle.period_grammar.specs.Island.{Payload, parts, payload, begins_close, holds_packet, split, if_so, when, block_fault, block_faults, packet_faults, packet_events, wrong_guards, closing_events, left_at, breaks}
-use Rattle.period_grammar.specs.Heard.{other_word, other_words, last_run, if_not, opening, Kind, video, island, neither, opened, line_bytes, code_fault, codes_of, line_of, payload_closes, payload_ends, at_close, at_end, heard_so_far}
+use Rattle.period_grammar.specs.Heard.{other_word, other_words, last_run, if_not, opening, Kind, video, island, neither, opened, line_bytes, code_fault, codes_of, line_at, line_of, payload_closes, payload_ends, at_close, at_end, heard_so_far}
 use Rattle.period_grammar.specs.After.{last, change, choose, settle_by, after_payload, left_gain, island_gain, payload_gain, gains, grown, ends}
 use Rattle.period_grammar.proofs.Hearings.{start_of, starts, events_at}
 use Rattle.period_grammar.proofs.Islands.{holds_long, holds_open, few_left, payload_push, payload_sound, Sound}
@@ -25,6 +25,7 @@ use Rattle.link_sink.specs.Grammar.{link_grammar}
 use Rattle.c_room.specs.Rooms.{IsBounded}
 use Rattle.c_room.specs.Written.{event_bytes, all_bytes}
 use Rattle.c_room.specs.WrittenLaws.{bytes_append}
+use Rattle.c_room.proofs.Bounds.{IsLittle, bounded}
 
 -- so many events at most, and so many bytes
 abbrev pub AreFewEvents : ℕ → ℕ → List Event → Type 0
@@ -69,7 +70,7 @@ unfolding other_words
 few_words j c =
     few_append 1 0 2 0 _ _ (few_other_word 0 j _) (few_append 1 0 1 0 _ _ (few_other_word 1 j _) (few_other_word 2 j _))
 
-few_change : (v : ℕ) (rs : List Run) → AreFewEvents 1 0 (change v rs)
+pub few_change : (v : ℕ) (rs : List Run) → AreFewEvents 1 0 (change v rs)
 few_change v [] = few_more 0 0 1 0 [] (omega arith) (omega arith) few_none
 few_change v (columns w cs ∷ []) = few_if_not _ _ refl
 few_change v (r ∷ (s ∷ rs)) = few_change v (s ∷ rs)
@@ -89,20 +90,24 @@ unfolding codes_of
 few_codes s pixels = few_append 1 0 2 0 _ _ (few_code 0 s _) (few_append 1 0 1 0 _ _ (few_code 1 s _) (few_code 2 s _))
 
 -- the bytes of a line: three for each of its first 4,096 pixels
-abbrev line_owes : List Column → ℕ
+abbrev pub line_owes : List Column → ℕ
 line_owes rest = 3 * min 4096 (length rest)
+
+-- pixels from column s on
+pub few_line_at : (b s : ℕ) (pixels : List Column) → AreFewEvents 5 (line_owes pixels) (line_at b s pixels)
+few_line_at b s pixels =
+    let shown = take 4096 pixels in
+    let bytes = length-line_bytes shown in
+    let long = length-take 4096 pixels in
+    let over = if_not (nat_le (length pixels) 4096) (long_line b) in
+    let rest = few_append 3 0 1 0 (codes_of s shown) over (few_codes s shown) (few_if_not _ (long_line b) refl) in
+    let all = few_cons 4 0 (line (line_bytes shown)) (codes_of s shown ++ over) rest in
+    (omega (arith, all.0), omega (arith, all.1, bytes, long))
 
 few_line : (b : ℕ) (rest : List Column) → AreFewEvents 5 (line_owes rest) (line_of b rest)
 unfolding line_of
 few_line b [] = few_more 1 0 5 _ _ (omega arith) (omega arith) (few_one _ refl)
-few_line b (c ∷ cs) =
-    let pixels = take 4096 (c ∷ cs) in
-    let bytes = length-line_bytes pixels in
-    let long = length-take 4096 (c ∷ cs) in
-    let over = if_not (nat_le (length (c ∷ cs)) 4096) (long_line b) in
-    let rest = few_append 3 0 1 0 (codes_of (b + 2) pixels) over (few_codes (b + 2) pixels) (few_if_not _ (long_line b) refl) in
-    let all = few_cons 4 0 (line (line_bytes pixels)) (codes_of (b + 2) pixels ++ over) rest in
-    (omega (arith, all.0), omega (arith, all.1, bytes, long))
+few_line b (c ∷ cs) = few_line_at b (b + 2) (c ∷ cs)
 
 -- Islands.
 few_block : (s b : ℕ) (v : Verdict) → AreFewEvents 1 0 (block_fault s b v)
@@ -259,13 +264,7 @@ few_step false b n c (stretch control (g ∷ (h ∷ rest))) = few_in b (opened g
 abbrev owed_after : List Column → ℕ
 owed_after cs = owed (last (stretches cs))
 
-abbrev so_far : List Column → List Event
-so_far cs = link_grammar.so_far cs
-
-abbrev IsMore : List Column → List Column → List Event → Type 0
-IsMore cs ds us = (so_far (cs ++ ds) ≡ so_far cs ++ us) × (length us ≤ 8 * length ds) × (length (all_bytes us) + owed_after (cs ++ ds) ≤ owed_after cs + 3 * length ds)
-
-one_more : (cs : List Column) (c : Column) → (us : List Event) × IsMore cs (c ∷ []) us
+one_more : (cs : List Column) (c : Column) → IsLittle link_grammar owed_after cs c
 one_more cs c =
     let b = start_of cs in
     let n = length cs in
@@ -273,34 +272,13 @@ one_more cs c =
     let p = is_control_column c in
     let us = gains p b n c x in
     let step = few_step p b n c x in
-    let pushed = heard_push cs c b (starts cs) in
-    let now = last_push_stretch cs c in (
-      us,
-      (
-        ap (map event_of) pushed ∙ map-append event_of (heard_so_far cs) (all_at n us) ∙ ap (λ ts. map event_of (heard_so_far cs) ++ ts) (events_at n us),
-        omega (arith, step.1.0),
-        omega (arith, step.1.1, step.2, ap owed now),
-      ),
-    )
-
-all_more : (ds cs : List Column) → (us : List Event) × IsMore cs ds us
-unfolding all_bytes
-all_more [] cs =
-    let e : cs ++ [] ≡ cs = append-nil cs in
-    ([], (ap so_far e ∙ sym (append-nil (so_far cs)), omega arith, omega (arith, ap owed_after e)))
-all_more (c ∷ ds) cs =
-    let one = one_more cs c in
-    let rest = all_more ds (cs ++ c ∷ []) in
-    let e : (cs ++ c ∷ []) ++ ds ≡ cs ++ (c ∷ ds) = append_assoc cs (c ∷ []) ds in
-    let h = one.1 in
-    let k = rest.1 in (
-      one.0 ++ rest.0,
-      (
-        ap so_far (sym e) ∙ k.0 ∙ ap (λ ts. ts ++ rest.0) h.0 ∙ append_assoc (so_far cs) one.0 rest.0,
-        omega (arith, h.1, k.1, length-append one.0 rest.0),
-        omega (arith, h.2, k.2, ap owed_after e, ap length (bytes_append one.0 rest.0), length-append (all_bytes one.0) (all_bytes rest.0)),
-      ),
-    )
+    let now = last_push_stretch cs c in record {
+      events = us;
+      reported = ap (map event_of) (heard_push cs c b (starts cs)) ∙ map-append event_of (heard_so_far cs) (all_at n us)
+          ∙ ap (λ ts. map event_of (heard_so_far cs) ++ ts) (events_at n us);
+      few = step.1.0;
+      bytes = omega (arith, step.1.1, step.2, ap owed now);
+    }
 
 few_payload_ends : (b : ℕ) (k : Kind) (rest : List Column) → AreFewEvents 1 0 (payload_ends b k rest)
 few_payload_ends b video rest = few_one _ refl
@@ -313,24 +291,8 @@ few_ends b (stretch control []) = few_last (runs control)
 few_ends b (stretch control (g ∷ [])) = few_one _ refl
 few_ends b (stretch control (g ∷ (h ∷ rest))) = few_payload_ends b (opened g h) rest
 
-ending : (cs : List Column) (us : List Event) → link_grammar.whole cs ≡ so_far cs ++ us → AreFewEvents 1 0 us
-ending cs us e =
-    let b = start_of cs in
-    let x = last (stretches cs) in
-    let same = append_cancel_left (so_far cs) us (ends b x) (sym e ∙ heard_end cs b (starts cs)) in
-    subst (AreFewEvents 1 0) (sym same) (few_ends b x)
-
 -- what a link's columns report in addition is of such sizes
 pub link_bounded : IsBounded link_grammar
-link_bounded = record {
-  events = λ cs ds us e.
-      let all = all_more ds cs in
-      let same = append_cancel_left (so_far cs) us all.0 (sym e ∙ all.1.0) in
-      omega (arith, all.1.1, ap length same);
-  bytes = λ cs ds us e.
-      let all = all_more ds cs in
-      let same = append_cancel_left (so_far cs) us all.0 (sym e ∙ all.1.0) in
-      omega (arith, all.1.2, owed_little (last (stretches cs)), ap (λ ts. length (all_bytes ts)) same);
-  last_event = λ cs us e. let last = ending cs us e in last.0;
-  last_bytes = λ cs us e. let last = ending cs us e in omega (arith, last.1);
-}
+link_bounded =
+    bounded link_grammar owed_after (λ cs. owed_little (last (stretches cs))) one_more
+    (λ cs. let few = few_ends (start_of cs) (last (stretches cs)) in (_, heard_end cs (start_of cs) (starts cs), few.0, few.1))

@@ -1,6 +1,9 @@
 pub mod AsBox
+pub mod Bounds
 pub mod Few
+pub mod FewDvi
 pub mod Gains
 pub mod Keeping
+pub mod Orders
 pub mod Pieces
 pub mod Values

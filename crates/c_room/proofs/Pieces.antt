@@ -18,7 +18,7 @@ use Rattle.link_sink.proofs.Parts.{length-take-most}
 use Rattle.c_room.specs.declared.lanes.BitCounts.{BitCounts}
 use Rattle.c_room.specs.declared.lanes.LentLanes.{LentLanes}
 use Rattle.c_room.specs.declared.room.EventRoom.{EventRoom}
-use Rattle.c_room.specs.Stands.{AreFed}
+use Rattle.c_room.specs.Sinks.{AreFed}
 use Rattle.c_room.specs.Takes.{most_of, no_counts, counts_to, plus, grown_to, IsPiece, MayTake, MayTakeLanes, AreFew}
 use Rattle.c_room.specs.Written.{event_bytes, all_bytes, HasFilled, HasNoRoom}
 use Rattle.c_room.specs.WrittenLaws.{bytes_append}

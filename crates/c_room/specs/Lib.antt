@@ -1,6 +1,9 @@
 pub mod Handles
+pub mod Kinds
+pub mod Orders
 pub mod Owned
 pub mod Rooms
+pub mod Sinks
 pub mod Stands
 pub mod StatusLaws
 pub mod Statuses

@@ -10,7 +10,12 @@ code_of Misuse = pos 2
 code_of TooMany = pos 3
 code_of NoMemory = pos 4
 
--- what a feed may answer, and what an end
+-- what an opening may answer, what a feed, and what an end
+abbrev pub IsOpenStatus : Status → Type 0
+IsOpenStatus Full = ⊥
+IsOpenStatus TooMany = ⊥
+IsOpenStatus _ = Unit {0}
+
 abbrev pub IsFeedStatus : Status → Type 0
 IsFeedStatus NoMemory = ⊥
 IsFeedStatus _ = Unit {0}

@@ -1,8 +1,9 @@
 //! Feeds what C keeps, with room that C lends.
 ghost use Rattle.std.specs.Prelude.{◌≡◌, ◌⊎◌, ◌+◌, ◌<◌, ◌≤◌, List, length, take, true, false};
 ghost use Rattle.period_grammar.specs.Events.{Event, EventAt, all_at};
-ghost use Rattle.link_sink.specs.Grammar.{link_grammar};
-ghost use Rattle.link_sink.specs.Sinks.{Fed, IsGainAt, IsLast};
+ghost use Rattle.link_sink.specs.Sinks.{Fed, IsGainAt, IsLastBy};
+ghost use Rattle.c_room.specs.Kinds.{grammar_of};
+ghost use Rattle.c_room.specs.Sinks.{kind_of, goes_on};
 ghost use Rattle.c_room.specs.Stands.{Stands};
 ghost use Rattle.c_room.specs.Statuses.{IsFeedStatus, IsEndStatus};
 ghost use Rattle.c_room.specs.Takes.{no_counts, grown_to, MayTakeLanes, AreFew};
@@ -41,13 +42,14 @@ pub fn feed_into(
     bytes: &mut [u8],
 ) -> FeedAnswer
     requires { (fed : Fed) × Stands kept.old fed }
+    ensures kind { kind_of kept.new.sink ≡ kind_of kept.old.sink }
     ensures stands { (fed : Fed) → Stands kept.old fed → Stands kept.new (grown_to result.taken fed lanes.entry) }
     ensures reported { (fed : Fed) → Stands kept.old fed
-        → (events : List EventAt) × IsGainAt link_grammar fed (grown_to result.taken fed lanes.entry) events
+        → (events : List EventAt) × IsGainAt (grammar_of (kind_of kept.old.sink)) fed (grown_to result.taken fed lanes.entry) events
         × AreWritten events result.events records.new result.bytes bytes.new }
     ensures done { result.status ≡ Done → result.taken ≡ lanes.entry.bits }
     ensures full { result.status ≡ Full → (length records.new < result.events + 104) ⊎ (length bytes.new < result.bytes + 12327) }
-    ensures misuse { result.status ≡ Misuse → kept.old.sink.is_open ≡ true → MayTakeLanes kept.old.fed lanes.entry → ⊥ }
+    ensures misuse { result.status ≡ Misuse → goes_on kept.old.sink ≡ true → MayTakeLanes kept.old.fed lanes.entry → ⊥ }
     ensures many { result.status ≡ TooMany → AreFew kept.old.fed lanes.entry.bits → ⊥ }
     ensures refused { (result.status ≡ Misuse) ⊎ (result.status ≡ TooMany) → (kept.new ≡ kept.old) × (result.taken ≡ no_counts) }
     ensures kinds { IsFeedStatus result.status }
@@ -66,13 +68,14 @@ pub fn feed_into(
 #[tactic(auto, using(crate::specs::WrittenLaws::written_count, crate::specs::WrittenLaws::written_used))]
 pub fn finish_into(kept: &mut Kept, records: &mut [Record], bytes: &mut [u8]) -> EndAnswer
     requires { (fed : Fed) × Stands kept.old fed }
+    ensures kind { kind_of kept.new.sink ≡ kind_of kept.old.sink }
     ensures stands { (fed : Fed) → Stands kept.old fed → Stands kept.new fed }
     ensures reported { (fed : Fed) → Stands kept.old fed → result.ended.status ≡ Done
-        → (events : List Event) × IsLast fed result.ended.outcome events
+        → (events : List Event) × IsLastBy (grammar_of (kind_of kept.old.sink)) fed result.ended.outcome events
         × AreWritten (all_at result.ended.outcome.columns events) result.events records.new result.bytes bytes.new }
-    ensures done { result.ended.status ≡ Done → kept.new.sink.is_open ≡ false }
+    ensures done { result.ended.status ≡ Done → goes_on kept.new.sink ≡ false }
     ensures full { result.ended.status ≡ Full → length records.new ≤ 0 }
-    ensures misuse { result.ended.status ≡ Misuse → kept.old.sink.is_open ≡ false }
+    ensures misuse { result.ended.status ≡ Misuse → goes_on kept.old.sink ≡ false }
     ensures refused { (result.ended.status ≡ Misuse) ⊎ (result.ended.status ≡ Full) → (kept.new ≡ kept.old) × (result.events ≡ 0) }
     ensures kinds { IsEndStatus result.ended.status }
 {

@@ -5,7 +5,7 @@ ghost use Rattle.link_sink.specs.Sinks.{Fed, IsGainAt, IsLastBy};
 ghost use Rattle.link_sink.specs.Streams.{StandsBy, bits_fed, most_bits};
 ghost use Rattle.c_room.specs.declared.lanes.BitCounts.{BitCounts as CountsValue};
 ghost use Rattle.c_room.specs.Rooms.{Fits, IsFull, IsBounded};
-ghost use Rattle.c_room.specs.Stands.{AreFed};
+ghost use Rattle.c_room.specs.Sinks.{AreFed};
 ghost use Rattle.c_room.specs.Takes.{most_of, counts_to, plus, grown_to, MayTakeLanes, AreFew};
 ghost use Rattle.c_room.specs.Written.{HasTaken};
 

@@ -1,17 +1,20 @@
 //! What C holds: a receiver, or none.
 ghost use Rattle.std.specs.Prelude.{◌≡◌, ◌⊎◌, ◌+◌, ◌<◌, ◌≤◌, List, length, take, true, false, Some, None};
 ghost use Rattle.period_grammar.specs.Events.{Event, EventAt, all_at};
-ghost use Rattle.link_sink.specs.Grammar.{link_grammar};
-ghost use Rattle.link_sink.specs.Sinks.{Fed, IsGainAt, IsLast};
+ghost use Rattle.link_sink.specs.Sinks.{Fed, IsGainAt, IsLastBy};
 ghost use Rattle.link_sink.specs.Pieces.{no_bits};
-ghost use Rattle.c_room.specs.Handles.{IsHandle, Holds, IsOpen, MayFeed, AreFewMore};
-ghost use Rattle.c_room.specs.Statuses.{IsFeedStatus, IsEndStatus};
+ghost use Rattle.c_room.specs.Handles.{IsHandle, IsOfKind, Holds, IsOpen, MayFeed, AreFewMore};
+ghost use Rattle.c_room.specs.Kinds.{number_of, grammar_of, IsNoKind};
+ghost use Rattle.c_room.specs.Orders.{FollowInOrder};
+ghost use Rattle.c_room.specs.Statuses.{IsOpenStatus, IsFeedStatus, IsEndStatus};
 ghost use Rattle.c_room.specs.Takes.{no_counts, grown_to};
 ghost use Rattle.c_room.specs.Written.{AreWritten};
+ghost use Rattle.c_room.specs.declared.kind.Kind.{Kind as KindValue};
 ghost use Rattle.c_room.specs.declared.status.Status.TheVariants.{Done, Full, Misuse, TooMany, NoMemory};
 
 use crate::calls::{EndAnswer, FeedAnswer, feed_into, finish_into};
 use crate::kept::{Ended, Kept};
+use crate::kind::Kind;
 use crate::lanes::{BitCounts, LentLanes};
 use crate::record::Record;
 use crate::slot::Slot;
@@ -29,23 +32,25 @@ pub struct Handle {
     held: u64,
 }
 
-/// The kind of receiver that there is: that of a link.
-const LINK: u32 = 0;
-
 impl Handle {
-    /// Makes a receiver of a kind that was fed nothing, with all memory that it ever has. `Misuse` where there is one already, or
-    /// no such kind; `NoMemory` where the memory is not there.
-    pub fn open(&mut self, alloc: Global, kind: u32) -> Status
+    /// Makes a receiver of the kind with a number that was fed nothing, with all memory that it ever has. `Misuse` where there is
+    /// one already, or no such kind; `NoMemory` where the memory is not there.
+    pub fn open(&mut self, alloc: Global, number: u32) -> Status
         requires { IsHandle self.old }
         ensures handle { IsHandle self.new }
-        ensures done { result ≡ Done → Holds self.new.slot.value no_bits }
-        ensures misuse { result ≡ Misuse → (self.old.held ≡ 1) ⊎ (0 < kind) }
+        ensures done { result ≡ Done → (self.old.slot.value ≡ None) × ((kind : KindValue) × (number ≡ number_of kind) × Holds self.new.slot.value kind no_bits) }
+        ensures misuse { result ≡ Misuse → (self.old.held ≡ 1) ⊎ IsNoKind number }
+        ensures misused { (self.old.held ≡ 1) ⊎ IsNoKind number → result ≡ Misuse }
         ensures refused { (result ≡ Done → ⊥) → self.new.slot.value ≡ self.old.slot.value }
+        ensures kinds { IsOpenStatus result }
     {
-        if self.held != 0 || kind != LINK {
+        if self.held != 0 {
             return Status::Misuse;
         }
-        let Ok(kept) = Kept::open(alloc) else {
+        let Some(kind) = Kind::of(number) else {
+            return Status::Misuse;
+        };
+        let Ok(kept) = Kept::open(alloc, kind) else {
             return Status::NoMemory;
         };
         match Box::new(alloc, kept) {
@@ -67,15 +72,16 @@ impl Handle {
     ) -> FeedAnswer
         requires { IsHandle self.old }
         ensures handle { IsHandle self.new }
-        ensures stands { (fed : Fed) → Holds self.old.slot.value fed → Holds self.new.slot.value (grown_to result.taken fed lanes.entry) }
-        ensures reported { (fed : Fed) → Holds self.old.slot.value fed
-            → (events : List EventAt) × IsGainAt link_grammar fed (grown_to result.taken fed lanes.entry) events
+        ensures stands { (kind : KindValue) (fed : Fed) → Holds self.old.slot.value kind fed → Holds self.new.slot.value kind (grown_to result.taken fed lanes.entry) }
+        ensures reported { (kind : KindValue) (fed : Fed) → Holds self.old.slot.value kind fed
+            → (events : List EventAt) × IsGainAt (grammar_of kind) fed (grown_to result.taken fed lanes.entry) events
             × AreWritten events result.events records.new result.bytes bytes.new }
         ensures done { result.status ≡ Done → result.taken ≡ lanes.entry.bits }
         ensures full { result.status ≡ Full → (length records.new < result.events + 104) ⊎ (length bytes.new < result.bytes + 12327) }
         ensures misuse { result.status ≡ Misuse → MayFeed self.old.slot.value lanes.entry → ⊥ }
         ensures many { result.status ≡ TooMany → AreFewMore self.old.slot.value lanes.entry.bits → ⊥ }
         ensures refused { (result.status ≡ Misuse) ⊎ (result.status ≡ TooMany) → (self.new.slot.value ≡ self.old.slot.value) × (result.taken ≡ no_counts) }
+        ensures in_order { (kind : KindValue) (fed : Fed) → Holds self.old.slot.value kind fed → FollowInOrder (grammar_of kind) fed (take result.events records.new) }
         ensures kinds { IsFeedStatus result.status }
     {
         if self.held == 0 {
@@ -96,14 +102,15 @@ impl Handle {
     pub fn finish(&mut self, records: &mut [Record], bytes: &mut [u8]) -> EndAnswer
         requires { IsHandle self.old }
         ensures handle { IsHandle self.new }
-        ensures stands { (fed : Fed) → Holds self.old.slot.value fed → Holds self.new.slot.value fed }
-        ensures reported { (fed : Fed) → Holds self.old.slot.value fed → result.ended.status ≡ Done
-            → (events : List Event) × IsLast fed result.ended.outcome events
+        ensures stands { (kind : KindValue) (fed : Fed) → Holds self.old.slot.value kind fed → Holds self.new.slot.value kind fed }
+        ensures reported { (kind : KindValue) (fed : Fed) → Holds self.old.slot.value kind fed → result.ended.status ≡ Done
+            → (events : List Event) × IsLastBy (grammar_of kind) fed result.ended.outcome events
             × AreWritten (all_at result.ended.outcome.columns events) result.events records.new result.bytes bytes.new }
         ensures done { result.ended.status ≡ Done → IsOpen self.new.slot.value → ⊥ }
         ensures full { result.ended.status ≡ Full → length records.new ≤ 0 }
         ensures misuse { result.ended.status ≡ Misuse → IsOpen self.old.slot.value → ⊥ }
         ensures refused { (result.ended.status ≡ Misuse) ⊎ (result.ended.status ≡ Full) → (self.new.slot.value ≡ self.old.slot.value) × (result.events ≡ 0) }
+        ensures in_order { (kind : KindValue) (fed : Fed) → Holds self.old.slot.value kind fed → FollowInOrder (grammar_of kind) fed (take result.events records.new) }
         ensures kinds { IsEndStatus result.ended.status }
     {
         if self.held == 0 {
@@ -119,11 +126,11 @@ impl Handle {
         answer
     }
 
-    /// Makes the receiver as after `open`, also where it was finished. `Misuse` where there is none. It takes no memory.
+    /// Makes the receiver as after `open`, of the kind that it is, also where it was finished. `Misuse` where there is none. It takes no memory.
     pub fn restart(&mut self) -> Status
         requires { IsHandle self.old }
         ensures handle { IsHandle self.new }
-        ensures done { result ≡ Done → Holds self.new.slot.value no_bits }
+        ensures done { result ≡ Done → (kind : KindValue) × IsOfKind self.old.slot.value kind × Holds self.new.slot.value kind no_bits }
         ensures misuse { result ≡ Misuse → self.old.slot.value ≡ None }
         ensures kinds { (result ≡ Done) ⊎ (result ≡ Misuse) }
     {

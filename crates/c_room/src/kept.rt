@@ -1,28 +1,30 @@
 //! What C keeps from call to call.
 ghost use Rattle.std.specs.Prelude.{◌≡◌, ◌⊎◌, ℕ, ◌<◌, ◌≤◌, ◌^◌, List, [], true, false, IfOk, Some, None};
 ghost use Rattle.period_grammar.specs.Events.{Event, EventAt, all_at};
-ghost use Rattle.link_sink.specs.Grammar.{link_grammar};
-ghost use Rattle.link_sink.specs.Sinks.{Fed, IsGainAt, IsLast};
+ghost use Rattle.link_sink.specs.Sinks.{Fed, IsGainAt, IsLastBy};
 ghost use Rattle.link_sink.specs.Pieces.{no_bits};
+ghost use Rattle.c_room.specs.Kinds.{grammar_of};
 ghost use Rattle.c_room.specs.Rooms.{IsFull, HasNoOne};
+ghost use Rattle.c_room.specs.Sinks.{kind_of, goes_on};
 ghost use Rattle.c_room.specs.Stands.{Stands};
 ghost use Rattle.c_room.specs.Statuses.{IsFeedStatus, IsEndStatus};
 ghost use Rattle.c_room.specs.Takes.{no_counts, most_of, counts_to, grown_to, MayTakeLanes, AreFew};
 ghost use Rattle.c_room.specs.Written.{HasTaken};
 ghost use Rattle.c_room.specs.declared.status.Status.TheVariants.{Done, Full, Misuse, TooMany};
 
-use crate::feeding::{feed_lanes, finish_sink};
+use crate::kind::Kind;
+use crate::kind_sink::KindSink;
 use crate::lanes::{BitCounts, LentLanes};
 use crate::room::EventRoom;
 use crate::status::Status;
-use link_sink::{LinkSink, Outcome};
+use link_sink::Outcome;
 use outside_io::NoMemory;
 use std::alloc::Global;
 
 /// A sink, and how many bits of each lane it was fed.
 #[derive(Drop)]
 pub struct Kept {
-    sink: LinkSink,
+    sink: KindSink,
     fed: BitCounts,
 }
 
@@ -87,12 +89,13 @@ impl Ended {
 }
 
 impl Kept {
-    /// One that was fed nothing, with all memory that it ever has.
-    pub fn open(alloc: Global) -> Result<Kept, NoMemory>
-        ensures { IfOk result (λ kept. Stands kept no_bits) }
+    /// One of a kind that was fed nothing, with all memory that it ever has.
+    pub fn open(alloc: Global, kind: Kind) -> Result<Kept, NoMemory>
+        ensures kind { IfOk result (λ kept. kind_of kept.sink ≡ kind) }
+        ensures stands { IfOk result (λ kept. Stands kept no_bits) }
     {
         Ok(Kept {
-            sink: LinkSink::open(alloc)?,
+            sink: KindSink::open(alloc, kind)?,
             fed: BitCounts::none(),
         })
     }
@@ -102,12 +105,13 @@ impl Kept {
     /// bits come after a part of a byte or after fewer bits than another lane had; `TooMany` where there would be too many.
     pub fn feed(&mut self, lanes: LentLanes<'_>, room: &mut EventRoom<'_>) -> Taken
         requires { (fed : Fed) × Stands self.old fed }
+        ensures kind { kind_of self.new.sink ≡ kind_of self.old.sink }
         ensures stands { (fed : Fed) → Stands self.old fed → Stands self.new (grown_to result.bits fed lanes.entry) }
         ensures reported { (fed : Fed) → Stands self.old fed
-            → (events : List EventAt) × IsGainAt link_grammar fed (grown_to result.bits fed lanes.entry) events × HasTaken room.old room.new events }
+            → (events : List EventAt) × IsGainAt (grammar_of (kind_of self.old.sink)) fed (grown_to result.bits fed lanes.entry) events × HasTaken room.old room.new events }
         ensures done { result.status ≡ Done → result.bits ≡ lanes.entry.bits }
         ensures full { result.status ≡ Full → IsFull room.new }
-        ensures misuse { result.status ≡ Misuse → self.old.sink.is_open ≡ true → MayTakeLanes self.old.fed lanes.entry → ⊥ }
+        ensures misuse { result.status ≡ Misuse → goes_on self.old.sink ≡ true → MayTakeLanes self.old.fed lanes.entry → ⊥ }
         ensures many { result.status ≡ TooMany → AreFew self.old.fed lanes.entry.bits → ⊥ }
         ensures refused { (result.status ≡ Misuse) ⊎ (result.status ≡ TooMany) → (self.new ≡ self.old) × (result.bits ≡ no_counts) }
         ensures kinds { IsFeedStatus result.status }
@@ -124,16 +128,17 @@ impl Kept {
 
     /// The same of lanes that may be taken. Answers before which bit of each lane it stopped.
     fn feed_open(&mut self, lanes: LentLanes<'_>, room: &mut EventRoom<'_>) -> u64
-        requires open { self.old.sink.is_open ≡ true }
+        requires open { goes_on self.old.sink ≡ true }
         requires stands { (fed : Fed) × Stands self.old fed }
         requires may { MayTakeLanes self.old.fed lanes }
         requires few { AreFew self.old.fed lanes.bits }
+        ensures kind { kind_of self.new.sink ≡ kind_of self.old.sink }
         ensures full { result < most_of lanes.entry.bits → IsFull room.new }
         ensures stands { (fed : Fed) → Stands self.old fed → Stands self.new (grown_to (counts_to result lanes.entry.bits) fed lanes.entry) }
         ensures reported { (fed : Fed) → Stands self.old fed
-            → (events : List EventAt) × IsGainAt link_grammar fed (grown_to (counts_to result lanes.entry.bits) fed lanes.entry) events × HasTaken room.old room.new events }
+            → (events : List EventAt) × IsGainAt (grammar_of (kind_of self.old.sink)) fed (grown_to (counts_to result lanes.entry.bits) fed lanes.entry) events × HasTaken room.old room.new events }
     {
-        let at = feed_lanes(&mut self.sink, lanes, room);
+        let at = self.sink.feed(lanes, room);
         self.fed = self.fed.plus(lanes.bits.first(at));
         at
     }
@@ -142,12 +147,13 @@ impl Kept {
     /// then finished. `Full` where there is no room for one event, `Misuse` where it was finished before: then nothing is changed.
     pub fn finish(&mut self, room: &mut EventRoom<'_>) -> Ended
         requires { (fed : Fed) × Stands self.old fed }
+        ensures kind { kind_of self.new.sink ≡ kind_of self.old.sink }
         ensures stands { (fed : Fed) → Stands self.old fed → Stands self.new fed }
         ensures reported { (fed : Fed) → Stands self.old fed → result.status ≡ Done
-            → (events : List Event) × IsLast fed result.outcome events × HasTaken room.old room.new (all_at result.outcome.columns events) }
-        ensures done { result.status ≡ Done → self.new.sink.is_open ≡ false }
+            → (events : List Event) × IsLastBy (grammar_of (kind_of self.old.sink)) fed result.outcome events × HasTaken room.old room.new (all_at result.outcome.columns events) }
+        ensures done { result.status ≡ Done → goes_on self.new.sink ≡ false }
         ensures full { result.status ≡ Full → HasNoOne room.old }
-        ensures misuse { result.status ≡ Misuse → self.old.sink.is_open ≡ false }
+        ensures misuse { result.status ≡ Misuse → goes_on self.old.sink ≡ false }
         ensures refused { (result.status ≡ Misuse) ⊎ (result.status ≡ Full) → (self.new ≡ self.old) × HasTaken room.old room.new [] }
         ensures kinds { IsEndStatus result.status }
     {
@@ -159,13 +165,14 @@ impl Kept {
         }
         Ended {
             status: Status::Done,
-            outcome: finish_sink(&mut self.sink, room),
+            outcome: self.sink.finish(room),
         }
     }
 
-    /// Makes it as after `open`. It takes no memory.
+    /// Makes it as after `open`, of the kind that it is. It takes no memory.
     pub fn restart(&mut self)
-        ensures { Stands self.new no_bits }
+        ensures kind { kind_of self.new.sink ≡ kind_of self.old.sink }
+        ensures stands { Stands self.new no_bits }
     {
         self.sink.restart();
         self.fed = BitCounts::none();

@@ -5,6 +5,8 @@ mod calls;
 mod feeding;
 mod handle;
 mod kept;
+mod kind;
+mod kind_sink;
 mod lanes;
 mod loose;
 mod record;

@@ -1,16 +1,18 @@
 //! The receiver of a link for C: `vabgrot.h` says what each call does, and what C owes.
 #![tactic(auto)]
 
-ghost use Rattle.std.specs.Prelude.{◌≡◌, ◌⊎◌, ◌+◌, ◌<◌, ◌≤◌, ℤ, pos, List, length, cond, None};
+ghost use Rattle.std.specs.Prelude.{◌≡◌, ◌⊎◌, ◌+◌, ◌<◌, ◌≤◌, ℤ, pos, List, length, take, cond, None};
 ghost use Rattle.period_grammar.specs.Events.{Event, EventAt, all_at};
-ghost use Rattle.link_sink.specs.Grammar.{link_grammar};
-ghost use Rattle.link_sink.specs.Sinks.{Fed, IsGainAt, IsLast};
+ghost use Rattle.link_sink.specs.Sinks.{Fed, IsGainAt, IsLastBy};
 ghost use Rattle.link_sink.specs.Pieces.{no_bits};
 ghost use Rattle.link_sink.specs.declared.hear.Outcome.{Outcome as OutcomeValue};
-ghost use Rattle.c_room.specs.Handles.{IsHandle, Holds, IsOpen, MayFeedAll, AreFewMore};
-ghost use Rattle.c_room.specs.Statuses.{code_of, IsFeedStatus, IsEndStatus};
+ghost use Rattle.c_room.specs.Handles.{IsHandle, IsOfKind, Holds, IsOpen, MayFeedAll, AreFewMore};
+ghost use Rattle.c_room.specs.Kinds.{number_of, grammar_of, IsNoKind};
+ghost use Rattle.c_room.specs.Orders.{FollowInOrder};
+ghost use Rattle.c_room.specs.Statuses.{code_of, IsOpenStatus, IsFeedStatus, IsEndStatus};
 ghost use Rattle.c_room.specs.Takes.{no_counts, grown_first};
 ghost use Rattle.c_room.specs.Written.{AreWritten};
+ghost use Rattle.c_room.specs.declared.kind.Kind.{Kind as KindValue};
 ghost use Rattle.c_room.specs.declared.status.Status.{Status as StatusValue};
 ghost use Rattle.c_room.specs.declared.status.Status.TheVariants.{Done, Full, Misuse, TooMany, NoMemory};
 
@@ -33,18 +35,20 @@ pub struct Answer {
     pub aligned: u64,
 }
 
-/// Makes a receiver of a kind that was fed nothing, with all memory that it ever has.
+/// Makes a receiver of the kind with a number that was fed nothing, with all memory that it ever has.
 #[tactic(auto, using(c_room::specs::StatusLaws::code_is))]
 #[unsafe(no_mangle)]
-pub extern "C" fn vabgrot_open(alloc: Global, handle: &mut Handle, kind: u32) -> i32
+pub extern "C" fn vabgrot_open(alloc: Global, handle: &mut Handle, number: u32) -> i32
     requires { IsHandle handle.old }
     ensures handle { IsHandle handle.new }
-    ensures done { result ≡ code_of Done → Holds handle.new.slot.value no_bits }
-    ensures misuse { result ≡ code_of Misuse → (handle.old.held ≡ 1) ⊎ (0 < kind) }
+    ensures done { result ≡ code_of Done → (handle.old.slot.value ≡ None) × ((kind : KindValue) × (number ≡ number_of kind) × Holds handle.new.slot.value kind no_bits) }
+    ensures misuse { result ≡ code_of Misuse → (handle.old.held ≡ 1) ⊎ IsNoKind number }
+    ensures misused { (handle.old.held ≡ 1) ⊎ IsNoKind number → result ≡ code_of Misuse }
     ensures refused { (result ≡ code_of Done → ⊥) → handle.new.slot.value ≡ handle.old.slot.value }
-    ensures kinds { (status : StatusValue) × (result ≡ code_of status) }
+    ensures others { (result ≡ code_of Full) ⊎ (result ≡ code_of TooMany) → ⊥ }
+    ensures kinds { (status : StatusValue) × IsOpenStatus status × (result ≡ code_of status) }
 {
-    handle.open(alloc, kind).code()
+    handle.open(alloc, number).code()
 }
 
 /// Takes bits of each lane, and writes the events that they decide.
@@ -62,15 +66,16 @@ pub extern "C" fn vabgrot_feed(
 ) -> i32
     requires { IsHandle handle.old }
     ensures handle { IsHandle handle.new }
-    ensures stands { (fed : Fed) → Holds handle.old.slot.value fed → Holds handle.new.slot.value (grown_first answer.new.taken fed blue.now green.now red.now) }
-    ensures reported { (fed : Fed) → Holds handle.old.slot.value fed
-        → (reported : List EventAt) × IsGainAt link_grammar fed (grown_first answer.new.taken fed blue.now green.now red.now) reported
+    ensures stands { (kind : KindValue) (fed : Fed) → Holds handle.old.slot.value kind fed → Holds handle.new.slot.value kind (grown_first answer.new.taken fed blue.now green.now red.now) }
+    ensures reported { (kind : KindValue) (fed : Fed) → Holds handle.old.slot.value kind fed
+        → (reported : List EventAt) × IsGainAt (grammar_of kind) fed (grown_first answer.new.taken fed blue.now green.now red.now) reported
         × AreWritten reported answer.new.events events.new answer.new.bytes bytes.new }
     ensures done { result ≡ code_of Done → answer.new.taken ≡ bits.now }
     ensures full { result ≡ code_of Full → (length events.new < answer.new.events + 104) ⊎ (length bytes.new < answer.new.bytes + 12327) }
     ensures misuse { result ≡ code_of Misuse → MayFeedAll handle.old.slot.value blue.now green.now red.now bits.now → ⊥ }
     ensures many { result ≡ code_of TooMany → AreFewMore handle.old.slot.value bits.now → ⊥ }
     ensures refused { (result ≡ code_of Misuse) ⊎ (result ≡ code_of TooMany) → (handle.new.slot.value ≡ handle.old.slot.value) × (answer.new.taken ≡ no_counts) }
+    ensures in_order { (kind : KindValue) (fed : Fed) → Holds handle.old.slot.value kind fed → FollowInOrder (grammar_of kind) fed (take answer.new.events events.new) }
     ensures memory { result ≡ code_of NoMemory → ⊥ }
     ensures kinds { (status : StatusValue) × IsFeedStatus status × (result ≡ code_of status) }
 {
@@ -102,15 +107,16 @@ pub extern "C" fn vabgrot_finish(
 ) -> i32
     requires { IsHandle handle.old }
     ensures handle { IsHandle handle.new }
-    ensures stands { (fed : Fed) → Holds handle.old.slot.value fed → Holds handle.new.slot.value fed }
-    ensures reported { (fed : Fed) → Holds handle.old.slot.value fed → result ≡ code_of Done
-        → (outcome : OutcomeValue) × (reported : List Event) × IsLast fed outcome reported
+    ensures stands { (kind : KindValue) (fed : Fed) → Holds handle.old.slot.value kind fed → Holds handle.new.slot.value kind fed }
+    ensures reported { (kind : KindValue) (fed : Fed) → Holds handle.old.slot.value kind fed → result ≡ code_of Done
+        → (outcome : OutcomeValue) × (reported : List Event) × IsLastBy (grammar_of kind) fed outcome reported
         × AreWritten (all_at outcome.columns reported) answer.new.events events.new answer.new.bytes bytes.new
         × (answer.new.columns ≡ outcome.columns) × (answer.new.aligned ≡ cond outcome.aligned 1 0) }
     ensures done { result ≡ code_of Done → IsOpen handle.new.slot.value → ⊥ }
     ensures full { result ≡ code_of Full → length events.new ≤ 0 }
     ensures misuse { result ≡ code_of Misuse → IsOpen handle.old.slot.value → ⊥ }
     ensures refused { (result ≡ code_of Misuse) ⊎ (result ≡ code_of Full) → (handle.new.slot.value ≡ handle.old.slot.value) × (answer.new.events ≡ 0) }
+    ensures in_order { (kind : KindValue) (fed : Fed) → Holds handle.old.slot.value kind fed → FollowInOrder (grammar_of kind) fed (take answer.new.events events.new) }
     ensures others { (result ≡ code_of NoMemory) ⊎ (result ≡ code_of TooMany) → ⊥ }
     ensures kinds { (status : StatusValue) × IsEndStatus status × (result ≡ code_of status) }
 {
@@ -125,13 +131,13 @@ pub extern "C" fn vabgrot_finish(
     said.ended.status.code()
 }
 
-/// Makes the receiver as after `vabgrot_open`.
+/// Makes the receiver as after `vabgrot_open`, of the kind that it is.
 #[tactic(auto, using(c_room::specs::StatusLaws::code_is))]
 #[unsafe(no_mangle)]
 pub extern "C" fn vabgrot_restart(handle: &mut Handle) -> i32
     requires { IsHandle handle.old }
     ensures handle { IsHandle handle.new }
-    ensures done { result ≡ code_of Done → Holds handle.new.slot.value no_bits }
+    ensures done { result ≡ code_of Done → (kind : KindValue) × IsOfKind handle.old.slot.value kind × Holds handle.new.slot.value kind no_bits }
     ensures misuse { result ≡ code_of Misuse → handle.old.slot.value ≡ None }
     ensures kinds { (result ≡ code_of Done) ⊎ (result ≡ code_of Misuse) }
 {

@@ -4,7 +4,7 @@ use Rattle.link_sink.specs.Sinks.{Fed, IsGainAt}
 use Rattle.link_sink.specs.Streams.{StandsBy}
 use Rattle.c_room.specs.declared.lanes.BitCounts.{BitCounts}
 use Rattle.c_room.specs.Rooms.{Fits, IsFull}
-use Rattle.c_room.specs.Stands.{AreFed}
+use Rattle.c_room.specs.Sinks.{AreFed}
 use Rattle.c_room.specs.Takes.{most_of, counts_to, plus, grown_to}
 use Rattle.c_room.specs.Written.{HasTaken}
 use Rattle.c_room.proofs.feeding.feed_lanes.Given as goal

@@ -1,6 +1,5 @@
 use Rattle.std.proofs.Common.{refl}
 use Rattle.c_room.specs.WrittenLaws.{taken_none}
-use Rattle.c_room.proofs.Few.{link_bounded}
 use Rattle.c_room.proofs.kept.Kept.finish.Goals as goal
 
 pub returns-then-not-is_open-clause-refused : goal.returns-then-not-is_open-clause-refused
@@ -8,6 +7,3 @@ returns-then-not-is_open-clause-refused c = λ _. (refl, taken_none c.args.room.
 
 pub returns-then-not-has_one-clause-refused : goal.returns-then-not-has_one-clause-refused
 returns-then-not-has_one-clause-refused c = λ _. (refl, taken_none c.args.room.now)
-
-pub finish_sink-requires-clause-bounded : goal.finish_sink-requires-clause-bounded
-finish_sink-requires-clause-bounded c = link_bounded

@@ -1,0 +1,156 @@
+-- No event is reported at a column below that of the event before it.
+use Rattle.std.proofs.Common.{◌≡◌, ℕ, ◌+◌, ◌≤◌, ◌-◌, Bool, true, false, List, [], ◌∷◌, ◌++◌, length, map, refl, ap, sym, ◌∙◌, subst, arith, append_assoc, ◌⊎◌, inl, inr, All, take}
+use Rattle.std.proofs.lemmas.List.{append-nil, length-append, map-append}
+use Rattle.std.proofs.lemmas.List.Elements.{All-append, All-cons, All-get_or, All-nil}
+use Rattle.std.proofs.lemmas.List.Sorted.{IsNonDecreasingBy-push, IsNonDecreasingBy-short}
+use Rattle.std.specs.List.Sorted.{IsNonDecreasing}
+use Rattle.tmds_word.specs.Column.{Column}
+use Rattle.lane_deskew.specs.Aligned.{aligned_columns}
+use Rattle.lane_deskew.proofs.First.{one_first}
+use Rattle.period_grammar.specs.Events.{Event, EventAt, at, all_at, event_of, column_reported}
+use Rattle.period_grammar.proofs.Hearings.{start_of, starts}
+use Rattle.period_grammar.proofs.Step.{heard_push}
+use Rattle.link_sink.specs.Alignment.{reported_under}
+use Rattle.link_sink.specs.Grammar.{Grammar, link_grammar}
+use Rattle.link_sink.specs.Hearings.{IsGrammar}
+use Rattle.link_sink.specs.LinkHearing.{link_is_grammar}
+use Rattle.link_sink.specs.Sinks.{Fed, IsReportedOf, IsReportedBy, IsGainAt, IsLastBy}
+use Rattle.link_sink.specs.declared.hear.Outcome.{Outcome}
+use Rattle.dvi_hearing.specs.DviGrammar.{dvi_grammar, dvi_is_grammar, pushed}
+use Rattle.c_room.specs.declared.kind.Kind.{Kind}
+use Rattle.c_room.specs.declared.kind.Kind.TheVariants.{Link, Dvi}
+use Rattle.c_room.specs.declared.record.Record.{Record}
+use Rattle.c_room.specs.declared.status.Status.{Status}
+use Rattle.c_room.specs.declared.status.Status.TheVariants.{Done, Full, Misuse, TooMany, NoMemory}
+use Rattle.c_room.specs.Kinds.{grammar_of}
+use Rattle.c_room.specs.Orders.{column_of, FollowInOrder}
+use Rattle.c_room.specs.Statuses.{IsEndStatus}
+use Rattle.c_room.specs.Written.{event_bytes, rows_from}
+
+-- numbers that never fall, up to one
+record InOrder (n : ℕ) (js : List ℕ) : Type 0 where
+  pub up : IsNonDecreasing js
+  pub below : All (λ j. j ≤ n) js
+
+order_none : (n : ℕ) → InOrder n []
+order_none n = record { up = IsNonDecreasingBy-short (λ j. j) [] (omega arith); below = All-nil (λ j. j ≤ n) }
+
+order_one : (n : ℕ) (js : List ℕ) → InOrder n js → InOrder n (js ++ n ∷ [])
+order_one n js h = record {
+  up = IsNonDecreasingBy-push (λ j. j) js n h.up (λ d some. All-get_or (λ j. j ≤ n) js (length js - 1) d (omega (arith, some)) h.below);
+  below = All-append (λ j. j ≤ n) js (n ∷ []) h.below (All-cons (λ j. j ≤ n) n [] (omega arith) (All-nil (λ j. j ≤ n)));
+}
+
+order_more : (n m : ℕ) (js : List ℕ) → n ≤ m → InOrder n js → InOrder m js
+order_more n m js le h = record { up = h.up; below = λ k d lt. omega (arith, le, h.below k d lt) }
+
+-- events that are all reported at the last column
+order_at : (n : ℕ) (js : List ℕ) (us : List Event) → InOrder n js → InOrder n (js ++ map column_reported (all_at n us))
+order_at n js [] h = subst (InOrder n) (sym (append-nil js)) h
+order_at n js (u ∷ us) h =
+    subst (InOrder n) (append_assoc js (n ∷ []) (map column_reported (all_at n us))) (order_at n (js ++ n ∷ []) us (order_one n js h))
+
+-- what a grammar reports at one column more it reports at that column
+pub record IsByColumn (g : Grammar) : Type 0 where
+  pub one : (cs : List Column) (c : Column) → (us : List Event) × (g.so_far_at (cs ++ c ∷ []) ≡ g.so_far_at cs ++ all_at (length cs) us)
+
+link_by_column : IsByColumn link_grammar
+link_by_column = record { one = λ cs c. (_, heard_push cs c (start_of cs) (starts cs)) }
+
+dvi_by_column : IsByColumn dvi_grammar
+dvi_by_column = record { one = λ cs c. (_, pushed cs c) }
+
+pub by_column : (kind : Kind) → IsByColumn (grammar_of kind)
+by_column Link = link_by_column
+by_column Dvi = dvi_by_column
+
+pub is_grammar : (kind : Kind) → IsGrammar (grammar_of kind)
+is_grammar Link = link_is_grammar
+is_grammar Dvi = dvi_is_grammar
+
+-- so the columns of all that it reports never fall, and none is past the last
+abbrev IsOrdered : Grammar → List Column → Type 0
+IsOrdered g cs = InOrder (length cs) (map column_reported (g.so_far_at cs))
+
+ordered_push : (g : Grammar) → IsByColumn g → (cs : List Column) (c : Column) → IsOrdered g cs → IsOrdered g (cs ++ c ∷ [])
+ordered_push g h cs c o =
+    let one = h.one cs c in
+    let now : map column_reported (g.so_far_at (cs ++ c ∷ [])) ≡ map column_reported (g.so_far_at cs) ++ map column_reported (all_at (length cs) one.0) =
+    ap (map column_reported) one.1 ∙ map-append column_reported (g.so_far_at cs) (all_at (length cs) one.0) in
+    order_more (length cs) (length (cs ++ c ∷ [])) _ (omega (arith, length-append cs (c ∷ [])))
+    (subst (InOrder (length cs)) (sym now) (order_at (length cs) (map column_reported (g.so_far_at cs)) one.0 o))
+
+ordered_from : (g : Grammar) → IsByColumn g → (cs ds : List Column) → IsOrdered g cs → IsOrdered g (cs ++ ds)
+ordered_from g h cs [] o = subst (IsOrdered g) (sym (append-nil cs)) o
+ordered_from g h cs (d ∷ ds) o = subst (IsOrdered g) (append_assoc cs (d ∷ []) ds) (ordered_from g h (cs ++ d ∷ []) ds (ordered_push g h cs d o))
+
+ordered : (g : Grammar) → IsGrammar g → IsByColumn g → (cs : List Column) → IsOrdered g cs
+ordered g is h cs = ordered_from g h [] cs (subst (λ (ts : List EventAt). InOrder 0 (map column_reported ts)) (sym is.none) (order_none 0))
+
+-- of lanes
+lanes_ordered : (g : Grammar) → IsGrammar g → IsByColumn g → (fed : Fed) (events : List EventAt) → IsReportedOf g.so_far_at fed events → IsNonDecreasing (map column_reported events)
+lanes_ordered g is h fed events (inl a) =
+    let o = ordered g is h (aligned_columns fed.blue fed.green fed.red a.0 a.1 a.2) in
+    subst (λ (ts : List EventAt). IsNonDecreasing (map column_reported ts)) (sym a.4) o.up
+lanes_ordered g is h fed events (inr a) =
+    let o = order_none 0 in
+    subst (λ (ts : List EventAt). IsNonDecreasing (map column_reported ts)) (sym a.1) o.up
+
+-- the column of a record is that of its event
+columns_of_rows : (o : ℕ) (events : List EventAt) → map column_of (rows_from o events) ≡ map column_reported events
+unfolding rows_from
+columns_of_rows o [] = refl
+columns_of_rows o (at j t ∷ ts) = ap (λ js. j ∷ js) (columns_of_rows (o + length (event_bytes t)) ts)
+
+columns_then : (before events : List EventAt) (records : List Record) → records ≡ rows_from 0 events
+    → map column_reported before ++ map column_reported events ≡ map column_reported before ++ map column_of records
+columns_then before events records are = ap (λ js. map column_reported before ++ js) (sym (ap (map column_of) are ∙ columns_of_rows 0 events))
+
+pub gain_in_order : (g : Grammar) → IsGrammar g → IsByColumn g → (before after : Fed) (events : List EventAt) (records : List Record)
+    → IsGainAt g before after events → records ≡ rows_from 0 events → FollowInOrder g before records
+gain_in_order g is h before after events records gain are = λ was reported.
+    subst IsNonDecreasing (map-append column_reported was events ∙ columns_then was events records are) (lanes_ordered g is h after (was ++ events) (gain was reported))
+
+-- the events of what is reported with columns
+events_alone : (g : Grammar) → IsGrammar g → (fed : Fed) (events : List EventAt) → IsReportedOf g.so_far_at fed events → IsReportedBy g fed (map event_of events)
+events_alone g is fed events (inl a) = inl (a.0, a.1, a.2, a.3, ap (map event_of) a.4 ∙ sym (is.events (aligned_columns fed.blue fed.green fed.red a.0 a.1 a.2)))
+events_alone g is fed events (inr a) = inr (a.0, ap (map event_of) a.1)
+
+-- what is reported at the end is reported at the number of the columns
+last_ordered : (g : Grammar) → IsGrammar g → IsByColumn g → (fed : Fed) (aligned : Bool) (count : ℕ) (was : List EventAt) (events : List Event)
+    → IsReportedOf g.so_far_at fed was → reported_under g aligned fed.blue fed.green fed.red count (map event_of was ++ events)
+    → IsNonDecreasing (map column_reported was ++ map column_reported (all_at count events))
+last_ordered g is h fed true count was events (inl a) w =
+    let same = one_first fed.blue fed.green fed.red w.blue w.green w.red a.0 a.1 a.2 w.first a.3 in
+    let cs = aligned_columns fed.blue fed.green fed.red a.0 a.1 a.2 in
+    let many : length cs ≡ count = sym (w.columns_are ∙ (λ i. length (aligned_columns fed.blue fed.green fed.red (same.0 i) (same.1 i) (same.2 i)))) in
+    let o = order_at (length cs) (map column_reported (g.so_far_at cs)) events (ordered g is h cs) in
+    subst (λ (ts : List EventAt). IsNonDecreasing (map column_reported ts ++ map column_reported (all_at count events))) (sym a.4)
+    (subst (λ (n : ℕ). IsNonDecreasing (map column_reported (g.so_far_at cs) ++ map column_reported (all_at n events))) many o.up)
+last_ordered g is h fed false count was events (inl a) w = absurd (w.nowhere a.0 a.1 a.2 a.3.triple)
+last_ordered g is h fed true count was events (inr a) w = absurd (a.0 w.blue w.green w.red w.first.triple)
+last_ordered g is h fed false count was events (inr a) w =
+    let none : events ≡ [] = sym (ap (λ ts. map event_of ts ++ events) a.1) ∙ w.reported in
+    let o = order_none 0 in
+    subst (λ (ts : List EventAt). IsNonDecreasing (map column_reported ts ++ map column_reported (all_at count events))) (sym a.1)
+    (subst (λ (us : List Event). IsNonDecreasing (map column_reported (all_at count us))) (sym none) o.up)
+
+pub last_in_order : (g : Grammar) → IsGrammar g → IsByColumn g → (fed : Fed) (outcome : Outcome) (events : List Event) (records : List Record)
+    → IsLastBy g fed outcome events → records ≡ rows_from 0 (all_at outcome.columns events) → FollowInOrder g fed records
+last_in_order g is h fed outcome events records last are = λ was reported.
+    subst IsNonDecreasing (columns_then was (all_at outcome.columns events) records are)
+    (last_ordered g is h fed outcome.aligned outcome.columns was events reported (last (map event_of was) (events_alone g is fed was reported)))
+
+-- a refused end writes nothing
+nothing_in_order : (g : Grammar) → IsGrammar g → IsByColumn g → (fed : Fed) (n : ℕ) (records : List Record) → n ≡ 0 → FollowInOrder g fed (take n records)
+nothing_in_order g is h fed n records none = λ was reported.
+    subst IsNonDecreasing (sym (append-nil (map column_reported was)) ∙ ap (λ k. map column_reported was ++ map column_of (take k records)) (sym none))
+    (lanes_ordered g is h fed was reported)
+
+pub end_in_order : (g : Grammar) → IsGrammar g → IsByColumn g → (fed : Fed) (status : Status) (n : ℕ) (records : List Record)
+    → IsEndStatus status → ((status ≡ Misuse) ⊎ (status ≡ Full) → n ≡ 0) → (status ≡ Done → FollowInOrder g fed (take n records)) → FollowInOrder g fed (take n records)
+end_in_order g is h fed Done n records ends none done = done refl
+end_in_order g is h fed Full n records ends none done = nothing_in_order g is h fed n records (none (inr refl))
+end_in_order g is h fed Misuse n records ends none done = nothing_in_order g is h fed n records (none (inl refl))
+end_in_order g is h fed TooMany n records ends none done = absurd ends
+end_in_order g is h fed NoMemory n records ends none done = absurd ends

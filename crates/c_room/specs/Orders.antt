@@ -1,0 +1,15 @@
+-- Events are reported in the order of their columns.
+use Rattle.std.specs.Prelude.{ℕ, List, ◌++◌, map}
+use Rattle.std.specs.List.Sorted.{IsNonDecreasing}
+use Rattle.period_grammar.specs.Events.{EventAt, column_reported}
+use Rattle.link_sink.specs.Grammar.{Grammar}
+use Rattle.link_sink.specs.Sinks.{Fed, IsReportedOf}
+use Rattle.c_room.specs.declared.record.Record.{Record}
+
+abbrev pub column_of : Record → ℕ
+column_of r = r.column
+
+-- of all that was reported of these bits before, and of these records after it, no column is below one before it
+abbrev pub FollowInOrder : Grammar → Fed → List Record → Type 0
+FollowInOrder g fed records =
+    (before : List EventAt) → IsReportedOf g.so_far_at fed before → IsNonDecreasing (map column_reported before ++ map column_of records)
