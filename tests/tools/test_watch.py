@@ -15,7 +15,8 @@ import pytest
 from tests.support import LISTING, TOP
 from vabgrot import listing
 from vabgrot.report.findings import Findings
-from vabgrot.watching.counting import Count, Pieces
+from vabgrot.watching.counting import Count
+from vabgrot.watching.lines import Pieces
 
 WATCH = [TOP / "tools" / "watch"]
 ROWS, COLUMNS = 60, 140
@@ -33,6 +34,15 @@ def captures(program):
     dvi = program("make", "dvi", source=b"c 00 12\nv ff0000\nc 00 12\nend\n")
     worn = program("damage", WORN, source=island)
     return {"bars": bars, "worn": worn, "slipped": slipped, "empty": b"", "cut": bars[:-3], "dvi": dvi}
+
+
+@pytest.fixture(params=("program", "library"))
+def by(request, monkeypatch):
+    """The words with which a capture is heard by the program, and those by the C library."""
+    if request.param == "program":
+        return ["--by-program"]
+    monkeypatch.setenv("VABGROT_LIBRARY", str(request.getfixturevalue("library") / "libvabgrot.so.1"))
+    return []
 
 
 class Terminal:
@@ -84,10 +94,10 @@ SHOWN = {
 
 
 @pytest.mark.parametrize("name", SHOWN)
-def test_a_terminal(captures, tmp_path, name):
+def test_a_terminal(captures, tmp_path, name, by):
     """The screen of a clean, a damaged and an empty capture: packets in words, levels of sound, the picture in half blocks."""
     (tmp_path / "a.tmc").write_bytes(captures[name])
-    terminal = Terminal(tmp_path / "a.tmc")
+    terminal = Terminal(tmp_path / "a.tmc", *by)
     status, wanted = SHOWN[name]
     assert terminal.finish() == status
     for text in wanted:
@@ -98,12 +108,12 @@ def test_a_terminal(captures, tmp_path, name):
         assert "▀" * 32 in terminal.text
 
 
-def test_the_colours_of_the_picture(captures, tmp_path, program, tool):
+def test_the_colours_of_the_picture(captures, tmp_path, program, by):
     """Its cells have the colours of the frame, which is as small as the picture."""
     (tmp_path / "a.tmc").write_bytes(captures["bars"])
     listed = program("recover", "content", source=captures["bars"]).decode().splitlines()
     rows = [line.split()[1] for line in listed if line.startswith("row ")][-8:]
-    terminal = Terminal(tmp_path / "a.tmc")
+    terminal = Terminal(tmp_path / "a.tmc", *by)
     assert terminal.finish() == 0
     top = next(at for at, line in enumerate(terminal.screen.display) if "▀" in line)
     left = terminal.screen.display[top].index("▀")
@@ -113,10 +123,10 @@ def test_the_colours_of_the_picture(captures, tmp_path, program, tool):
     assert [row for pair in found for row in pair] == wanted
 
 
-def test_pieces_through_a_fifo(captures, tmp_path):
+def test_pieces_through_a_fifo(captures, tmp_path, by):
     """The view goes on while a capture comes in pieces, and ends with it."""
     os.mkfifo(tmp_path / "taps")
-    terminal = Terminal(tmp_path / "taps")
+    terminal = Terminal(tmp_path / "taps", *by)
     data = captures["bars"]
     with open(tmp_path / "taps", "wb", buffering=0) as taps:
         taps.write(data[:5])
@@ -127,10 +137,10 @@ def test_pieces_through_a_fifo(captures, tmp_path):
     assert "aligned for 5,432 columns" in terminal.text and "3 whole frames" in terminal.text
 
 
-def test_the_keyboard_ends_it(captures, tmp_path):
+def test_the_keyboard_ends_it(captures, tmp_path, by):
     """Ctrl-C: a summary, and the status of what came until then."""
     os.mkfifo(tmp_path / "taps")
-    terminal = Terminal(tmp_path / "taps")
+    terminal = Terminal(tmp_path / "taps", *by)
     with open(tmp_path / "taps", "wb", buffering=0) as taps:
         taps.write(captures["bars"][:-1])
         terminal.until("bits a lane")
@@ -147,28 +157,32 @@ def said(source, *words, status=0):
     return ran.stdout.decode(), ran.stderr.decode()
 
 
-def test_without_a_terminal(captures, tmp_path):
+def test_without_a_terminal(captures, tmp_path, by):
     """The summary, the log and the statuses, by standard input."""
-    assert said(captures["bars"], "--plain")[0].endswith("3 whole frames\nno fault\n")
-    assert "1 mended\n1 symbols\n" in said(captures["worn"], "--log", tmp_path / "faults.csv", status=1)[0]
+    assert said(captures["bars"], "--plain", *by)[0].endswith("3 whole frames\nno fault\n")
+    assert "1 mended\n1 symbols\n" in said(captures["worn"], "--log", tmp_path / "faults.csv", *by, status=1)[0]
     with open(tmp_path / "faults.csv", newline="") as file:
         rows = list(csv.DictReader(file))
     assert [(row["kind"], row["lane"], row["column"], row["numbers"]) for row in rows] == [
         ("symbols", "", "14", "1"),
         ("mended", "", "14", "0 1"),
     ]
-    assert "1 symbols\n" in (stopped := said(captures["worn"], "--stop-on-fault", status=1)[0]) and "mended" not in stopped
+    assert "1 symbols\n" in (stopped := said(captures["worn"], "--stop-on-fault", *by, status=1)[0]) and "mended" not in stopped
+    out, why = said(captures["cut"], *by, status=3)
+    assert "1 whole frame\n" in out and why.endswith(f"(input: short {len(captures['cut'])})\n")
+    assert "tools/lanes look" in said(b"TMC1" + (80_000).to_bytes(4, "big") + bytes(30_000), *by, status=1)[0]
+    assert "no capture, which begins with TMC" in said(b"no capture", *by, status=3)[1]
+
+
+def test_other_links(captures):
+    """DVI, and lanes that slip: the program alone hears them."""
     assert "aligned for 25 columns\n" in said(captures["dvi"], "--dvi")[0]
     out, _ = said(captures["slipped"], "--slips", status=1)
     assert "behind the slip at bit " in out and "1 slip, lane 2 (red)\n" in out
-    out, why = said(captures["cut"], status=3)
-    assert "1 whole frame\n" in out and why.endswith(f"(input: short {len(captures['cut'])})\n")
-    assert "tools/lanes look" in said(b"TMC1" + (80_000).to_bytes(4, "big") + bytes(30_000), status=1)[0]
-    assert "no capture, which begins with TMC" in said(b"no capture", status=3)[1]
     assert said(b"", "--slips", "--dvi", status=2)[1].startswith("usage: ")
 
 
-def test_a_file_that_grows(captures, tmp_path):
+def test_a_file_that_grows(captures, tmp_path, by):
     """--follow waits for the rest, and ends where the capture is whole."""
     data = captures["bars"]
     (tmp_path / "a.tmc").write_bytes(data[:9000])
@@ -180,30 +194,42 @@ def test_a_file_that_grows(captures, tmp_path):
 
     thread = threading.Thread(target=grow)
     thread.start()
-    assert said(b"", "--follow", tmp_path / "a.tmc")[0].endswith("3 whole frames\nno fault\n")
+    assert said(b"", "--follow", tmp_path / "a.tmc", *by)[0].endswith("3 whole frames\nno fault\n")
     thread.join()
 
 
-def test_metrics(captures, tmp_path):
+def test_metrics(captures, tmp_path, by):
     """A scrape while more is waited for, which the last twelve of 75 columns need; the port is one of the loopback."""
     pytest.importorskip("prometheus_client", reason="Debian's package python3-prometheus-client is missing")
-    with socket.socket() as free:
-        free.bind(("127.0.0.1", 0))
-        port = free.getsockname()[1]
+    port = free_port()
     os.mkfifo(tmp_path / "taps")
-    watch = subprocess.Popen([*WATCH, tmp_path / "taps", "--metrics", str(port)], stdout=subprocess.PIPE, stderr=subprocess.PIPE)
+    words = [*WATCH, tmp_path / "taps", "--metrics", str(port), *by]
+    watch = subprocess.Popen(words, stdout=subprocess.PIPE, stderr=subprocess.PIPE)
     with open(tmp_path / "taps", "wb", buffering=0) as taps:
         taps.write(captures["worn"])
-        wanted, end = ['vabgrot_faults_total{kind="mended",lane=""} 1.0', "vabgrot_columns_total 63.0"], time.monotonic() + HANGS
-        text = ""
-        while time.monotonic() < end and wanted[0] not in text:
-            try:
-                with urllib.request.urlopen(f"http://127.0.0.1:{port}/metrics", timeout=HANGS) as page:
-                    text = page.read().decode()
-            except OSError:
-                time.sleep(0.1)
+        wanted = ['vabgrot_faults_total{kind="mended",lane=""} 1.0', "vabgrot_columns_total 63.0"]
+        text = scraped(port, wanted[0])
     assert all(line in text for line in [*wanted, 'vabgrot_faults_total{kind="word",lane="blue"} 0.0', "vabgrot_aligned 1.0"]), text
     assert watch.communicate(timeout=HANGS)[1] == b"" and watch.returncode == 1
+
+
+def free_port():
+    """A port of the loopback that nothing uses."""
+    with socket.socket() as free:
+        free.bind(("127.0.0.1", 0))
+        return free.getsockname()[1]
+
+
+def scraped(port, wanted):
+    """The counters of a port, once a text is in them."""
+    text, end = "", time.monotonic() + HANGS
+    while time.monotonic() < end and wanted not in text:
+        try:
+            with urllib.request.urlopen(f"http://127.0.0.1:{port}/metrics", timeout=HANGS) as page:
+                text = page.read().decode()
+        except OSError:
+            time.sleep(0.1)
+    return text
 
 
 @pytest.mark.parametrize("size", (61, 1 << 16))
@@ -221,7 +247,7 @@ def test_counts(captures, executable, words, size, compare):
         plain = Findings(lambda frame, *_: frames.append(frame.is_whole), is_dvi=words == ["dvi"])
         for line in listing.lines(io.BytesIO(text), listing.LINK, is_whole=False):
             plain.take(*line)
-        count = counted(text, size, Count(guards=0 if words == ["dvi"] else 2), heard.append)
+        count = counted(text, size, 0 if words == ["dvi"] else 2, heard.append)
         columns = plain.frames_of.columns
         table = plain.faults
         places = [more[0] if kind == "slip" else at for kind, at, more in zip(table["kind"], table["column"], table["more"])]
@@ -233,9 +259,9 @@ def test_counts(captures, executable, words, size, compare):
     compare(cases)
 
 
-def counted(text, size, count, ear):
+def counted(text, size, guards, ear):
     """What is counted of a listing that comes in pieces of a size."""
-    reads, writes = os.pipe()
+    count, (reads, writes) = Count(), os.pipe()
 
     def feed():
         for at in range(0, len(text), size):
@@ -245,7 +271,7 @@ def counted(text, size, count, ear):
 
     thread = threading.Thread(target=feed)
     thread.start()
-    pieces = Pieces(reads)
+    pieces = Pieces(reads, guards)
     while not pieces.is_ended:
         count.take(pieces.read(), ear)
     thread.join()

@@ -2,6 +2,7 @@
 
 from __future__ import annotations
 
+from collections.abc import Sequence
 from pathlib import Path
 
 import numpy as np
@@ -9,12 +10,15 @@ import numpy.typing as npt
 
 from vabgrot import capture
 from vabgrot.errors import Refused
-from vabgrot.formats.characters import LEAST_CONTROL, TEN
-from vabgrot.lanes.looking import IS_CONTROL, characters_of, lock_of
+from vabgrot.formats.characters import ISLAND_GUARDS_0, LEAST_CONTROL, TEN
+from vabgrot.lanes.looking import GUARD, IS_CONTROL, OTHER, Bits, characters_of, lock_of
 from vabgrot.lanes.openings import beginnings, first_alignment
 
 Words = npt.NDArray[np.uint16]
 LOOKED = 1 << 22  # bits of each lane among which the first alignment is looked for first
+PART = 1 << 17  # the same, where it is looked for often
+GUARDS = 2  # columns of a guard band
+BANDS = (((GUARD,), (OTHER,), (GUARD,)), (ISLAND_GUARDS_0, (OTHER,), (OTHER,)))  # of a line, of an island
 
 
 def edges_of(bits: npt.NDArray[np.uint8]) -> npt.NDArray[np.int64]:
@@ -27,12 +31,42 @@ def edges_of(bits: npt.NDArray[np.uint8]) -> npt.NDArray[np.int64]:
     return found
 
 
-def alignment_of(path: Path) -> list[int] | None:
-    """The place of each lane at which the first aligned column begins; None where there is no full alignment."""
+def first_edges(lanes: Sequence[Bits], start: int) -> list[int] | None:
+    """The edges of the first full alignment of what the lanes have from a place on; None where there is none."""
+    for size in (PART, max(map(len, lanes))):
+        found = first_alignment([edges_of(lane[start : start + size]) for lane in lanes])
+        if found is not None:
+            return [start + edge for edge in found]
+    return None
+
+
+def is_confirmed(lanes: Sequence[Bits], edges: Sequence[int]) -> bool:
+    """Whether a guard band begins at three edges: all of its first column, and two characters of its second (docs/guide/FORMATS.md)."""
+    columns = np.stack([characters_of(lane[edge : edge + TEN * GUARDS], 0) for lane, edge in zip(lanes, edges)])
+    for kind in BANDS:
+        first, second = np.stack([np.isin(words, guards) for words, guards in zip(columns, kind)]).sum(axis=0).tolist()
+        if first == len(kind) and second >= len(kind) - 1:
+            return True
+    return False
+
+
+def confirmed_edges(lanes: Sequence[Bits]) -> list[int] | None:
+    """The edges of the first alignment that a guard band confirms, as `recover relock` finds it in lanes that lose no bits."""
+    start, end = 0, min(map(len, lanes), default=0)
+    while (edges := first_edges(lanes, start)) and max(edges) + TEN * GUARDS <= end:
+        if is_confirmed(lanes, edges):
+            return edges
+        start = min(edges) + 1 - TEN * LEAST_CONTROL
+    return None
+
+
+def alignment_of(path: Path, by_guards: bool = False) -> list[int] | None:
+    """The place of each lane at which the first aligned column begins, of the alignment that a guard band confirms where that is asked;
+    None where there is no full alignment."""
     most = LOOKED
     while True:
         lanes = beginnings(path, most)
-        edges = first_alignment([edges_of(lane) for lane in lanes])
+        edges = confirmed_edges(lanes) if by_guards else first_alignment([edges_of(lane) for lane in lanes])
         if edges is not None:
             return [edge - TEN * LEAST_CONTROL for edge in edges]
         if max(map(len, lanes)) < most:
@@ -41,13 +75,14 @@ def alignment_of(path: Path) -> list[int] | None:
 
 
 class Columns:
-    """The characters of the three lanes of a capture from its first full alignment on. `starts` are the places of the first ones,
-    `count` is how many columns all three lanes have. Refused where the file is no capture; ValueError where nothing aligns."""
+    """The characters of the three lanes of a capture from its first full alignment on, or from the first one that a guard band confirms
+    (`by_guards`). `starts` are the places of the first ones, `count` is how many columns all three lanes have. Refused where the file is
+    no capture; ValueError where nothing aligns."""
 
-    def __init__(self, path: Path) -> None:
+    def __init__(self, path: Path, by_guards: bool = False) -> None:
         with open(path, "rb") as file:
             self.bits, self.first = capture.header_of(file.read(16))
-        starts = alignment_of(path)
+        starts = alignment_of(path, by_guards)
         if starts is None:
             raise ValueError("no alignment")
         self.starts = starts

@@ -1,47 +1,48 @@
-"""What is counted of all of a link listing that comes in, block by block: columns, frames, faults, and packets as they stand."""
+"""What is counted of all events of a link, batch by batch: columns, frames, faults, and packets as they stand."""
 
 from __future__ import annotations
 
-import os
 from collections import Counter, deque
 from collections.abc import Callable
 from dataclasses import dataclass, field
-from typing import NamedTuple
+from typing import NamedTuple, Protocol, Self
 
 import numpy as np
 import numpy.typing as npt
 
-from vabgrot.errors import Refused
-from vabgrot.formats.characters import PACKET, VSYNC
-from vabgrot.formats.faults import LANED, LINK, NEXT, OF_PACKET
+from vabgrot import events
+from vabgrot.events import Kind
+from vabgrot.formats.characters import LANES
+from vabgrot.formats.faults import LANED
+from vabgrot.link import Columns
+from vabgrot.video.timings import Meter
 
 Ints = npt.NDArray[np.int64]
 Bytes = npt.NDArray[np.uint8]
-Text = bytes | memoryview
 Key = tuple[str, int | None]  # the kind of a fault, and its lane
-KINDS = tuple(LINK)
-CONTROL, ROW, PACKETS, OPEN, CLOSE, FAULT, END = b"cvpie!\n"
-KNOWN = np.isin(np.arange(256), np.frombuffer(b"cvpie!", np.uint8))
-OF_NAME = np.zeros(256, np.int64)  # the columns of lines of one length
-OF_NAME[[PACKETS, OPEN, CLOSE]] = PACKET, 2, 2
-LETTERS = (0, 1, 4)  # of a kind and the space behind it: they tell each kind
-KEYS = {sum(ord(f"{kind} "[at]) << 8 * place for place, at in enumerate(LETTERS)): at for at, kind in enumerate(KINDS)}
-SORTED = np.array(sorted(KEYS), np.int64)
-NUMBERS = np.array([KEYS[key] for key in sorted(KEYS)], np.int64)
-HAS_LANE = np.array([kind in LANED for kind in KINDS])
-WORD, SLIP, NOISE, EMPTY = (KINDS.index(kind) for kind in ("word", "slip", "noise", "empty"))
-IS_NEXT, IS_OF_PACKET = (np.array([kind in kinds for kind in KINDS]) for kinds in (NEXT, OF_PACKET))
-KIND_AT, LANE_AT, COUNT_AT, LEVEL_AT = 2, 7, 5, 3  # in a fault line, in one whose kind has four letters, and in a control line
+RUN, LINE, PACKET, WORD = map(int, (Kind.RUN, Kind.LINE, Kind.PACKET, Kind.WORD))  # NumPy compares plain numbers sooner
+END, SLIP = -1, Kind.GUARD + 1  # beside the kinds of events: the end of a listing, and a fault of lanes that are aligned anew
+NAMES: dict[int, str] = {**{int(kind): name for kind, name in events.NAMES.items()}, SLIP: "slip"}  # of faults
+KINDS = {name: kind for kind, name in NAMES.items()}
+HAS_LANE = np.array([NAMES.get(kind) in LANED for kind in range(SLIP + 1)])
+PARTS = np.isin(np.arange(SLIP + 1), (RUN, WORD), invert=True)  # whether an event parts control columns
 LEAST = 3  # neighbouring columns of one value of VSYNC, from which on it has it
-NOT_STANDING = [ord(f"{kind:02x}"[0]) << 8 | ord(f"{kind:02x}"[1]) for kind in (0, 2, 7, 8, 9)]  # null packets and those of sound
-PIECE = 1 << 20  # bytes that are read at a time, at most
-LAST = 10  # fault lines that are kept
-DIGITS = 10  # of a number, at most
-OF_LEVEL = np.array([int(chr(one), 16) & VSYNC if chr(one) in "0123456789abcdefABCDEF" else 0 for one in range(256)])
+SAMPLES = 2  # the type of packets of samples
+STANDS = np.isin(np.arange(256), (0, SAMPLES, 7, 8, 9), invert=True)  # the types but null packets and those of sound
+SIZE = 31  # bytes of a packet
+LAST = 10  # faults that are kept
+TAIL = 32  # events among which the last one that parts control columns mostly is
+WAYS = len(LANES) + 1  # a fault has one of the lanes, or none
+
+
+def places_of(mask: npt.NDArray[np.generic]) -> Ints:
+    """Where an array is not 0; quicker than the like of NumPy for some hundreds."""
+    (found,) = mask.nonzero()
+    return found
 
 
 class Fault(NamedTuple):
-    """A fault line: its kind, its lane, the epoch and the column (of a slip the place), and its other numbers."""
+    """A fault: its kind, its lane, the epoch and the column (of a slip the place), and its other numbers."""
 
     kind: str
     lane: int | None
@@ -49,119 +50,52 @@ class Fault(NamedTuple):
     column: int
     more: tuple[int, ...]
 
-    @classmethod
-    def of(cls, line: bytes, epoch: int) -> Fault:
-        """What a fault line says; raises Refused where it is none."""
-        kind, *texts = line.decode("ascii", "replace").split(" ")[1:]
-        numbers = [int(text) for text in texts if text.isdecimal()]
-        if kind not in LINK or len(numbers) != len(texts) or len(numbers) < 1 + (kind in LANED):
-            raise Refused(f"`{line[:20].decode('ascii', 'replace')}` is no fault line")
-        lane = numbers.pop(0) if kind in LANED else None
-        return cls(kind, lane, epoch, numbers[0], tuple(numbers[1:]))
-
 
 Ear = Callable[[Fault], None]
 
 
-class Pieces:
-    """The text of a listing that comes in from a file, in pieces of whole lines. A packet waits for the faults behind it."""
+class Batch(Protocol):
+    """Some events one after another. Places are their numbers in the batch, from 0."""
 
-    def __init__(self, file: int) -> None:
-        self.file, self.buffer, self.used, self.end = file, bytearray(2 * PIECE), 0, 0
-        self.is_ended = False
+    kinds: Ints  # of each a Kind, SLIP or END
 
-    def read(self) -> memoryview:
-        """What comes next, once something is there; at the end all that is left. It is valid until the next call."""
-        self.buffer[: self.used - self.end] = self.buffer[self.end : self.used]
-        self.used -= self.end
-        came = os.readv(self.file, [memoryview(self.buffer)[self.used : self.used + PIECE]])
-        self.used += came
-        self.is_ended = not came
-        self.end = self.used if self.is_ended else self.held(self.buffer.rfind(b"\n", 0, self.used) + 1)
-        if self.is_ended and self.used and not self.buffer.endswith(b"\n", 0, self.used):
-            raise Refused("the listing breaks off in a line")
-        return memoryview(self.buffer)[: self.end]
+    @property
+    def size(self) -> int:
+        """How many bytes they take."""
 
-    def held(self, end: int) -> int:
-        """The end of whole lines without a packet at their end, and without the faults behind it."""
-        first = end
-        while first:
-            first = self.buffer.rfind(b"\n", 0, first - 1) + 1
-            if self.buffer[first] == PACKETS:
-                return first
-            if self.buffer[first] != FAULT:
-                return end
-        return end
+    def until(self, stop: int) -> Self:
+        """The first of these events, so many."""
 
+    def lanes(self, faults: Ints) -> Ints:
+        """The lanes of the faults at these places, as far as they have one."""
 
-class Lines:
-    """The whole lines of a block: where each begins and ends, and its first byte."""
+    def runs(self, places: Ints) -> tuple[Ints, Ints]:
+        """VSYNC, 0 or 1, and the columns of the runs of control columns at these places."""
 
-    def __init__(self, text: Text) -> None:
-        self.bytes: Bytes = np.frombuffer(text, np.uint8)
-        self.ends: Ints = np.flatnonzero(self.bytes == END)
-        self.starts: Ints = np.concatenate((np.zeros(1, np.int64), self.ends[:-1] + 1)) if len(self.ends) else self.ends
-        self.names: Bytes = self.bytes[self.starts]
-        controls, closes = self.named(CONTROL), self.named(CLOSE)
-        is_cut = self.byte(controls, 1) == ord("u")  # the line `cut`
-        self.controls, self.cuts = controls[~is_cut], controls[is_cut]
-        self.ended = closes[self.byte(closes, 1) == ord("n")]  # the line `end`
+    def fault(self, place: int, epoch: int) -> Fault:
+        """The fault at a place."""
 
-    def line(self, at: int) -> bytes:
-        """A line, without its end."""
-        return self.bytes[self.starts[at] : self.ends[at]].tobytes()
+    def told(self, begin: int, stop: int, before: int) -> int:
+        """How many columns are told once the events from one place up to another came, where so many were before."""
 
-    def begin(self, at: int) -> str:
-        """How a line begins."""
-        return self.line(at)[:20].decode("ascii", "replace")
+    def packets(self) -> Ints:
+        """The places of the packets without a lost block."""
 
-    def named(self, name: int) -> Ints:
-        """The lines that begin with a byte."""
-        return np.flatnonzero(self.names == name)
+    def types(self, packets: Ints) -> Ints:
+        """The types of the packets at these places."""
 
-    def byte(self, lines: Ints, place: int) -> Ints:
-        """A byte of each of these lines."""
-        found: Ints = self.bytes[np.minimum(self.starts[lines] + place, len(self.bytes) - 1)].astype(np.int64)
-        return found
+    def octets(self, packets: Ints) -> Bytes:
+        """The header and the bodies of the packets at these places, a row each."""
 
-    def kinds(self, faults: Ints) -> Ints:
-        """The kinds of fault lines, as numbers of KINDS."""
-        keys = np.zeros(len(faults), np.int64)
-        for place, at in enumerate(LETTERS):
-            keys |= self.byte(faults, KIND_AT + at) << 8 * place
-        places = np.minimum(np.searchsorted(SORTED, keys), len(SORTED) - 1)
-        unknown = SORTED[places] != keys
-        if unknown.any():
-            raise Refused(f"`{self.begin(int(faults[np.argmax(unknown)]))}` is no fault line")
-        found: Ints = NUMBERS[places]
-        return found
+    def rows(self, places: Ints) -> list[bytes]:
+        """The pixels of the lines at these places, as `pixels` reads them."""
 
-    def is_lost(self, packet: int) -> bool:
-        """Whether the faults behind a packet say that a block of it is lost."""
-        at = packet + 1
-        while at < len(self.names) and self.names[at] == FAULT:
-            if self.line(at).startswith(b"! lost"):
-                return True
-            at += 1
-        return False
+    @staticmethod
+    def pixels(row: bytes) -> bytes:
+        """The pixels of what `rows` gives of a line: red, green and blue of each."""
 
-    def counts(self, lines: Ints) -> Ints:
-        """The decimal numbers with which these control lines end."""
-        first, sizes = self.starts[lines] + COUNT_AT, self.ends[lines] - self.starts[lines] - COUNT_AT
-        found = np.zeros(len(lines), np.int64)
-        for place in range(min(int(sizes.max(initial=0)), DIGITS)):
-            has = sizes > place
-            found[has] = found[has] * 10 + self.bytes[first[has] + place] - ord("0")
-        return found
-
-
-class Block(NamedTuple):
-    """Lines, which of them are faults and of which kinds, and how many columns each line tells."""
-
-    lines: Lines
-    faults: Ints
-    kinds: Ints
-    own: Ints
+    def measure(self, meter: Meter, columns: Columns) -> None:
+        """Has a meter take the events; `columns` counts those of a listing."""
 
 
 @dataclass
@@ -180,22 +114,48 @@ class Syncs:
         """Forgets what stands before a slip."""
         self.level, self.streak, self.heard, self.changes, self.rows = -1, 0, -1, 0, 0
 
-    def take(self, levels: Ints, counts: Ints, breaks: Ints, rows: Ints) -> None:
-        """Control lines: their levels and columns, and before each how many lines break a streak, and how many are rows; of the last two
-        one more, of all lines."""
-        first = -self.rows
+    def take(self, batch: Batch, begin: int, stop: int) -> list[int]:
+        """The events of a batch from one place up to another. Answers before which of them VSYNC changed."""
+        kinds = batch.kinds[begin:stop]
+        runs = places_of(kinds == RUN)
+        levels, counts = batch.runs(runs + begin)
+        if (levels == self.heard).all():
+            self.go_on(kinds, counts)
+            return []
+        places = np.append(runs, stop - begin)
+        parts, rows = (np.searchsorted(places_of(one), places) for one in (PARTS[kinds], kinds == LINE))
+        return [begin + int(runs[at]) for at in self.changed(levels, counts, parts, rows)]
+
+    def go_on(self, kinds: Ints, counts: Ints) -> None:
+        """Events whose runs, of so many columns, have the value of VSYNC that it had before."""
+        self.rows += int(np.count_nonzero(kinds == LINE))
+        behind = kinds[-TAIL:] if PARTS[kinds[-TAIL:]].any() else kinds
+        parts = places_of(PARTS[behind])
+        runs = int(np.count_nonzero(behind[int(parts[-1]) if len(parts) else 0 :] == RUN))
+        goes_on = not len(parts) and (self.level == self.heard or not len(counts))
+        self.streak = self.streak * goes_on + int(counts[len(counts) - runs :].sum())
+        self.level = self.heard if len(counts) else self.level
+
+    def changed(self, levels: Ints, counts: Ints, parts: Ints, rows: Ints) -> list[int]:
+        """Runs: their levels and columns, and before each how many events part a streak, and how many are rows; of the last two one more,
+        of all events. Answers in which of them VSYNC changed."""
+        first, found = -self.rows, []
         if len(levels):
-            new = (levels[1:] != levels[:-1]) | (breaks[1:-1] != breaks[:-2])
-            starts = np.concatenate((np.zeros(1, np.int64), np.flatnonzero(new) + 1))
+            new = (levels[1:] != levels[:-1]) | (parts[1:-1] != parts[:-2])
+            starts = np.concatenate((np.zeros(1, np.int64), places_of(new) + 1))
             sums = np.add.reduceat(counts, starts)
-            sums[0] += self.streak if levels[0] == self.level and not breaks[0] else 0
-            for at in starts[sums >= LEAST].tolist():
-                if levels[at] != self.heard:
-                    self.change(int(levels[at]), int(rows[at]) - first)
-                    first = int(rows[at]) if self.changes else first
+            sums[0] += self.streak if levels[0] == self.level and not parts[0] else 0
+            heard = starts[sums >= LEAST]
+            values = levels[heard]
+            is_other = values != np.concatenate((np.array([self.heard]), values[:-1]))
+            for at in heard[is_other].tolist():
+                found += [at] if self.heard >= 0 else []
+                self.change(int(levels[at]), int(rows[at]) - first)
+                first = int(rows[at]) if self.changes else first
             self.level, self.streak = int(levels[-1]), int(sums[-1])
-        self.streak = self.streak if breaks[-1] == (breaks[-2] if len(levels) else 0) else 0
+        self.streak = self.streak if parts[-1] == (parts[-2] if len(levels) else 0) else 0
         self.rows = int(rows[-1]) - first
+        return found
 
     def change(self, level: int, rows: int) -> None:
         """VSYNC has another value, so many rows after the last change."""
@@ -207,124 +167,84 @@ class Syncs:
 
 @dataclass
 class Count:
-    """Takes the text of a link listing in pieces, and counts. `columns` are those of its epoch that lines tell, `before` those of the
-    epochs before it."""
+    """Takes the events of a link in batches, and counts. `columns` are those of its epoch that events tell, `before` those of the epochs
+    before it."""
 
-    guards: int = 2  # columns before the pixels of a row: none of DVI
     columns: int = 0
     before: int = 0
     epoch: int = 0
     is_aligned: bool = False
-    lines: int = 0
-    faults: Counter[Key] = field(default_factory=Counter)
+    times: Ints = field(default_factory=lambda: np.zeros((SLIP + 1) * WAYS, np.int64))  # of faults, by kind and lane
     last: deque[Fault] = field(default_factory=lambda: deque(maxlen=LAST))
-    standing: dict[bytes, bytes] = field(default_factory=dict)  # the last packet of each type, as its line
+    standing: dict[int, bytes] = field(default_factory=dict)  # of each type the last packet: its header and its bodies
     syncs: Syncs = field(default_factory=Syncs)
     slip: Fault | None = None  # the last one
-    is_ended: bool = False  # the line `end` came
-    is_closing: bool = False  # the last line that is no fault ended an island
 
     @property
     def total(self) -> int:
         """The faults of all kinds."""
-        return sum(self.faults.values())
+        return int(self.times.sum())
 
-    def take(self, text: Text, ear: Ear | None = None) -> None:
-        """Whole lines. The ear is told each fault; it takes time."""
-        lines = Lines(text)
-        if not KNOWN[lines.names].all():
-            raise Refused(f"`{lines.begin(int(np.argmin(KNOWN[lines.names])))}` begins no line of a link listing")
-        faults = lines.named(FAULT)
-        kinds = lines.kinds(faults)
-        block = Block(lines, faults, kinds, self.own(lines, faults, kinds))
-        begin, end = 0, len(lines.names)
-        for stop in [*faults[kinds == SLIP].tolist(), end]:
-            self.part(block, begin, stop)
+    @property
+    def faults(self) -> Counter[Key]:
+        """How many faults of each kind and lane there were."""
+        return counter_of(self.times)
+
+    def take(self, batch: Batch, ear: Ear | None = None) -> None:
+        """The next events. The ear is told each fault; it takes time."""
+        kinds, begin, end = batch.kinds, 0, len(batch.kinds)
+        faults = places_of(kinds >= WORD) if end and kinds.max() >= WORD else kinds[:0]
+        for stop in [*faults[kinds[faults] == SLIP].tolist(), end] if len(faults) else [end]:
+            self.part(batch, begin, stop)
+            here = faults[(faults >= begin) & (faults <= stop)] if len(faults) else faults
+            if len(here):
+                self.hear(batch, here, ear)
             if stop < end:
-                self.restart(Fault.of(lines.line(stop), self.epoch))
-            self.hear(block, begin, min(stop + 1, end), ear)
+                self.restart(batch.fault(stop, self.epoch))
             begin = stop + 1
-        self.lines += end
-        self.stand(lines)
-        self.is_closing = self.closing(lines, np.array([end]))[0] if end else self.is_closing
-        lanes = np.where(HAS_LANE[kinds], lines.byte(faults, LANE_AT) - ord("0"), -1)
-        for pair, times in zip(*np.unique(kinds * 4 + lanes + 1, return_counts=True)):
-            self.faults[KINDS[pair // 4], None if pair % 4 == 0 else int(pair % 4) - 1] += int(times)
+        if len(faults):
+            lanes = np.where(HAS_LANE[kinds[faults]], batch.lanes(faults), -1)
+            self.times += np.bincount(kinds[faults] * WAYS + lanes + 1, minlength=len(self.times))
+        self.stand(batch)
 
-    def hear(self, block: Block, begin: int, stop: int, ear: Ear | None) -> None:
-        """Keeps the last faults of some lines, and tells the ear all."""
-        here = block.faults[(block.faults >= begin) & (block.faults < stop)].tolist()
-        epoch = self.epoch - (stop > begin and bool(here) and block.lines.line(here[-1]).startswith(b"! slip"))
-        found = (Fault.of(block.lines.line(at), epoch) for at in (here if ear else here[-LAST:]))
-        for fault in found:
+    def part(self, batch: Batch, begin: int, stop: int) -> None:
+        """The events between two slips."""
+        if stop == begin:
+            return
+        self.is_aligned |= bool(stop - begin > (batch.kinds[stop - 1] == END))
+        self.columns = batch.told(begin, stop, self.columns)
+        self.syncs.take(batch, begin, stop)
+
+    def hear(self, batch: Batch, places: Ints, ear: Ear | None) -> None:
+        """Keeps the last faults of those at some places, and tells the ear all."""
+        for place in (places if ear else places[-LAST:]).tolist():
+            fault = batch.fault(place, self.epoch)
             self.last.append(fault)
             if ear:
                 ear(fault)
 
-    def closing(self, lines: Lines, places: Ints) -> npt.NDArray[np.bool_]:
-        """Whether the last line before each of these places that is no fault ends an island."""
-        others = np.flatnonzero(lines.names != FAULT)
-        at = np.searchsorted(others, places) - 1
-        if not len(others):
-            return np.full(len(places), self.is_closing)
-        return np.where(at < 0, self.is_closing, lines.names[others[at]] == CLOSE)
-
-    def own(self, lines: Lines, faults: Ints, kinds: Ints) -> Ints:
-        """How many columns each line tells."""
-        own = OF_NAME[lines.names]
-        rows, empty = lines.named(ROW), faults[kinds == EMPTY]
-        own[rows] = (lines.ends[rows] - lines.starts[rows] - len("v ")) // 6 + self.guards
-        own[lines.controls] = lines.counts(lines.controls)
-        own[lines.ended] = 0
-        own[faults[kinds == NOISE]] = 1
-        own[empty] = np.where(self.closing(lines, empty), 0, 2)
-        return own
-
-    def part(self, block: Block, begin: int, stop: int) -> None:
-        """The lines between two slips."""
-        if stop == begin:
-            return
-        lines, own = block.lines, block.own
-        self.is_ended |= bool(((lines.ended >= begin) & (lines.ended < stop)).any())
-        self.is_aligned |= stop - begin > self.is_ended
-        anchor = self.anchor(block, begin, stop)
-        first, self.columns = anchor or (begin, self.columns)
-        self.columns += int(own[first:stop].sum())
-        controls = lines.controls[(lines.controls >= begin) & (lines.controls < stop)] - begin
-        is_row = lines.names[begin:stop] == ROW
-        breaks = np.ones(stop - begin, np.int64)
-        breaks[controls] = 0
-        breaks[block.faults[(block.faults >= begin) & (block.faults < stop) & (block.kinds == WORD)] - begin] = 0
-        places = np.append(controls, stop - begin)
-        sums = [np.concatenate((np.zeros(1, np.int64), np.cumsum(one)))[places] for one in (breaks, is_row)]
-        self.syncs.take(OF_LEVEL[lines.byte(controls + begin, LEVEL_AT)], own[controls + begin], *sums)
-
-    def anchor(self, block: Block, begin: int, stop: int) -> tuple[int, int] | None:
-        """The last of these lines that names a column, and that which is the next one before it."""
-        lines = block.lines
-        naming = IS_NEXT[block.kinds] | IS_OF_PACKET[block.kinds] | (block.kinds == EMPTY) & (block.own[block.faults] > 0)
-        places = np.concatenate((block.faults[naming], lines.cuts))
-        places = places[(places >= begin) & (places < stop)]
-        if not len(places):
-            return None
-        at = int(places.max())
-        if lines.names[at] != FAULT:
-            return at, int(lines.line(at).split(b" ")[1])
-        fault = Fault.of(lines.line(at), 0)
-        return at, fault.column + PACKET * (fault.kind in OF_PACKET)
-
     def restart(self, slip: Fault) -> None:
         """A slip: the columns are counted anew."""
         self.slip, self.epoch, self.before = slip, self.epoch + 1, self.before + self.columns
-        self.columns, self.is_aligned, self.is_closing = 0, False, False
+        self.columns, self.is_aligned = 0, False
         self.syncs.reset()
 
-    def stand(self, lines: Lines) -> None:
+    def stand(self, batch: Batch) -> None:
         """Keeps the last packet of each type that no block is lost of."""
-        packets = lines.named(PACKETS)
-        types = lines.byte(packets, 2) << 8 | lines.byte(packets, 3)
-        for kind in np.setdiff1d(types, NOT_STANDING).tolist():
-            for at in packets[types == kind][::-1].tolist():
-                if not lines.is_lost(at):
-                    self.standing[lines.line(at)[2:4]] = lines.line(at)
-                    break
+        packets = batch.packets()
+        if not len(packets):
+            return
+        types = batch.types(packets)
+        stands = STANDS[types]
+        if stands.any():
+            places = np.full(256, -1)
+            places[types[stands]] = packets[stands]  # of those of one type the last
+            found = places_of(places >= 0)
+            self.standing.update(zip(found.tolist(), map(bytes, batch.octets(places[found]))))
+
+
+def counter_of(times: Ints) -> Counter[Key]:
+    """How many faults of each kind and lane are in an array of Count."""
+    places = places_of(times)
+    keys = ((NAMES[place // WAYS], None if place % WAYS == 0 else place % WAYS - 1) for place in places.tolist())
+    return Counter(dict(zip(keys, times[places].tolist())))

@@ -1,4 +1,4 @@
-"""A capture that comes in is fed to the program: from standard input, a FIFO, a file, or a file that grows."""
+"""What comes in is fed to a receiver: from standard input, a FIFO, a file, or a file that grows. Here the receiver is the program."""
 
 from __future__ import annotations
 
@@ -12,8 +12,11 @@ import subprocess
 import sys
 import threading
 from collections.abc import Callable, Iterator, Sequence
+from typing import Protocol
 
 from vabgrot import program
+from vabgrot.watching.counting import Batch
+from vabgrot.watching.lines import Lines, Pieces
 
 PIECE = 1 << 20  # bytes that are moved at a time, at most
 HEADS = {b"TMC1": 8, b"TMC2": 16}  # how a capture begins, and the bytes of its header
@@ -35,11 +38,38 @@ def size_of(head: bytes) -> int | None:
     return HEADS[head[:4]] + sum((count + 7) // 8 for count in lanes) if lanes else None
 
 
-class Feed:
-    """The program's command over what comes from a file: a thread moves the bytes, and counts them. Where the file `grows` its end is
-    waited for until the capture is whole."""
+class Feed(Protocol):
+    """A receiver over what comes from a file. `bytes` are those that came, `is_stopped` says that no more are wanted."""
 
-    def __init__(self, words: Sequence[str], source: int, grows: bool) -> None:
+    bytes: int
+    is_stopped: bool
+    error: OSError | None
+
+    @property
+    def length(self) -> int:
+        """How many bits the longest lane will have; 0 where that is not known."""
+
+    def ready(self, seconds: float) -> bool:
+        """Waits until there is something to read, or so long; answers whether there is."""
+
+    def read(self) -> Batch | None:
+        """The next events, which may be none. They are valid until the next call. At the end None."""
+
+    def stop(self) -> None:
+        """Takes no more in: what was decided until then still comes."""
+
+    def end(self) -> tuple[int, str]:
+        """The status of the end, as the program has it, and its note."""
+
+    def kill(self) -> None:
+        """Gives back what was taken for it, in whatever state it is."""
+
+
+class ByProgram:
+    """The program's command over what comes from a file: a thread moves the bytes, and counts them. Where the file `grows` its end is
+    waited for until the capture is whole. `guards` are the columns before the pixels of a row: none of DVI."""
+
+    def __init__(self, words: Sequence[str], source: int, grows: bool, guards: int = 2) -> None:
         self.source, self.grows = source, grows
         self.head, self.bytes = b"", 0
         self.error: OSError | None = None
@@ -57,6 +87,7 @@ class Feed:
         for pipe in (self.input, self.output):
             with contextlib.suppress(OSError, AttributeError):  # where the system lets no pipe be so large, or is another one
                 fcntl.fcntl(pipe, fcntl.F_SETPIPE_SZ, program.PIPE)
+        self.pieces, self.is_ended = Pieces(self.output, guards), False
         self.is_stopped = False
         sys.setswitchinterval(SWITCH)
         self.thread = threading.Thread(target=self.run, daemon=True)
@@ -125,6 +156,23 @@ class Feed:
         poll.register(self.wake, select.POLLIN)
         poll.poll(PAUSE)
         return not self.is_stopped
+
+    @property
+    def length(self) -> int:
+        """The bits of the longest lane, by the header."""
+        return max(bits_of(self.head), default=0)
+
+    def ready(self, seconds: float) -> bool:
+        """Waits until the program says something, or so long."""
+        return bool(select.select([self.output], [], [], seconds)[0])
+
+    def read(self) -> Lines | None:
+        """The next lines of its listing."""
+        if self.is_ended:
+            return None
+        lines = self.pieces.read()
+        self.is_ended = self.pieces.is_ended
+        return lines
 
     def stop(self) -> None:
         """Feeds no more: what the program has still says comes."""

@@ -2,30 +2,33 @@
 
 from __future__ import annotations
 
-import io
 import time
+from collections.abc import Callable
 from dataclasses import dataclass, field
 
 import numpy as np
 import numpy.typing as npt
 from PIL import Image
 
-from vabgrot import listing, packets
-from vabgrot.formats.faults import OF_PACKET
-from vabgrot.link import Frame, Frames
+from vabgrot import packets
+from vabgrot.link import Columns
 from vabgrot.report.sound import Channel, Sound, Told
 from vabgrot.video import images
 from vabgrot.video.colours import Signal
 from vabgrot.video.matching import Rate, Timing, timings
 from vabgrot.video.signals import Signals
 from vabgrot.video.timings import Meter
-from vabgrot.watching.counting import Text
+from vabgrot.watching.counting import LINE, SAMPLES, SLIP, Batch, Ints, Syncs
+from vabgrot.watching.records import packet_of
 
-SHARE, GRACE = 0.1, 0.5  # of the time that may be looked, and seconds that may be so in any case
+SHARE, GRACE = 0.1, 0.2  # of the time that may be looked, and seconds that may be so in any case
 FRAMES = 12  # whole frames after which a look begins anew: its raster and its sound are those of so many
-ENOUGH, MOST = 2, 1 << 27  # whole frames, or bytes of the listing, that a look has before it ends for want of time
+ENOUGH, MOST = 2, 1 << 27  # whole frames, or bytes of events, that a look has before it ends for want of time
+AUDIO = 0x84  # the type of audio InfoFrames
+Colours = npt.NDArray[np.uint8]
 FINER = 4  # rows of a frame that are taken for a row of its small picture
-SIZE = (56, 32)  # the pixels of a small picture, at most
+SMALL = (64, 48)  # the pixels of a small picture, at most
+ROWS = FINER * SMALL[1]  # of a frame that are kept, at least
 
 
 @dataclass
@@ -48,13 +51,29 @@ class Budget:
         self.spent += time.monotonic() - self.entered
 
 
-class Look:
-    """Takes the lines of a listing from any place on, and keeps what they show."""
+@dataclass
+class Seen:
+    """A whole frame that was seen: of how many rows, some of them evenly, and what reads their pixels."""
 
-    def __init__(self, is_dvi: bool, allocation: int | None) -> None:
-        self.frames, self.meter, self.sound = Frames(is_dvi), Meter(), Sound(allocation=allocation)
-        self.packet: packets.Packet | None = None  # the last packet of samples, of which a block may be lost
-        self.last: Frame | None = None
+    down: int
+    rows: list[bytes]
+    pixels: Callable[[bytes], bytes]
+
+    @property
+    def width(self) -> int:
+        """The pixels of the first row."""
+        return len(self.pixels(self.rows[0])) // 3
+
+
+class Look:
+    """Takes events from any place on, and keeps what they show. `tall` is how many rows a frame had before."""
+
+    def __init__(self, is_dvi: bool, allocation: int | None, tall: int = 0) -> None:
+        self.columns, self.meter, self.sound = Columns(is_dvi), Meter(), Sound(allocation=allocation)
+        self.syncs, self.is_whole = Syncs(), False  # whether what comes began with a change of VSYNC
+        self.rows: list[bytes] = []
+        self.down, self.tall = 0, tall
+        self.last: Seen | None = None
         self.whole, self.kept, self.size = 0, 0, 0
 
     @property
@@ -62,61 +81,80 @@ class Look:
         """Whether it saw a raster and a frame, or so much that it will not."""
         return self.whole >= ENOUGH or self.size >= MOST
 
-    def take(self, text: bytes) -> None:
-        """Whole lines."""
-        self.size += len(text)
-        for number, name, fields in listing.lines(io.BytesIO(text), listing.LINK, is_whole=False):
-            thing = self.frames.columns.take(number, name, fields)
-            self.meter.take(thing)
-            if thing.kind == "packet" and (thing.digits.startswith("02") or thing.digits.startswith("84")):
-                self.settle()
-                self.packet = packets.packet_of(thing.texts, number)
-            elif thing.fault == "lost":
-                self.packet = None
-            elif thing.fault not in OF_PACKET:
-                self.settle()
-            self.end_frame(self.frames.take(thing))
+    def take(self, batch: Batch) -> None:
+        """The next events."""
+        self.size += batch.size
+        batch.measure(self.meter, self.columns)
+        begin, end = 0, len(batch.kinds)
+        for stop in [*np.flatnonzero(batch.kinds == SLIP).tolist(), end]:
+            self.part(batch, begin, stop)
+            if stop < end:
+                self.syncs.reset()
+                self.begin(False)
+            begin = stop + 1
+        self.hear(batch)
 
-    def end_frame(self, frame: Frame | None) -> None:
-        """A frame ended."""
-        if frame and frame.is_whole:
-            self.last = frame
-            self.whole += 1
+    def part(self, batch: Batch, begin: int, stop: int) -> None:
+        """The rows between two slips."""
+        lines = begin + np.flatnonzero(batch.kinds[begin:stop] == LINE)
+        at = 0
+        for change in self.syncs.take(batch, begin, stop):
+            behind = int(np.searchsorted(lines, change))
+            self.add(batch, lines[at:behind])
+            if self.is_whole and self.down:
+                self.last, self.tall = Seen(self.down, self.rows, batch.pixels), self.down
+                self.whole += 1
+            self.begin(True)
+            at = behind
+        self.add(batch, lines[at:])
 
-    def settle(self) -> None:
-        """The last packet of samples, or audio InfoFrame, has no lost block."""
-        packet, self.packet = self.packet, None
-        if packet is None:
-            return
-        if packet.kind == 2:
-            self.sound.take(packet)
-        elif not packets.content_of(packet).faults:
-            self.sound.allocation = packet.bytes[4]
+    def begin(self, is_whole: bool) -> None:
+        """A frame begins."""
+        self.rows, self.down, self.is_whole = [], 0, is_whole
+
+    def add(self, batch: Batch, lines: Ints) -> None:
+        """Rows of a frame: as many of them are kept as the picture needs."""
+        step = max(1, self.tall // ROWS)
+        self.rows += batch.rows(lines[-self.down % step :: step]) if self.is_whole else []
+        self.down += len(lines)
+
+    def hear(self, batch: Batch) -> None:
+        """The samples of a batch, and its last audio InfoFrame that is right."""
+        found = batch.packets()
+        types = batch.types(found) if len(found) else found
+        if len(samples := found[types == SAMPLES]):
+            self.sound.take_samples(batch.octets(samples))
+        for at in reversed(np.flatnonzero(types == AUDIO).tolist()):
+            packet = packet_of(bytes(batch.octets(found[at : at + 1])[0]))
+            if not packets.content_of(packet).faults:
+                self.sound.allocation = packet.bytes[4]
+                break
 
 
 @dataclass
 class Looks:
-    """Looks at lines one after another as long as there is time, and keeps what the last look saw."""
+    """Looks at events one after another as long as there is time, and keeps what the last look saw."""
 
     is_dvi: bool = False
     rate: Rate = field(default_factory=Rate)
     budget: Budget = field(default_factory=Budget)
     look: Look | None = None
     timing: Timing | None = None
-    frame: Frame | None = None
+    frame: Seen | None = None
     channels: list[Channel] = field(default_factory=list)
     allocation: int | None = None
     looked: int = 0  # whole frames
-    is_behind: bool = False  # lines were not looked at
+    is_behind: bool = False  # events were not looked at
+    drawn: tuple[Seen, Signal, tuple[int, int], Colours] | None = None  # the last small picture, and what it is of
 
-    def take(self, text: Text) -> None:
-        """Whole lines; where there is no time they are let go."""
+    def take(self, batch: Batch) -> None:
+        """The next events; where there is no time they are let go."""
         if self.look is None and not self.budget.is_left:
             self.is_behind = True
             return
         with self.budget:
-            self.look = self.look or Look(self.is_dvi, self.allocation)
-            self.look.take(bytes(text))
+            self.look = self.look or Look(self.is_dvi, self.allocation, self.frame.down if self.frame else 0)
+            self.look.take(batch)
         if self.look.whole >= FRAMES or self.look.is_enough and not self.budget.is_left:
             with self.budget:
                 self.keep()
@@ -139,38 +177,38 @@ class Looks:
         if look.sound.samples:
             self.channels = Told.of(look.sound, None, 24).channels()
 
-    def picture(self, standing: dict[bytes, bytes], size: tuple[int, int] = SIZE) -> npt.NDArray[np.uint8] | None:
+    def picture(self, standing: dict[int, bytes], size: tuple[int, int] = SMALL) -> Colours | None:
         """The last whole frame that was seen, small; None where there is none."""
-        return small(self.frame, self.signal(standing, self.frame), size) if self.frame else None
+        if self.frame is None:
+            return None
+        signal = self.signal(standing, self.frame)
+        if self.drawn is None or self.drawn[0] is not self.frame or self.drawn[1:3] != (signal, size):
+            self.drawn = self.frame, signal, size, small(self.frame, signal, size)
+        return self.drawn[3]
 
-    def signal(self, standing: dict[bytes, bytes], frame: Frame) -> Signal:
+    def signal(self, standing: dict[int, bytes], frame: Seen) -> Signal:
         """How the pixels of a frame are sent, by the packets that stand."""
         signals = Signals(has_packets=not self.is_dvi)
-        for line in standing.values():
-            signals.take_packet(packet_of(line))
+        for data in standing.values():
+            signals.take_packet(packet_of(data))
         return signals.reading(frame.width).signal
 
 
-def packet_of(line: bytes) -> packets.Packet:
-    """The packet of a `p` line."""
-    return packets.packet_of(line.decode("ascii", "replace").split(" ")[1:], 0)
-
-
-def small(frame: Frame, signal: Signal, size: tuple[int, int]) -> npt.NDArray[np.uint8]:
+def small(frame: Seen, signal: Signal, size: tuple[int, int]) -> Colours:
     """A frame of at most so many pixels, across an even number of rows."""
-    across, down = signal.pixels(frame.width), len(frame.rows)
+    across, down = signal.pixels(frame.width), frame.down
     scale = min(size[0] / across, size[1] / down, 1)
     width, height = max(1, round(across * scale)), max(2, 2 * round(down * scale / 2))
-    rows = [frame.rows[at * down // (FINER * height)] for at in range(FINER * height)]
+    rows = [frame.pixels(frame.rows[at * len(frame.rows) // (FINER * height)]) for at in range(FINER * height)]
     colours = images.shallow(images.colours_of(rows, frame.width, signal))
     return np.asarray(Image.fromarray(np.ascontiguousarray(colours), "RGB").resize((width, height), Image.Resampling.BOX))
 
 
-def words_of(standing: dict[bytes, bytes]) -> list[tuple[str, str]]:
+def words_of(standing: dict[int, bytes]) -> list[tuple[str, str]]:
     """Each packet that stands, its name and what it says, by its type from the highest one on."""
     found = []
-    for _, line in sorted(standing.items(), reverse=True):
-        packet = packet_of(line)
+    for _, data in sorted(standing.items(), reverse=True):
+        packet = packet_of(data)
         content = packets.content_of(packet)
         if content.rows or content.faults:
             found.append((packet.name, content.words))

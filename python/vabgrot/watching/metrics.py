@@ -25,12 +25,13 @@ class Watched(Collector):
     def collect(self) -> Iterator[Metric]:
         """All counters. A fault without a lane has an empty one."""
         state, count = self.state, self.state.count
+        times = count.faults
         faults = CounterMetricFamily("vabgrot_faults", "Fault lines of the link.", labels=["kind", "lane"])
         for kind in LINK:
             for lane in range(len(LANES)) if kind in LANED else (None,):
-                faults.add_metric([kind, "" if lane is None else LANES[lane]], count.faults[kind, lane])
+                faults.add_metric([kind, "" if lane is None else LANES[lane]], times[kind, lane])
         yield faults
-        yield CounterMetricFamily("vabgrot_columns", "Columns that lines of the listing tell.", value=count.before + count.columns)
+        yield CounterMetricFamily("vabgrot_columns", "Columns that events tell.", value=count.before + count.columns)
         yield CounterMetricFamily("vabgrot_frames", "Whole frames.", value=count.syncs.frames)
         yield CounterMetricFamily("vabgrot_received_bytes", "Bytes of the capture.", value=state.feed.bytes)
         yield CounterMetricFamily("vabgrot_frames_looked_at", "Whole frames that the view looked at.", value=state.looks.looked)

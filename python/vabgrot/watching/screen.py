@@ -2,6 +2,8 @@
 
 from __future__ import annotations
 
+import functools
+
 import numpy as np
 import numpy.typing as npt
 from rich.color import Color
@@ -28,18 +30,27 @@ class HalfBlocks:
     """A picture, two of its pixels a cell."""
 
     def __init__(self, colours: npt.NDArray[np.uint8]) -> None:
-        self.rows = colours.tolist()
+        self.width = colours.shape[1]
+        self.cells = cells_of(colours.tobytes(), self.width)
 
     def __rich_console__(self, console: Console, options: ConsoleOptions) -> RenderResult:
-        for upper, lower in zip(self.rows[::2], self.rows[1::2]):
-            for one, other in zip(upper, lower):
-                yield Segment(HALF, Style(color=Color.from_rgb(*one), bgcolor=Color.from_rgb(*other)))
-            yield Segment.line()
+        yield from self.cells
 
     def __rich_measure__(self, *_: object) -> object:
         from rich.measure import Measurement
 
-        return Measurement(len(self.rows[0]), len(self.rows[0]))
+        return Measurement(self.width, self.width)
+
+
+@functools.lru_cache(maxsize=2)
+def cells_of(data: bytes, width: int) -> tuple[Segment, ...]:
+    """The cells of a picture of so many pixels across, which is often drawn again as it was."""
+    rows = np.frombuffer(data, np.uint8).reshape(-1, width, 3).tolist()
+    found = []
+    for upper, lower in zip(rows[::2], rows[1::2]):
+        found += [Segment(HALF, Style(color=Color.from_rgb(*one), bgcolor=Color.from_rgb(*other))) for one, other in zip(upper, lower)]
+        found.append(Segment.line())
+    return tuple(found)
 
 
 def bar(percent: int) -> str:
@@ -99,7 +110,7 @@ def last_of(state: State) -> Group:
 def view(state: State, width: int, height: int) -> RenderableType:
     """All of it, for a terminal of this size."""
     parts: list[RenderableType] = [head_of(state)]
-    if state.count.faults:
+    if state.count.total:
         parts.append(faults_of(state))
     if state.count.standing:
         parts.append(packets_of(state))

@@ -10,8 +10,8 @@ from typing import NamedTuple
 from vabgrot.formats.characters import LANES, TEN
 from vabgrot.video.matching import counted
 from vabgrot.video.timings import DEPTH
-from vabgrot.watching.counting import Count, Fault, Key
-from vabgrot.watching.feeding import Feed, bits_of
+from vabgrot.watching.counting import Count, Fault, Ints, Key, counter_of
+from vabgrot.watching.feeding import Feed
 from vabgrot.watching.looking import Looks
 
 SECOND, STEP = 1.0, 0.1  # what "the last second" is, and how far its samples are apart
@@ -23,7 +23,7 @@ class Sample(NamedTuple):
 
     at: float
     bytes: int
-    faults: Counter[Key]
+    times: Ints  # of faults, as Count has them
 
 
 def short(number: float) -> str:
@@ -66,7 +66,7 @@ class State:
         now = time.monotonic()
         if self.samples and now - self.samples[-1].at < STEP:
             return
-        self.samples.append(Sample(now, self.feed.bytes, self.count.faults.copy()))
+        self.samples.append(Sample(now, self.feed.bytes, self.count.times.copy()))
         while len(self.samples) > 2 and self.samples[1].at <= now - SECOND:
             self.samples.popleft()
 
@@ -83,20 +83,20 @@ class State:
     @property
     def recent(self) -> Counter[Key]:
         """The faults of the last second."""
-        return self.count.faults - self.samples[0].faults if self.samples else self.count.faults.copy()
+        return counter_of(self.count.times - self.samples[0].times if self.samples else self.count.times)
 
     @property
     def bits(self) -> int:
-        """How many bits of each lane came, as far as its header tells."""
+        """How many bits of each lane came."""
         return self.feed.bytes * 8 // 3
 
     @property
     def columns(self) -> float:
         """The columns a second: of the last one, and at the end of all of it."""
-        first, last = Sample(self.began, 0, Counter()), Sample(self.began + self.seconds, self.feed.bytes, Counter())
+        began, before, now = self.began, 0, self.began + self.seconds
         if self.samples and not self.is_ended:
-            first, last = self.samples[0], Sample(time.monotonic(), self.feed.bytes, Counter())
-        return (last.bytes - first.bytes) * 8 / (3 * TEN) / max(last.at - first.at, 1e-3)
+            began, before, now = self.samples[0].at, self.samples[0].bytes, time.monotonic()
+        return (self.feed.bytes - before) * 8 / (3 * TEN) / max(now - began, 1e-3)
 
     @property
     def clock(self) -> float | None:
@@ -125,8 +125,8 @@ class State:
 
     @property
     def progress(self) -> str:
-        """How much of the capture came; nothing where its header does not tell its length."""
-        bits = max(bits_of(self.feed.head), default=0)
+        """How much of the capture came; nothing where its length is not known."""
+        bits = self.feed.length
         return f"{min(self.bits / bits, 1):.0%} of {bits:,} bits a lane" if bits else ""
 
     def format(self) -> str:

@@ -1,0 +1,240 @@
+"""tools/watch --raw: raw blocks give what captures give, past 2^32 bits a lane and in a memory that does not grow; without the C library
+it is refused."""
+
+import csv
+import io
+import itertools
+import os
+import random
+import signal
+import subprocess
+import threading
+import time
+
+import pytest
+
+from tests.models import feeding
+from tests.support import HANGS, LISTING, TOP
+from tests.tools.test_watch import WATCH, WORN, Terminal, free_port, said, scraped
+from vabgrot import capture, library
+from vabgrot.capture import BLOCK
+from vabgrot.lanes import repeating
+from vabgrot.tools import watch
+
+FRAME, FRAMES = 1800, 3  # columns of a frame of examples/bars.content, and frames
+WHOLE = 10 * FRAME * FRAMES  # bits of them, which are whole bytes
+CAPTURES = 12
+SOAKED, SETTLED, MOST = 10, 3, 2048  # seconds, those after which memory is to stand, and the KiB by which it may grow
+
+
+@pytest.fixture(autouse=True)
+def found(library, monkeypatch):
+    """The library that was built for the tests."""
+    monkeypatch.setenv("VABGROT_LIBRARY", str(library / "libvabgrot.so.1"))
+
+
+@pytest.fixture
+def bars(program):
+    """A capture of three frames and 32 columns, its bytes and its lanes."""
+    data = program("make", "content", source=(TOP / "examples" / "bars.content").read_bytes())
+    return data, capture.lanes_of(data)[0]
+
+
+def raw(lanes, bits, times=1):
+    """Raw blocks of so many bits of each lane."""
+    return b"".join(map(bytes, repeating.pieces(lanes, bits, times)))
+
+
+def cut(data):
+    """A capture whose lanes end with the last whole byte of the shortest, and the same as raw blocks."""
+    lanes, counts = capture.lanes_of(data)
+    size = min(counts) // 8
+    out = io.BytesIO()
+    capture.write(out, [io.BytesIO(lane[:size]) for lane in lanes], [8 * size])
+    return out.getvalue(), raw(lanes, 8 * size)
+
+
+def heard(source, tmp_path, *words):
+    """The status, what it says at the end but for the times, and its log but for these."""
+    log = tmp_path / "faults.csv"
+    words = [*WATCH, "--plain", "--log", log, *words]
+    came = subprocess.run(words, input=source, capture_output=True, timeout=HANGS)
+    assert b"Traceback" not in came.stderr, came.stderr.decode()
+    lines = came.stdout.decode().splitlines()
+    end = max(at for at, line in enumerate(lines) if line.startswith("watched for "))
+    with open(log, newline="") as file:
+        rows = [row[1:] for row in csv.reader(file)]
+    aligned = lines[end].partition(": ")[2]
+    aligned = aligned.partition(":")[0] if aligned.startswith("not aligned") else aligned  # the bits that came are by the bytes
+    return came.returncode, [aligned, *lines[end + 2 :]], rows
+
+
+def test_raw_blocks_are_as_captures(program, bars, tmp_path, compare):
+    """Counts, faults and their columns, the format and the status: of the examples, of damage, of noise, and of random captures."""
+    noise = random.Random("noise")
+    noisy = bytearray(bars[0])
+    for _ in range(2000):
+        noisy[noise.randrange(200, len(noisy))] ^= 1 << noise.randrange(8)
+    named = {"bars": bars[0], "noisy": bytes(noisy), "red": program("make", "link", source=LISTING)}
+    for name in ("island", "skewed"):
+        named[name] = program("make", "link", "--offset", "7", source=(TOP / "examples" / f"{name}.link").read_bytes())
+    named["worn"] = program("damage", WORN, source=program("make", "link", source=(TOP / "examples" / "island.link").read_bytes()))
+    named |= {f"random {case}": feeding.made_capture(random.Random(f"raw {case}"))[0] for case in range(CAPTURES)}
+
+    def cases():
+        for name, data in named.items():
+            whole, blocks = cut(data)
+            wanted = heard(whole, tmp_path)
+            yield name, heard(blocks, tmp_path, "--raw"), wanted
+            status, lines, rows = heard(whole, tmp_path, "--by-program")
+            yield f"{name} by the program", (status, rows), (wanted[0], wanted[2])
+            if not {"noise", "longline", "broken"} & {row[0] for row in rows}:  # behind these a listing does not tell all columns
+                yield f"lines of {name} by the program", lines, wanted[1]
+
+    compare(cases())
+
+
+def test_a_terminal(bars, tmp_path):
+    """Raw blocks through a FIFO, in pieces: the view goes on with each block, and the end of the input ends it."""
+    data = raw(bars[1], WHOLE, 20)
+    os.mkfifo(tmp_path / "link")
+    terminal = Terminal(tmp_path / "link", "--raw")
+    with open(tmp_path / "link", "wb", buffering=0) as link:
+        link.write(data[: 4 * 3 * BLOCK + 5])
+        terminal.until("7 whole frames")
+        link.write(data[4 * 3 * BLOCK + 5 :])
+    assert terminal.finish() == 0
+    for text in (f"aligned for {20 * FRAMES * FRAME:,} columns", "59 whole frames", "32 × 8", "no fault", "AVI InfoFrame", "FL ", "▀" * 32):
+        assert text in terminal.text, terminal.text
+    assert " bits a lane" not in terminal.text
+
+
+def test_the_keyboard_ends_it(bars, tmp_path):
+    """Ctrl-C, while nothing more comes: the last run counts."""
+    os.mkfifo(tmp_path / "link")
+    terminal = Terminal(tmp_path / "link", "--raw", "--follow")
+    data = raw(bars[1], WHOLE, 20)[: 10 * 3 * BLOCK]
+    with open(tmp_path / "link", "wb", buffering=0) as link:
+        link.write(data)
+    terminal.until("18 whole frames")
+    terminal.child.sendintr()
+    assert terminal.finish() == 0
+    aligned = said(data, "--raw")[0].splitlines()[-5].partition(": ")[2]
+    assert aligned.startswith("aligned for 32,") and aligned in terminal.text and "Traceback" not in terminal.text
+
+
+def test_a_part_of_a_block(bars, tmp_path, compare):
+    """Of the last block what all three lanes have of it counts, whole bytes of red: none while blue or green come."""
+    lanes, whole = [bytes(lane)[: WHOLE // 8] * 9 for lane in bars[1]], 3 * BLOCK
+
+    def cases():
+        for more in (0, 1, BLOCK, 2 * BLOCK, 2 * BLOCK + 1, 2 * BLOCK + 1500, whole - 1, whole):
+            size, out = 3 * BLOCK + max(0, more - 2 * BLOCK), io.BytesIO()
+            capture.write(out, [io.BytesIO(lane[:size]) for lane in lanes], [8 * size])
+            source = raw(lanes, 8 * len(lanes[0]))[: 3 * whole + more]
+            yield more, heard(source, tmp_path, "--raw"), heard(out.getvalue(), tmp_path)
+
+    compare(cases())
+    assert "not aligned: 0 bits a lane came" in said(b"", "--raw", status=1)[0]
+
+
+def test_stop_on_fault(program, bars, tmp_path):
+    """It ends at the first of two faults, while the link goes on, with its column."""
+    hurt = program("damage", "2:28450:0ab", "0:40000:2ab", source=bars[0])
+    os.mkfifo(tmp_path / "link")
+    words = [*WATCH, tmp_path / "link", "--raw", "--stop-on-fault", "--log", tmp_path / "faults.csv"]
+    ran = subprocess.Popen(words, stdout=subprocess.PIPE, stderr=subprocess.PIPE)
+    with open(tmp_path / "link", "wb", buffering=0) as link:
+        link.write(raw(capture.lanes_of(hurt)[0], WHOLE)[: 3 * BLOCK])
+        out, why = ran.communicate(timeout=HANGS)
+    assert (ran.returncode, why) == (1, b"") and b"1 code, lane 2 (red)\n" in out
+    with open(tmp_path / "faults.csv", newline="") as file:
+        assert [(row["kind"], row["lane"], row["column"]) for row in csv.DictReader(file)] == [("code", "2", "2845")]
+
+
+def test_metrics(program, tmp_path, bars):
+    """A scrape while the link goes on."""
+    pytest.importorskip("prometheus_client", reason="Debian's package python3-prometheus-client is missing")
+    hurt = program("damage", "2:28450:0ab", source=bars[0])
+    port = free_port()
+    os.mkfifo(tmp_path / "link")
+    words = [*WATCH, tmp_path / "link", "--raw", "--metrics", str(port)]
+    ran = subprocess.Popen(words, stdout=subprocess.PIPE, stderr=subprocess.PIPE)
+    with open(tmp_path / "link", "wb", buffering=0) as link:
+        link.write(raw(capture.lanes_of(hurt)[0], WHOLE)[: 3 * BLOCK])
+        text = scraped(port, 'vabgrot_faults_total{kind="code",lane="red"} 1.0')
+    assert all(line in text for line in ("vabgrot_frames_total 1.0", "vabgrot_aligned 1.0", "vabgrot_received_bytes_total 12288.0")), text
+    assert ran.communicate(timeout=HANGS)[1] == b"" and ran.returncode == 1
+
+
+def test_without_the_library(monkeypatch, capsys, tmp_path):
+    """It is refused, and says what makes the library; a capture is still heard, by the program."""
+    (tmp_path / "raw").write_bytes(b"")
+    monkeypatch.setenv("VABGROT_LIBRARY", "/none")
+    assert watch.main(["--raw", str(tmp_path / "raw")]) == 3
+    assert "raw blocks are heard by the C library alone, and VABGROT_LIBRARY names /none" in capsys.readouterr().err
+    monkeypatch.delenv("VABGROT_LIBRARY")
+    monkeypatch.setattr(library, "BESIDE", TOP / "none")
+    monkeypatch.setattr(library, "NAME", "libnone.so.1")
+    assert watch.main(["--raw", str(tmp_path / "raw")]) == 3
+    why = capsys.readouterr().err
+    assert why.count("\n") == 1 and "`./vabgrot install` of a checkout makes and installs it" in why
+    assert said(b"", "--raw", "--dvi", status=2)[1].startswith("usage: ")
+
+
+def test_what_lanes_writes(bars, tool, tmp_path):
+    """`tools/lanes blocks`, once and so many times; what it refuses."""
+    (tmp_path / "a.tmc").write_bytes(bars[0])
+    assert tool("lanes", "blocks", tmp_path / "a.tmc").stdout == cut(bars[0])[1]
+    words = ["lanes", "blocks", tmp_path / "a.tmc", "--bits", WHOLE]
+    assert tool(*words, "--repeat", 4).stdout == raw(bars[1], WHOLE, 4)
+    assert b"a lane has 54320 bits, and 54321 are wanted" in tool("lanes", "blocks", tmp_path / "a.tmc", "--bits", 54321, status=3).stderr
+    for wrong in ("0", "1,2", "x"):
+        tool(*words, "--repeat", wrong, status=2)
+
+
+@pytest.mark.slow
+def test_past_four_gibibits(program, bars, tmp_path):
+    """More than 2^32 bits of each lane, frames again and again, and then one with a fault: it is the only one, at its column."""
+    times = BLOCK * ((1 << 32) // WHOLE // BLOCK + 1)  # which makes whole blocks
+    hurt = capture.lanes_of(program("damage", "2:28450:0ab", source=bars[0]))[0]
+    words = [*WATCH, "--raw", "--stop-on-fault", "--log", tmp_path / "faults.csv"]
+    ran = subprocess.Popen(words, stdin=subprocess.PIPE, stdout=subprocess.PIPE)
+
+    def pour():
+        for piece in itertools.chain(repeating.pieces(bars[1], WHOLE, times), [raw(hurt, WHOLE)]):
+            ran.stdin.write(piece)
+        ran.stdin.close()
+
+    thread = threading.Thread(target=pour)
+    thread.start()
+    out = ran.stdout.read().decode()
+    thread.join()
+    assert ran.wait(HANGS) == 1 and "1 code, lane 2 (red)\n" in out and f"{times * FRAMES + 1:,} whole frames" in out
+    with open(tmp_path / "faults.csv", newline="") as file:
+        assert [(row["kind"], row["column"]) for row in csv.DictReader(file)] == [("code", str(WHOLE // 10 * times + 2845))]
+    assert WHOLE * times > 1 << 32
+
+
+@pytest.mark.slow
+def test_a_soak(bars, tmp_path):
+    """A link at full speed: the memory of the tool does not grow."""
+    (tmp_path / "a.tmc").write_bytes(bars[0])
+    words = [TOP / "tools" / "lanes", "blocks", tmp_path / "a.tmc", "--bits", str(WHOLE), "--repeat"]
+    with subprocess.Popen(words, stdout=subprocess.PIPE) as source:
+        ran = subprocess.Popen([*WATCH, "--raw", "--plain"], stdin=source.stdout, stdout=subprocess.PIPE)
+        source.stdout.close()
+        sizes = []
+        for _ in range(SOAKED):
+            time.sleep(1)
+            sizes.append(resident(ran.pid))
+        ran.send_signal(signal.SIGINT)
+        out = ran.communicate(timeout=HANGS)[0].decode()
+    assert ran.returncode == 0 and out.endswith("no fault\n")
+    assert max(sizes[SETTLED:]) - sizes[SETTLED] < MOST, sizes
+
+
+def resident(process):
+    """The KiB of memory that a process has."""
+    with open(f"/proc/{process}/status") as file:
+        return next(int(line.split()[1]) for line in file if line.startswith("VmRSS:"))
