@@ -7,6 +7,7 @@ from vabgrot.errors import Refused
 
 BLOCK = 4096
 MOST_BITS = (1 << 32) - 1
+HEADER = 16  # bytes of a header at most
 
 
 def write(out: IO[bytes], lanes: Sequence[IO[bytes]], counts: Sequence[int]) -> None:
@@ -32,6 +33,13 @@ def header_of(data: bytes) -> tuple[list[int], int]:
         raise Refused(f"the capture breaks off after {len(data)} bytes, in its header")
     counts = [int.from_bytes(data[at : at + 4], "big") for at in range(4, start, 4)]
     return counts * (3 // numbers), start
+
+
+def place_of(start: int, lengths: Sequence[int], lane: int, byte: int) -> int:
+    """The place in a capture of a byte of a lane, where the lanes begin at `start` and have so many bytes."""
+    at = byte - byte % BLOCK
+    before = sum(min(at, length) for length in lengths)
+    return start + before + sum(min(BLOCK, max(length - at, 0)) for length in lengths[:lane]) + byte - at
 
 
 def lanes_of(data: bytes) -> tuple[list[bytearray], list[int]]:

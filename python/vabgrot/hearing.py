@@ -8,13 +8,16 @@ from dataclasses import dataclass, field
 import numpy as np
 
 from vabgrot import listing, packets, pcm
+from vabgrot.batch import Batch
 from vabgrot.channels import Values, Wide
+from vabgrot.contents import lost_of
 from vabgrot.errors import Refused
 from vabgrot.formats import speakers
 from vabgrot.formats.audio import BLOCK, CODED
 from vabgrot.formats.faults import OF_PACKET, OF_SOUND
 from vabgrot.formats.modes import CUSTOM_CLOCK, VICS
 from vabgrot.infoframes import FREQUENCIES
+from vabgrot.link import ISLAND_PACKET
 from vabgrot.packets import Packet, Sample
 from vabgrot.video.colours import DEPTHS
 
@@ -232,6 +235,18 @@ def link_lines(heard: Heard, lines: Iterable[Line]) -> None:
             heard.packet(packet)
         elif packet.kind in (1, 2):
             heard.lose()
+
+
+def take_batches(heard: Heard, batches: Iterable[Batch]) -> None:
+    """The same of the batches of a capture."""
+    for batch in batches:
+        places = np.flatnonzero(batch.kinds == ISLAND_PACKET)
+        for place, is_lost in zip(places.tolist(), lost_of(batch, places)):
+            packet = batch.packet(place)
+            if not is_lost:
+                heard.packet(packet)
+            elif packet.kind in (1, 2):
+                heard.lose()
 
 
 def packets_of(lines: Iterable[Line]) -> Iterator[tuple[Packet, bool]]:

@@ -42,6 +42,15 @@ def packed(tool, lanes, paths):
 
 
 @pytest.fixture
+def old(executable, tmp_path, monkeypatch):
+    """Has the tools run a program without `recover relock`."""
+    path = tmp_path / "old"
+    path.write_text(f'#!/bin/sh\n[ "$2" = relock ] && exit 2\nexec {executable} "$@"\n')
+    path.chmod(0o755)
+    monkeypatch.setenv("VABGROT_PROGRAM", str(path))
+
+
+@pytest.fixture
 def advice(tool, tmp_path):
     """What the report of a capture advises, and the verdict."""
 
@@ -68,7 +77,8 @@ def cut(tool, capture, line, folder):
 @pytest.mark.parametrize("skew", [(0, 0, 0), (0, 70, 35), (20, 0, 11)])
 @pytest.mark.parametrize("lane", [0, 1, 2])
 @pytest.mark.parametrize("back", [1, 7])
-def test_a_damaged_control_character_before_the_first_edge(tool, program, sent, advice, tmp_path, skew, lane, back):
+def test_a_damaged_control_character_before_the_first_edge(tool, program, sent, advice, old, tmp_path, skew, lane, back):
+    """What is advised where the program has no `recover relock`; test_relocked.py has what is read where it has."""
     capture = sent("--offset", 7, "--skew", ",".join(map(str, skew)))
     hurt = program("damage", f"{lane}:{place(0, -back) - 7 - skew[lane]}:300", source=capture)
     early = [one + 10 * back * (number == lane) for number, one in enumerate(skew)]
@@ -92,7 +102,7 @@ def test_lanes_that_are_too_far_apart(tool, program, sent, advice, tmp_path):
 
 
 def test_advice_about_dvi_where_it_fits(tool, program, sent, advice):
-    """Where no control period ends in guards; not where they are those of HDMI, at another skew."""
+    """Where no control period ends in guards; not where they are those of HDMI, at another skew, at which the capture is read anew."""
     lines, _ = advice(sent(kind="dvi"))
     assert "--dvi" in lines[0] and len(lines) > 4
     hurt = program("damage", f"1:{place(0, -3)}:133", source=sent())

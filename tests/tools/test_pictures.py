@@ -177,3 +177,16 @@ def test_bad_words(tool, tmp_path):
 
 def test_help(tool):
     assert tool("pictures", "--help").stdout.startswith(b"usage: pictures")
+
+
+def test_a_capture_has_the_frames_of_its_listing(tool, program, tmp_path):
+    """Two rows of two pixels between two changes of VSYNC, of which one pixel is damaged; a row before them aligns the receiver."""
+    row = "c 04 8\nv {}\nc 00 12\n"
+    first, rows = row.format("000000ffffff"), row.format("0102030a0b0c") + row.format("ff0000000000")
+    text = f"c 00 12\n{first}c 02 12\nc 00 12\n{rows}c 02 12\nc 00 12\nend\n"
+    capture = program("damage", f"2:{10 * (60 + 8 + 2)}:300", source=program("make", "link", source=text.encode()))
+    link = program("recover", "link", source=capture, status=1)
+    came = [tool("pictures", tmp_path / name, "--mark", source=it, status=1).stderr for name, it in (("capture", capture), ("link", link))]
+    assert came[0] == came[1] and came[0].endswith(b"\n1 frames, 1 faults in them, 0 others\n")
+    assert (tmp_path / "capture" / "frame0000.png").read_bytes() == (tmp_path / "link" / "frame0000.png").read_bytes()
+    assert b"no whole capture" in tool("pictures", tmp_path / "none", source=capture[:-1], status=3).stderr

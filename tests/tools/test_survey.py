@@ -142,6 +142,18 @@ def test_what_is_done_and_unchanged_is_kept(tool, folder, program, tmp_path):
     assert came.stderr == b"1 captures, 1 judged now: 1 clean\n" and len(rows_of(table)) == 1
 
 
+def test_kept_rows_gain_the_timing(tool, folder, tmp_path):
+    """A row of a survey without it is judged again where it is asked, but for what has none."""
+    table, words = tmp_path / "survey.csv", ["--program", built()]
+    places = [folder / name for name in ("red00.tmc", "pixel.tmc", "none.tmc", "short.tmc")]
+    assert b"4 captures, 4 judged now" in tool("survey", *places, "-o", table, *words, status=1).stderr
+    assert {row["format"] for row in rows_of(table).values()} == {""}
+    for judged, more in ((2, ["--timing"]), (0, ["--timing"]), (0, [])):
+        assert b"4 captures, %d judged now" % judged in tool("survey", *places, "-o", table, *words, *more, status=1).stderr
+        formats = {name: row["format"] != "" for name, row in rows_of(table).items()}
+        assert formats == {"red00.tmc": True, "pixel.tmc": True, "none.tmc": False, "short.tmc": False}
+
+
 @pytest.mark.skipif(shutil.which("taskset") is None, reason="taskset of util-linux is missing")
 def test_one_processor_each(tool, folder, tmp_path):
     """Each run of the program has one of the processors that the survey may use, and each of these is used."""

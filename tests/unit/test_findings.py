@@ -30,8 +30,8 @@ def found():
 def test_periods(found):
     read = found("c 00 4\nc 04 8\nv ff0000\nc 00 12")
     assert [PERIODS[kind] for kind in read.periods["kind"]] == ["control", "control", "video", "control"]
-    assert read.periods["at"] == [0, 4, 12, 15] and read.periods["columns"] == [4, 8, 3, 12]
-    assert read.periods["value"] == [0, 4, 1, 0] and read.periods["line"] == [1, 2, 3, 4]
+    assert [*read.periods["at"]] == [0, 4, 12, 15] and [*read.periods["columns"]] == [4, 8, 3, 12]
+    assert [*read.periods["value"]] == [0, 4, 1, 0] and [*read.periods["line"]] == [1, 2, 3, 4]
     assert (read.columns, read.aligned_columns, read.rows, read.is_certain) == (27, 27, 1, True)
     assert read.text.lines == ["c 00 4", "c 04 8", "v ff0000", "c 00 12", "end"] and read.frames == [(1, 1, False, 0, None)]
 

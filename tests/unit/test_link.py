@@ -73,10 +73,32 @@ def test_a_slip_begins_anew():
 
 
 def test_lines_of_one_length_are_counted_over_noise():
-    """Two lines of 100 columns were seen; behind noise HSYNC rises a whole number of lines later."""
+    """Two lines of 100 columns were seen; behind noise HSYNC rises most likely a whole number of lines later, up to a line that names a
+    column."""
     line = "c 01 10\nc 00 90\n"
-    found = things(line * 3 + "c 01 10\n! noise 310\nc 00 50\nc 01 10")
-    assert (found[-1].column, found[-1].is_exact) == (400, True)
+    text = line * 3 + "c 01 10\n! noise 310\nc 00 50\nc 01 10"
+    found = things(f"{text}\nc 00 20\n! noise 433\nc 00 12")
+    assert [(it.column, it.is_exact, it.is_guess) for it in found[-4:]] == [
+        (400, False, True),
+        (410, False, True),
+        (433, True, False),
+        (434, False, False),
+    ]
+
+
+def test_where_columns_are_not_certain():
+    """From noise on up to a line that names a column."""
+    columns = Columns()
+    assert len([*columns.things(lines_of("c 00 12\n! noise 12\nc 00 4\n! short 40\nc 00 1\n! noise 41\nc 00 3"))]) == 7
+    assert (columns.doubts.begins, columns.doubts.ends) == ([13, 42], [40])
+    assert [columns.doubts.named(at) for at in (12, 13, 39, 40, 41, 1042)] == [
+        "column 12",
+        "about column 13",
+        "about column 39",
+        "column 40",
+        "column 41",
+        "about column 1,042",
+    ]
 
 
 @pytest.mark.parametrize(

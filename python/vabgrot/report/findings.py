@@ -1,14 +1,21 @@
 """What a link listing tells, gathered for a page: periods, faults, frames, packets, samples, and the lines
 themselves."""
 
+from __future__ import annotations
+
+from array import array
 from collections import Counter
 from dataclasses import dataclass, field
 from typing import Generic, Protocol, TypedDict, TypeVar
 
+import numpy as np
+
 from vabgrot import packets
+from vabgrot.batch import Batch, Gathering
+from vabgrot.contents import Contents
 from vabgrot.formats.characters import TEN
 from vabgrot.formats.faults import LANED, OF_PACKET, UNCOUNTED
-from vabgrot.link import Frame, Frames, Thing
+from vabgrot.link import CLOSE, CONTROL, ISLAND_PACKET, KINDS as LISTED, OPEN, VIDEO, Columns, Doubts, Frame, Frames, Thing
 from vabgrot.report.fields import Fields
 from vabgrot.report.sound import Sound
 from vabgrot.video import images
@@ -20,29 +27,57 @@ PERIODS = ("control", "video", "packet", "open", "close", "unknown", "unaligned"
 NUMBERS = {name: number for number, name in enumerate(PERIODS)}
 FULL_TEXT = 1_000_000  # bytes up to which the listing is kept whole
 FIRST_DIGITS = 48  # of a long row
+MOST_KNOWN = 4096  # unlike packets whose content is kept
+DIGITS = bytes(ord("0123"[value & 3]) for value in range(256))  # of sync values
+KINDS = {name: PERIODS.index(name) for name in ("control", "video", "packet", "open", "close")}
+OF_KIND = np.array([KINDS.get(name, 0) for name in LISTED], np.int64)  # the period that a line of a batch is
 
 
-@dataclass
 class Text:
     """The lines of the listing: whole where it is short, else without the pixels behind the first ones of a row."""
 
-    full: list[str] = field(default_factory=list)
-    short: list[str] = field(default_factory=list)
-    size: int = 0  # bytes
+    def __init__(self) -> None:
+        self.short: list[str] = []
+        self.rows: dict[int, str] = {}  # whole long rows, by the numbers of their lines from 0, as long as the listing is short
+        self.size = 0  # bytes
+        self.controls: dict[tuple[int, int], str] = {}  # each control line once, by its value and columns
 
-    def add(self, name: str, fields: list[str]) -> None:
-        """The next line."""
-        if name == "v" and len(fields) == 1 and len(fields[0]) > FIRST_DIGITS + 24:
-            digits = fields[0]
-            self.size += len(digits) + 3
-            short = f"v {digits[:FIRST_DIGITS]}.. ({len(digits) // 6} pixels)"
-            line = f"v {digits}" if self.size <= FULL_TEXT else short
-        else:
-            line = short = " ".join((name, *fields))
-            self.size += len(line) + 1
-        if self.size <= FULL_TEXT:
-            self.full.append(line)
-        self.short.append(short)
+    def take(self, batch: Batch) -> None:
+        """The next lines."""
+        kinds = batch.kinds
+        lines = [""] * len(kinds)
+        controls, rows = np.flatnonzero(kinds == CONTROL).tolist(), np.flatnonzero(kinds == VIDEO).tolist()
+        known = self.controls
+        for place, key in zip(controls, zip(batch.values[controls].tolist(), batch.columns[controls].tolist())):
+            lines[place] = known.get(key) or known.setdefault(key, f"c {key[0]:02x} {key[1]}")
+        for place in np.flatnonzero((kinds == OPEN) | (kinds == CLOSE)).tolist():
+            value = int(batch.values[place])
+            lines[place] = f"{'i' if kinds[place] == OPEN else 'e'} {value & 3}{value >> 2}"
+        for place in np.flatnonzero(kinds == ISLAND_PACKET).tolist():
+            lines[place] = packet_line(batch, place)
+        for place, thing in batch.special:
+            lines[place] = f"cut {thing.column}" if thing.kind == "cut" else " ".join(("!", *map(str, thing.fields)))
+        for place, at, pixels in zip(rows, batch.offsets[rows].tolist(), batch.values[rows].tolist()):
+            lines[place] = self.row(len(self.short) + place, batch.data, at, pixels)
+        self.size += sum(map(len, lines)) + len(lines)
+        self.short += lines
+        if not self.is_whole:
+            self.rows.clear()
+
+    def row(self, number: int, data: bytes, at: int, pixels: int) -> str:
+        """A row, without most of its digits where it is long; these are kept as long as the listing is short."""
+        if 6 * pixels <= FIRST_DIGITS + 24:
+            return f"v {data[at : at + 3 * pixels].hex()}"
+        short = f"v {data[at : at + FIRST_DIGITS // 2].hex()}.. ({pixels} pixels)"
+        self.size += len("v ") + 6 * pixels - len(short)
+        if self.is_whole:
+            self.rows[number] = f"v {data[at : at + 3 * pixels].hex()}"
+        return short
+
+    def end(self) -> None:
+        """The line `end`."""
+        self.short.append("end")
+        self.size += len("end\n")
 
     @property
     def is_whole(self) -> bool:
@@ -52,7 +87,43 @@ class Text:
     @property
     def lines(self) -> list[str]:
         """The lines, whole or short."""
-        return self.full if self.is_whole else self.short
+        rows = self.rows if self.is_whole else {}
+        return [rows.get(place, line) for place, line in enumerate(self.short)] if rows else self.short
+
+
+def packet_line(batch: Batch, place: int) -> str:
+    """A line of a packet."""
+    packet = batch.packet(place)
+    return " ".join(("p", packet.header.hex(), *(body.hex() for body in packet.bodies), batch.syncs(place).translate(DIGITS).decode()))
+
+
+LEFT, RIGHT = 0x0F << 48 | 0xFFFFFF, 0xF0 << 48 | 0xFFFFFF << 24  # the bits of a side in the body of a sample
+
+
+class Told:
+    """What packets carry, each once: of those of samples without a wrong parity in words alone."""
+
+    def __init__(self) -> None:
+        self.known: dict[bytes, packets.Content] = {}
+
+    def of(self, packet: packets.Packet) -> packets.Content:
+        """What a packet carries."""
+        key = packet.header if packet.kind == 2 and are_even(packet) else packet.header + packet.bytes
+        found = self.known.get(key)
+        if found is None:
+            found = packets.content_of(packet)
+            if len(self.known) < MOST_KNOWN:
+                self.known[key] = found
+        return found
+
+
+def are_even(packet: packets.Packet) -> bool:
+    """Whether each side of each sample of a packet of these has an even number of ones."""
+    for number, body in enumerate(packet.bodies):
+        bits = int.from_bytes(body, "little")
+        if packet.header[1] >> number & 1 and ((bits & LEFT).bit_count() | (bits & RIGHT).bit_count()) & 1:
+            return False
+    return True
 
 
 @dataclass
@@ -69,10 +140,10 @@ class Received:
     verdicts: list[str] = field(default_factory=lambda: ["clean"] * 5)
     symbols: int = 0
 
-    def read(self) -> None:
+    def read(self, told: Told) -> None:
         """Reads the content, where no block is lost."""
         if "lost" not in self.verdicts:
-            self.content = packets.content_of(self.packet)
+            self.content = told.of(self.packet)
 
     @property
     def words(self) -> str:
@@ -100,11 +171,16 @@ class Periods(TypedDict):
     """A table of periods, column by column: its kind as a number of PERIODS, its first column, how many it has, its line of the
     listing, and what it has: the value of control columns, the pixels of a row, the first byte of a packet."""
 
-    kind: list[int]
-    at: list[int]
-    columns: list[int]
-    line: list[int]
-    value: list[int]
+    kind: array[int]
+    at: array[int]
+    columns: array[int]
+    line: array[int]
+    value: array[int]
+
+
+def tables_of(periods: Periods) -> list[array[int]]:
+    """The columns of the table."""
+    return [periods["kind"], periods["at"], periods["columns"], periods["line"], periods["value"]]
 
 
 class Faults(TypedDict):
@@ -136,14 +212,15 @@ class Show(Protocol[Shows]):
 
 
 class Findings(Generic[Shown]):
-    """Takes the lines of a link listing, one after another, and gives each frame to `show` when it ends."""
+    """Takes the lines of a link listing in batches, and gives each frame to `show` when it ends."""
 
-    def __init__(self, show: Show[Shown], is_dvi: bool | None = None) -> None:
+    def __init__(self, show: Show[Shown], is_dvi: bool | None = None, counter: Columns | None = None) -> None:
         self.show, self.frames_of, self.text, self.sound = show, Frames(is_dvi), Text(), Sound()
-        self.meter, self.signals = Meter(), Signals()
+        self.frames_of.columns = counter or self.frames_of.columns
+        self.meter, self.signals, self.contents = Meter(), Signals(), Contents()
         self.fields = Fields()
         self.colour_notes: dict[str, None] = {}  # what is assumed of whole frames, once each
-        self.periods = Periods(kind=[], at=[], columns=[], line=[], value=[])
+        self.periods = Periods(kind=array("q"), at=array("q"), columns=array("q"), line=array("q"), value=array("q"))
         self.faults = Faults(kind=[], lane=[], at=[], epoch=[], column=[], line=[], more=[], frame=[], x=[], y=[], rgb=[])
         self.counts: Counter[tuple[str, int | None]] = Counter()  # of a link's faults, by kind and lane
         self.content_counts: Counter[str] = Counter()
@@ -151,16 +228,22 @@ class Findings(Generic[Shown]):
         self.frames: list[Shown] = []
         self.pending: list[int] = []  # the faults among the rows of the frame that has not ended
         self.last: Received | None = None  # the packet of which more may be said
+        self.told = Told()
         self.epochs, self.rows, self.vic = [Epoch()], 0, 0
         self.cut: Thing | None = None
         self.unknown = -1  # the last period whose length is not known
         self.is_certain = True
+        self.columns = 0  # so far, over all epochs
 
     @property
-    def columns(self) -> int:
-        """The columns so far, over all epochs."""
-        counter = self.frames_of.columns
-        return counter.before + counter.column
+    def counter(self) -> Columns:
+        """What counts the columns of a text."""
+        return self.frames_of.columns
+
+    @property
+    def doubts(self) -> Doubts:
+        """Which columns are not certain, since some before them could not be counted."""
+        return self.counter.doubts
 
     @property
     def aligned_columns(self) -> int:
@@ -168,47 +251,79 @@ class Findings(Generic[Shown]):
         return self.columns - sum(epoch.hidden_columns for epoch in self.epochs)
 
     def take(self, line: int, name: str, fields: list[str]) -> None:
-        """The next line, given its number, its name and its fields."""
-        columns = self.frames_of.columns
-        thing = columns.take(line, name, fields)
-        if self.last is not None and thing.fault not in OF_PACKET:
-            self.settle()
-        self.text.add(name, fields)
-        self.meter.take(thing)
-        if columns.missed:
-            self.shift(columns.missed)
-        kind = thing.kind
-        if kind != "slip":
+        """The next line of a text, given its number, its name and its fields."""
+        gathering, columns = Gathering(), self.counter
+        gathering.take(columns.take(line, name, fields), columns.missed)
+        self.take_batch(gathering.batch(columns.before + columns.column))
+
+    def take_batch(self, batch: Batch) -> None:
+        """The next lines. Frames end, and faults are told, at single places; what stands between two of them is taken together."""
+        self.columns = batch.end
+        self.text.take(batch)
+        self.meter.take_batch(batch)
+        self.contents.take(batch)
+        changes, special, missed = dict(self.frames_of.vsync.changes(batch)), dict(batch.special), dict(batch.missed)
+        begin = 0
+        for place in sorted({*changes, *special, *missed}):
+            thing = special.get(place)
+            self.regular(batch, begin, place)
+            if thing is None or thing.fault not in OF_PACKET:
+                self.settle()
+            begin = place
+            if place in missed:
+                self.shift(missed[place])
+            if place in changes:
+                self.change(batch, place, changes[place])
+            elif thing:
+                self.take_special(thing)
+                begin = place + 1
+        self.regular(batch, begin, len(batch))
+
+    def change(self, batch: Batch, place: int, streak: int) -> None:
+        """VSYNC changed among control columns, of which so many have its value."""
+        behind = int(batch.at[place] + batch.columns[place]) - batch.before
+        ended = self.frames_of.begin(behind - streak if batch.certain[place] else None)
+        if ended:
+            self.end_frame(ended, int(batch.at[place]))
+
+    def take_special(self, thing: Thing) -> None:
+        """A fault, a slip or a cut."""
+        if thing.kind != "slip":
             self.epochs[-1].is_aligned = True
-        ended = self.frames_of.take(thing)
+        ended = self.frames_of.special(thing)
         if ended:
             self.end_frame(ended, thing.at)
-        if kind in ("fault", "slip"):
-            self.fault(thing)
-        elif kind == "cut":
+        if thing.kind == "cut":
             self.cut = thing
         else:
-            self.period(thing)
+            self.fault(thing)
+
+    def regular(self, batch: Batch, begin: int, stop: int) -> None:
+        """Lines of a batch among which no frame ends and no fault stands."""
+        if begin == stop:
+            return
+        self.epochs[-1].is_aligned = True
+        lines = slice(begin, stop)
+        kinds = batch.kinds[lines]
+        rows = begin + np.flatnonzero(kinds == VIDEO)
+        self.rows += len(rows)
+        self.frames_of.rows(batch, rows)
+        for place in (begin + np.flatnonzero(kinds == ISLAND_PACKET)).tolist():
+            self.settle()
+            column = int(batch.at[place])
+            self.last = Received(batch.first + place, batch.epoch, column - batch.before, column, batch.packet(place))
+        if kinds[-1] != ISLAND_PACKET:
+            self.settle()
+        values = np.where((kinds == OPEN) | (kinds == CLOSE), 0, batch.values[lines])
+        lists = OF_KIND[kinds], batch.at[lines], batch.columns[lines], np.arange(batch.first + begin, batch.first + stop), values
+        for table, numbers in zip(tables_of(self.periods), lists):
+            table.frombytes(numbers.tobytes())
 
     def shift(self, columns: int) -> None:
         """The last period whose length is not known has so many columns more, and all behind it begins as much later."""
         if columns and self.unknown >= 0:
             for number in range(self.unknown + 1, len(self.periods["at"])):
                 self.periods["at"][number] += columns
-
-    def period(self, thing: Thing) -> None:
-        """Control columns, a row, or what an island is of."""
-        kind, value = thing.kind, 0
-        if kind == "control":
-            value = thing.value
-        elif kind == "video":
-            self.rows += 1
-            value = thing.pixels
-        elif kind == "packet":
-            packet = packets.packet_of(thing.texts, thing.line)
-            self.last = Received(thing.line, thing.epoch, thing.column, thing.at, packet)
-            value = packet.kind
-        self.add_period(kind, thing.at, thing.columns, thing.line, value)
 
     def add_period(self, kind: str, at: int, columns: int, line: int, value: int) -> None:
         """A row of the table of periods."""
@@ -239,7 +354,7 @@ class Findings(Generic[Shown]):
         received, self.last = self.last, None
         if received is None:
             return
-        received.read()
+        received.read(self.told)
         self.packets.append(received)
         content, packet = received.content, received.packet
         if content is None:
@@ -286,7 +401,8 @@ class Findings(Generic[Shown]):
         if not epoch.is_aligned and end > epoch.place:
             epoch.hidden = end - epoch.place
             self.add_period("unaligned", self.columns, epoch.hidden_columns, 0, 0)
-            self.frames_of.columns.leave_out(epoch.hidden_columns)
+            self.counter.leave_out(epoch.hidden_columns)
+            self.columns += epoch.hidden_columns
 
     @staticmethod
     def judge(packet: Received, kind: str, more: list[int]) -> None:
@@ -339,9 +455,9 @@ class Findings(Generic[Shown]):
     def finish(self, is_whole: bool, bits: int) -> None:
         """No more lines come; a whole listing has its line `end`. `bits` are those of the longest lane."""
         if is_whole:
-            self.text.add("end", [])
+            self.text.end()
         self.settle()
-        self.is_certain &= self.frames_of.columns.is_exact
+        self.is_certain &= self.counter.is_exact
         self.stretch()
         frame = self.frames_of.finish()
         if frame:
@@ -349,10 +465,19 @@ class Findings(Generic[Shown]):
         self.fields.end()
         if is_whole and len(self.epochs) > 1:
             self.hide(bits)
+        if len(self.epochs) == 1 and not self.counter.is_dvi:
+            self.count_contents()
+
+    def count_contents(self) -> None:
+        """The faults of the contents of a capture without slips are those of `recover content`, which knows of no slips and reads HDMI
+        alone; frames of deep colour, of which it counts the columns, are compared with their InfoFrame by their pixels."""
+        sizes = self.content_counts["vic"]
+        self.content_counts = self.contents.told
+        if self.signals.depth:
+            self.content_counts["vic"] = sizes
 
     def stretch(self) -> None:
         """What could not be counted goes on until the next period."""
-        ends = [*self.periods["at"][1:], self.columns]
-        for number, kind in enumerate(self.periods["kind"]):
-            if kind == PERIODS.index("unknown"):
-                self.periods["columns"][number] = max(1, ends[number] - self.periods["at"][number])
+        at, columns = self.periods["at"], self.periods["columns"]
+        for number in np.flatnonzero(np.array(self.periods["kind"]) == NUMBERS["unknown"]).tolist():
+            columns[number] = max(1, (at[number + 1] if number + 1 < len(at) else self.columns) - at[number])

@@ -48,16 +48,17 @@ def rules_of(record: Record, clock: float | None, measured: list[Timing]) -> lis
 
 
 class Characters:
-    """The characters at the faults of a capture, up to its first slip: behind that columns begin elsewhere."""
+    """The characters at the faults of a capture, up to its first slip: behind that columns begin elsewhere. `by_guards` is whether columns
+    begin at the alignment that a guard band confirms."""
 
-    def __init__(self, path: Path, found: Findings[Any], record: Record) -> None:
+    def __init__(self, path: Path, found: Findings[Any], record: Record, by_guards: bool) -> None:
         self.path, self.found = path, found
         self.end = found.epochs[1].at if len(found.epochs) > 1 else record.columns
         self.spans = record.spans.before(self.end)
         self.columns: Columns | None = None
         if self.spans.faults:
             try:
-                self.columns = Columns(path)
+                self.columns = Columns(path, by_guards)
             except ValueError:
                 pass
 

@@ -51,6 +51,13 @@ class Sound:
             self.bodies += packet.bytes
             self.samples += bool(present & 15) if present & 16 else (present & 15).bit_count()
 
+    def take_samples(self, octets: Bytes) -> None:
+        """The next packets of samples: of each a row of its header and its bodies."""
+        self.headers += octets[:, :3].tobytes()
+        self.bodies += octets[:, 3:].tobytes()
+        present = octets[:, 1, None] >> np.arange(packets.PAIRS) & 1
+        self.samples += int(np.where(octets[:, 1] >> 4 & 1, present.any(axis=1), present.sum(axis=1)).sum())
+
     def infoframe(self, packet: packets.Packet) -> None:
         """An audio InfoFrame."""
         if self.allocation is None:

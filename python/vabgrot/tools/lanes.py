@@ -17,8 +17,8 @@ from vabgrot.replacing import replacing
 
 MIRROR = bytes(int(f"{byte:08b}"[::-1], 2) for byte in range(256))
 TEXT = """Makes a capture of three files of raw bits, as a logic analyser or an FPGA dumps them (pack), writes a capture's
-lanes back to three files (unpack), cuts lanes at their beginning (cut), or says of each lane of a capture whether control
-characters are found in it (look)."""
+lanes back to three files (unpack) or as raw blocks, once or again and again (blocks), cuts lanes at their beginning (cut),
+or says of each lane of a capture whether control characters are found in it (look)."""
 PACK = """Reads three files of raw bits, writes the capture to standard output. The first bit of a lane is bit 0 of its
 first byte, or with --msb bit 7. Lanes of one length make a capture of version 1, others one of version 2. A file that is
 named twice is refused."""
@@ -26,6 +26,10 @@ UNPACK = """Reads a capture from standard input, writes three files of raw bits,
 that is named twice is refused."""
 CUT = """Reads a capture, writes it to standard output without the first bits of each lane: of a late lane those by which
 it is late. What passes a lane's end is refused."""
+BLOCKS = """Reads a capture, writes its lanes to standard output as `tools/watch --raw` reads them: three lanes of 4,096 bytes
+in turn, without a header. All lanes end with the shortest one, and with its last whole byte. With --repeat the bits of each
+lane follow one another again and again, with no byte between: where they are whole characters, as those of some frames that
+--bits names, the link goes on there. Whoever reads no more ends it."""
 LOOK = """Says of each lane of a capture where twelve control characters first stand in a row and what control periods end
 in, with its bits as they are and with the bits of each byte, or of each ten from whichever bit on, turned round; then
 which order and polarity of the lanes makes the openings of lines and islands right, and with which commands the capture
@@ -38,6 +42,7 @@ tools/lanes pack --order 1,0,2 --invert 2 blue.bin green.bin red.bin > mixed.tmc
 tools/lanes unpack --words 10 blue.hex green.hex red.hex < bars.tmc
 tools/lanes pack --words 10 --bits 54320 blue.hex green.hex red.hex > again.tmc
 tools/lanes cut bars.tmc --from 3,0,0 > early.tmc
+tools/lanes blocks bars.tmc --bits 54000 --repeat 5 > bars.raw
 tools/lanes look mixed.tmc || echo it has to be packed anew"""
 
 
@@ -47,6 +52,14 @@ def bit_counts(text: str) -> list[int]:
     if len(counts) not in (1, 3):
         raise ArgumentTypeError("one number is wanted, or three with commas between them")
     return counts * (3 // len(counts))
+
+
+def one_number(text: str) -> int:
+    """A number of bits or of times, at least 1."""
+    (number, *others) = command.numbers(text, MOST_BITS)
+    if others or not number:
+        raise ArgumentTypeError(f"a number of 1 to {MOST_BITS} is wanted")
+    return number
 
 
 def lane_numbers(text: str) -> list[int]:
@@ -156,6 +169,18 @@ def cut(args: Namespace) -> int:
     return command.DONE
 
 
+def blocks(args: Namespace) -> int:
+    """The lanes of a capture as raw blocks."""
+    with open(args.capture, "rb") as file:
+        lanes, counts = capture.lanes_of(file.read())
+    bits = min(counts) if args.bits is None else args.bits
+    if bits > min(counts):
+        raise Refused(f"{args.capture}: a lane has {min(counts)} bits, and {bits} are wanted")
+    for piece in with_numpy("repeating").pieces(lanes, bits, args.repeat):
+        sys.stdout.buffer.write(piece)
+    return command.DONE
+
+
 def look(args: Namespace) -> int:
     """What the lanes of a capture look like."""
     looking = with_numpy("looking")
@@ -190,9 +215,16 @@ def add_pack_words(words: ArgumentParser) -> None:
     words.add_argument("--order", type=order, default=[0, 1, 2], metavar="L,L,L", help=text)
 
 
+def add_blocks_words(words: ArgumentParser) -> None:
+    """Those of blocks alone."""
+    words.add_argument("--bits", type=one_number, metavar="B", help="the first bits of each lane alone")
+    text = "each lane so many times; without a number again and again, until nothing reads it"
+    words.add_argument("--repeat", type=one_number, nargs="?", const=None, default=1, metavar="N", help=text)
+
+
 def work(argv: Sequence[str] | None) -> int:
     parser = command.parser("lanes", TEXT, "for look, where the capture is not right as it is", EXAMPLES)
-    parsers = parser.add_subparsers(required=True, metavar="pack|unpack|cut|look")
+    parsers = parser.add_subparsers(required=True, metavar="pack|unpack|blocks|cut|look")
 
     def add(name: str, work: Callable[[Namespace], int], says: str, text: str) -> ArgumentParser:
         words = parsers.add_parser(name, help=says, description=text)
@@ -205,6 +237,7 @@ def work(argv: Sequence[str] | None) -> int:
         if its_work is pack:
             add_pack_words(words)
     for name, its_work, says, text in (
+        ("blocks", blocks, "writes a capture's lanes as raw blocks", BLOCKS),
         ("cut", cut, "cuts lanes at their beginning", CUT),
         ("look", look, "says why a capture has no alignment", LOOK),
     ):
@@ -212,6 +245,8 @@ def work(argv: Sequence[str] | None) -> int:
         words.add_argument("capture", metavar="CAPTURE", help="the file of a capture")
         if its_work is look:
             words.add_argument("--json", action="store_true", help="write JSON in place of text")
+        if its_work is blocks:
+            add_blocks_words(words)
         if its_work is cut:
             text = "the bit of each lane, or of all of them, with which it is to begin"
             words.add_argument("--from", type=bit_counts, required=True, dest="starts", metavar="P[,P,P]", help=text)

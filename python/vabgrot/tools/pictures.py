@@ -11,11 +11,12 @@ from typing import BinaryIO
 
 from tqdm import tqdm
 
-from vabgrot import command, listing, packets
+from vabgrot import command, listing, packets, reading
 from vabgrot.errors import Refused
 from vabgrot.formats import modes
 from vabgrot.formats.faults import OF_PACKET, OF_PICTURE
 from vabgrot.link import Columns, Frames, Thing
+from vabgrot.reading import ByLibrary, ByProgram
 from vabgrot.replacing import replacing
 from vabgrot.video import images
 from vabgrot.video.colours import Signal
@@ -23,16 +24,17 @@ from vabgrot.video.images import Picture
 from vabgrot.video.signals import Reading, Signals
 from vabgrot.video.weaving import Pair, Weaver, lines_down
 
-TEXT = """Reads a content listing or a link listing (of HDMI or of DVI) from standard input and writes each of its
-frames as DIR/frame0000.png and so on. The frames of a link listing are the lines between two changes of VSYNC. Faults that touch
-a frame are counted on standard error.
+TEXT = """Reads a capture, a content listing or a link listing (of HDMI or of DVI) from standard input and writes each of its
+frames as DIR/frame0000.png and so on. The frames of a capture and of a link listing are the lines between two changes of VSYNC.
+Faults that touch a frame are counted on standard error. A capture of which the first alignment was wrong is read anew, where the
+program has `recover relock`, which is said.
 
 Pixels are shown in the colours that the AVI InfoFrame and the general control packets tell: YCbCr 4:4:4 and 4:2:2 of BT.601,
 BT.709 or BT.2020, limited or full range, deep colour (a PNG file of 16 bits a component), repeated pixels once. What they do not
-tell is assumed, which is said on standard error. The two fields of an interlaced frame are woven into one picture where a link
-listing tells which is the upper. With --raw pictures have the bytes that are listed."""
+tell is assumed, which is said on standard error. The two fields of an interlaced frame are woven into one picture where a
+capture or a link listing tells which is the upper. With --raw pictures have the bytes that are listed."""
 EXAMPLES = """./vabgrot make content < examples/bars.content > bars.tmc
-./vabgrot recover content < bars.tmc | tools/pictures pictures"""
+tools/pictures pictures < bars.tmc"""
 FIELDS = """a content listing does not tell which of two fields is the upper, so each is a picture of its own; of a link listing
 they are woven"""
 Line = tuple[int, str, list[str]]
@@ -66,13 +68,18 @@ class Listed:
     """The lines of a content listing, or those that a link listing has in its place: with each packet that has no lost block (`p`), and
     before the end of a frame the lines from VSYNC down to its first row (`down`), where they are known."""
 
-    def __init__(self, source: BinaryIO, places: Places) -> None:
+    def __init__(self, source: BinaryIO | ByLibrary | ByProgram, places: Places) -> None:
         self.source, self.places = source, places
         self.is_link = self.is_dvi = False
         self.packet: Line | None = None
+        self.row = b""  # of a link listing the last row
 
     def __iter__(self) -> Iterator[Line]:
-        """The first line that is no fault tells which listing it is."""
+        """Of a text the first line that is no fault tells which listing it is."""
+        if isinstance(self.source, ByLibrary | ByProgram):
+            self.is_link = True
+            things = chain.from_iterable(batch.things() for batch in self.source.batches())
+            return self.content(things, Frames(self.source.columns.is_dvi))
         lines = listing.lines(self.source, listing.EITHER)
         first = []
         for line in lines:
@@ -81,12 +88,12 @@ class Listed:
                 break
         self.is_link = bool(first) and first[-1][1] in listing.LINK
         whole = listing.of_kind(chain(first, lines), listing.LINK if self.is_link else listing.CONTENT)
-        return self.content(whole) if self.is_link else iter(whole)
-
-    def content(self, lines: Iterable[Line]) -> Iterator[Line]:
-        """The lines that stand for those of a link listing; the pixels of faulty columns go into `places`."""
         frames = Frames()
-        for thing in frames.columns.things(lines):
+        return self.content(frames.columns.things(whole), frames) if self.is_link else iter(whole)
+
+    def content(self, things: Iterable[Thing], frames: Frames) -> Iterator[Line]:
+        """The lines that stand for those of a link listing; the pixels of faulty columns go into `places`."""
+        for thing in things:
             yield from self.packets(thing)
             ended = frames.take(thing)
             self.is_dvi = bool(frames.columns.is_dvi)
@@ -96,7 +103,8 @@ class Listed:
                     yield thing.line, "down", [str(down)]
                 yield thing.line, "frame", [str(ended.width), str(len(ended.rows))]
             elif thing.kind == "video" and frames.frame.is_whole:
-                yield thing.line, "row", [thing.digits]
+                self.row = thing.row
+                yield thing.line, "row", []
                 if frames.frame.is_ragged:
                     yield thing.line, "!", ["ragged", str(len(frames.frame.rows) - 1)]
             elif thing.kind == "slip":
@@ -130,7 +138,8 @@ class Pictures:
     def take(self, line: int, name: str, fields: list[str]) -> None:
         """A line."""
         if name == "row":
-            self.frame.rows.append(listing.digits(listing.fields_of(fields, 1, line)[0], 3, line))
+            is_link = self.listed.is_link
+            self.frame.rows.append(self.listed.row if is_link else listing.digits(listing.fields_of(fields, 1, line)[0], 3, line))
         elif name == "down":
             self.frame.down = Fraction(fields[0])
         elif name == "frame":
@@ -227,6 +236,15 @@ def clear(folder: Path, force: bool) -> None:
         path.unlink()
 
 
+def write(pictures: Pictures, force: bool) -> None:
+    """Writes all frames."""
+    pictures.folder.mkdir(parents=True, exist_ok=True)
+    clear(pictures.folder, force)
+    for line, name, fields in tqdm(pictures.listed, unit="line", disable=None):
+        pictures.take(line, name, fields)
+    pictures.leave()
+
+
 def work(argv: list[str] | None) -> int:
     """The tool's work: its status."""
     parser = command.parser("pictures", TEXT, "done, and a fault touched a frame", EXAMPLES)
@@ -239,17 +257,19 @@ def work(argv: list[str] | None) -> int:
     parser.add_argument("--link", metavar="FILE", help=text)
     parser.add_argument("--raw", action="store_true", help="show the bytes that are listed as red, green and blue")
     parser.add_argument("--fields", action="store_true", help="write the fields of interlaced video as pictures of their own")
+    parser.add_argument("--dvi", action="store_true", help="the capture is one of DVI, without guard bands and islands")
     parser.add_argument("--force", action="store_true", help="clear frames that an earlier run left in the folder")
     args = parser.parse_args(argv)
     if args.link and not args.mark:
         parser.error("--link is of use with --mark alone")
-    listed = Listed(sys.stdin.buffer, pixel_places(args.link) if args.link else {})
-    pictures = Pictures(args.dir, listed, args.mark, args.raw, not (args.raw or args.fields))
-    args.dir.mkdir(parents=True, exist_ok=True)
-    clear(args.dir, args.force)
-    for line, name, fields in tqdm(listed, unit="line", disable=None):
-        pictures.take(line, name, fields)
-    pictures.leave()
+    places = pixel_places(args.link) if args.link else {}
+    with reading.capture_in(sys.stdin.buffer) as path:
+        it = reading.opened(reading.words_for(path, args.dvi), path) if path else None
+        pictures = Pictures(args.dir, Listed(it or sys.stdin.buffer, places), args.mark, args.raw, not (args.raw or args.fields))
+        write(pictures, args.force)
+    if it:
+        reading.check_whole(it)
+        reading.tell(it)
     for text, first in pictures.notes.items():
         print(f"frame {first}: {text}", file=sys.stderr)
     if pictures.left:

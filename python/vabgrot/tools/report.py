@@ -8,7 +8,6 @@ import zlib
 from base64 import b64encode
 from collections import Counter
 from collections.abc import Iterator, Sequence
-from concurrent.futures import ThreadPoolExecutor
 from contextlib import contextmanager
 from itertools import accumulate
 from pathlib import Path
@@ -16,9 +15,8 @@ from typing import Any, NamedTuple, TypedDict
 
 import jinja2
 from markupsafe import Markup
-from tqdm import tqdm
 
-from vabgrot import command, listing, packets, place, program
+from vabgrot import command, packets, place, program, reading
 from vabgrot.errors import Refused
 from vabgrot.formats.faults import BY_ROW, CONTENT, OF_SKEW
 from vabgrot.formats.modes import of_vic
@@ -26,10 +24,11 @@ from vabgrot.infoframes import Row, mode_name
 from vabgrot.lanes import openings
 from vabgrot.judging.verdicts import total_of
 from vabgrot.link import Frame
+from vabgrot.reading import ANEW, RELOCK, Reading
 from vabgrot.replacing import replacing
 from vabgrot.report import bursts, judged
 from vabgrot.report.album import Album
-from vabgrot.report.findings import Findings
+from vabgrot.report.findings import Findings, tables_of
 from vabgrot.report.sound import Told
 from vabgrot.video.colours import DEPTHS, Signal
 from vabgrot.video.matching import SIZES, Rate, Timing, change_note, timings
@@ -39,7 +38,8 @@ TEXT = """Writes a page that shows what a capture carried: the verdict, the vide
 frame with its damaged pixels marked, a timeline, the packets in words, the sound, each fault (those of a burst in one
 row) and the listing. The verdict is clean, faulty, or that the link is clean and its contents are not (a checksum or a
 parity is wrong, or a frame has another size than its InfoFrame says). It is one file that needs no network. Bit slips
-are followed where the program has `recover track`."""
+are followed where the program has `recover track`; where the first alignment was wrong the capture is read anew, where it has
+`recover relock`."""
 PAGE = Path(bursts.__file__).resolve().parent / "page"
 SCRIPTS = ("tables.js", "sound.js", "report.js")
 PLACES = ("on lane 0 (blue)", "on lane 1 (green)", "on lane 2 (red)", "of no lane")
@@ -63,6 +63,9 @@ FAR = """At the skew {best} {openings} openings have their preamble and their gu
 not aligned."""
 LATER = """A lane likely lost or repeated whole characters between the places {last} and {first} of lane 0, which “recover track”
 cannot see: openings fit at the skew {found} before, and at {later} behind."""
+FROM = "From the first alignment that a guard band confirms on"
+READ_ANEW = f"""Read anew: the first alignment was wrong, which a damaged control character before it brings about. {FROM}"""
+LEFT_OUT = f"""{FROM} the listing is that of “recover relock”; what came before it has no lines, and is not shown."""
 CUT = "“tools/lanes cut {name} --from {cut} > cut.tmc” begins where they fit; make the report of that."
 
 
@@ -138,36 +141,20 @@ class Show:
         }
 
 
-def check_end(run: program.Run, words: list[str], path: Path) -> None:
-    """Refused where the program ended otherwise than after a capture, or after what is none."""
-    if run.status not in (0, 1, program.NO_CAPTURE, program.NO_ALIGNMENT):
-        raise Refused(f"`{' '.join(words)}` of {path}: {run.note or f'status {run.status}'}")
+def gather(words: list[str], path: Path, bits: int) -> tuple[Found, Album, Reading]:
+    """What is read of a capture, the pictures, and how it was read; `bits` are those of the longest lane."""
 
+    def hear(it: Reading) -> tuple[Found, Album, Reading]:
+        show = Show(bits // 10)
+        found = Findings(show, is_dvi=words[1] == "dvi", counter=it.columns)
+        for batch in it.batches():
+            found.take_batch(batch)
+        reading.check_end(it, path)
+        found.finish(it.status in (0, 1), bits)
+        return found, show.album, it
 
-def contents_of(path: Path) -> Counter[str]:
-    """How many fault lines of each kind `recover content` writes of what a capture's link carried."""
-    words = ["recover", "content"]
-    counts: Counter[str] = Counter()
-    with program.Run(words, path) as run:
-        for line in listing.fault_lines(run.output):
-            counts[line.split()[1].decode("ascii", "replace")] += 1
-    check_end(run, words, path)
-    return Counter({kind: counts[kind] for kind in CONTENT if counts[kind]})
-
-
-def gather(words: list[str], path: Path, bits: int) -> tuple[Found, Album, program.Run]:
-    """What the program tells of a capture, its status and its note. Of a capture without slips the faults of its contents
-    are those of `recover content`, which knows of no slips and reads HDMI alone; frames of deep colour, of which it counts the
-    columns, are compared with their InfoFrame by their pixels."""
-    with ThreadPoolExecutor(1) as beside:
-        contents = beside.submit(contents_of, path) if words[1] != "dvi" else None
-        found, album, run = heard(words, path, bits)
-        if contents and len(found.epochs) == 1:
-            sizes = found.content_counts["vic"]
-            found.content_counts = contents.result()
-            if found.signals.depth:
-                found.content_counts["vic"] = sizes
-    return found, album, run
+    with keeping():
+        return reading.read(words, path, hear)
 
 
 @contextmanager
@@ -180,18 +167,6 @@ def keeping() -> Iterator[None]:
     finally:
         if was_on:
             gc.enable()
-
-
-def heard(words: list[str], path: Path, bits: int) -> tuple[Found, Album, program.Run]:
-    """What a link listing of a capture tells, the pictures, and the run that wrote it; `bits` are those of the longest lane."""
-    show = Show(bits // 10)
-    found = Findings(show, is_dvi=words[1] == "dvi")
-    with keeping(), program.Run(words, path) as run:
-        for line in tqdm(listing.lines(run.output, listing.LINK, is_whole=False), unit="line", disable=None):
-            found.take(*line)
-    check_end(run, words, path)
-    found.finish(run.status in (0, 1), bits)
-    return found, show.album, run
 
 
 def places_of(found: Found) -> list[str]:
@@ -238,7 +213,12 @@ def slips_of(found: Found, bits: list[int]) -> Slips | None:
     return Slips(len(epochs), ", ".join(aligned), f"{' and '.join(hidden)} are" if hidden else "")
 
 
-def verdict_of(found: Found, run: program.Run, slips: Slips | None) -> dict[str, str]:
+def is_faulty(found: Found, run: Reading) -> bool:
+    """Whether the page shows a fault. What came before an alignment that is used in place of the first one had some."""
+    return bool(run.status or run.words == RELOCK or contents_in_words(found, False))
+
+
+def verdict_of(found: Found, run: Reading, slips: Slips | None) -> dict[str, str]:
     """The word at the top, and a sentence on it."""
     total = sum(found.counts.values())
     faults = f"{total:,} fault line{'s' * (total != 1)}"
@@ -248,9 +228,10 @@ def verdict_of(found: Found, run: program.Run, slips: Slips | None) -> dict[str,
     elif run.status == program.NO_CAPTURE:
         word, sign, kind = "Broken file", "✗", "faulty"
         says = f"The program refuses the file: {program.explained(run.note)}. What it wrote before that place is shown: {faults}."
-    elif total:
+    elif total or run.words == RELOCK:
         word, sign, kind = "Faulty", "✗", "faulty"
-        says = f"The listing tells {faults}: {', '.join(places_of(found))}."
+        says = f"The listing tells {faults}: {', '.join(places_of(found))}." if total else "No fault was found."
+        says = f"{READ_ANEW}, {says[0].lower()}{says[1:]}" if run.words == RELOCK else says
         says += f" {slips}." if slips else ""
     elif wrong := contents_in_words(found, False):
         word, sign, kind = "Contents wrong", "!", "contents"
@@ -320,7 +301,8 @@ def data_of(name: str, found: Found, album: Album, characters: list[str], sound:
         "places": [epoch.place for epoch in found.epochs],
         "hidden": [epoch.hidden for epoch in found.epochs],
         "alignments": [number * epoch.is_aligned for number, epoch in zip(alignments, found.epochs)],
-        "periods": found.periods,
+        "periods": {name: numbers.tolist() for name, numbers in zip(found.periods, tables_of(found.periods))},
+        "doubts": [found.doubts.begins, [*found.doubts.ends, found.columns]],
         "faults": found.faults | {"characters": characters},
         "bursts": [burst._asdict() for burst in bursts.bursts_of(found.faults, found.periods)],
         "kinds": {fault.kind: (fault.row, fault.says) for fault in BY_ROW},
@@ -381,6 +363,8 @@ def notes_of(found: Found, words: list[str], album: Album, measured: list[Timing
         notes.append(
             f"The capture ends within a row, an island or an opening, at column {found.cut.column:,} (“cut”, line {found.cut.line})."
         )
+    if words == RELOCK:
+        notes.append(LEFT_OUT)
     if words[1] == "link":
         notes.append(
             "The program has no “recover track”, so a lane that loses bits is not followed: what comes behind it is noise."
@@ -396,7 +380,7 @@ def notes_of(found: Found, words: list[str], album: Album, measured: list[Timing
     return notes
 
 
-def fits_of(path: Path, words: list[str], found: Found, run: program.Run) -> openings.Fits | None:
+def fits_of(path: Path, words: list[str], found: Found, run: Reading) -> openings.Fits | None:
     """At which skews openings of HDMI fit; None where nothing speaks against the one that was found, or a lane has no control
     period among the bits that are looked at."""
     is_suspect = run.status == program.NO_ALIGNMENT or any(kind in OF_SKEW for kind, _ in found.counts)
@@ -421,11 +405,11 @@ def opening_advice(path: Path, found: Found, fits: openings.Fits) -> str | None:
 
 
 def advice_of(
-    path: Path, words: list[str], found: Found, run: program.Run, characters: judged.Characters
+    path: Path, words: list[str], found: Found, run: Reading, characters: judged.Characters
 ) -> tuple[str, ...]:
-    """What to look at: that alone where the lanes were likely aligned at a wrong skew, and else whether the source is one of
-    DVI, and why faults are alike."""
-    fits = fits_of(path, words, found, run)
+    """What to look at: that alone where the lanes were likely aligned at a wrong skew, and were not read anew; else whether the source is
+    one of DVI, and why faults are alike."""
+    fits = fits_of(path, words, found, run) if words != RELOCK else None
     wrong = opening_advice(path, found, fits) if fits else None
     if wrong:
         return (wrong,)
@@ -436,12 +420,12 @@ def advice_of(
     return (*((DVI_ADVICE,) if is_dvi else ()), *ADVICE, *causes)
 
 
-def page_of(path: Path, words: list[str], found: Found, album: Album, run: program.Run, bits: list[int], clock: int | None) -> str:
+def page_of(path: Path, words: list[str], found: Found, album: Album, run: Reading, bits: list[int], clock: int | None) -> str:
     """The page's text."""
     template = jinja2.Environment(loader=jinja2.FileSystemLoader(PAGE), autoescape=True).get_template("report.html")
     slips, measured = slips_of(found, bits), timings(found.meter, Rate(clock))
     record = judged.record_of(found)
-    characters, told = judged.Characters(path, found, record), told_of(found, clock)
+    characters, told = judged.Characters(path, found, record, words == RELOCK), told_of(found, clock)
     sound = told.page() if told else None
     rules = judged.rules_of(record, clock, measured) if words[1] != "dvi" and found.columns else []
     advice = advice_of(path, words, found, run, characters)
@@ -461,21 +445,23 @@ def page_of(path: Path, words: list[str], found: Found, album: Album, run: progr
         data=data_of(path.stem, found, album, characters.at_faults(), sound),
         pictures=album.pictures,
         rules=rules,
+        is_about=found.doubts.has,
         rules_say=total_of(rules),
         **sections_of(found, words, advice, sound, bool(rules)),
     )
 
 
-def plain_of(path: Path, words: list[str], found: Found, run: program.Run, bits: list[int], clock: int | None) -> dict[str, Any]:
+def plain_of(path: Path, words: list[str], found: Found, run: Reading, bits: list[int], clock: int | None) -> dict[str, Any]:
     """What the page says, for machines: no pictures, no sound and no listing."""
     slips, record, measured = slips_of(found, bits), judged.record_of(found), timings(found.meter, Rate(clock))
     verdict = verdict_of(found, run, slips)
     rules = judged.rules_of(record, clock, measured) if words[1] != "dvi" and found.columns else []
-    characters = judged.Characters(path, found, record)
+    characters = judged.Characters(path, found, record, words == RELOCK)
     faults, says, told = found.faults, characters.at_faults(), told_of(found, clock)
     return {
         "capture": str(path),
-        "faulty": bool(run.status or contents_in_words(found, False)),
+        "faulty": is_faulty(found, run),
+        "relocked": words == RELOCK,
         "verdict": verdict["word"],
         "says": verdict["says"],
         "columns": found.aligned_columns,
@@ -499,7 +485,11 @@ def plain_of(path: Path, words: list[str], found: Found, run: program.Run, bits:
             )
         ],
         "contents": dict(found.content_counts),
-        "packets": [{"name": it.packet.name, "column": it.at, "says": it.words, "blocks": it.verdicts} for it in found.packets],
+        "packets": [
+            {"name": it.packet.name, "column": it.at, "says": it.words, "blocks": it.verdicts}
+            | ({"about": True} if found.doubts.has(it.at) else {})
+            for it in found.packets
+        ],
     }
 
 
@@ -546,10 +536,8 @@ def work(argv: Sequence[str] | None) -> int:
     args = parser.parse_args(argv)
     if args.clock is not None and args.clock < 1:
         parser.error("--clock is at least 1")
-    words = ["recover", "dvi" if args.dvi else "track" if program.has("recover", "track") else "link"]
-    if args.dvi and not program.has(*words):
-        raise Refused("the program has no `recover dvi`")
     bits = header_of(args.capture)
+    words = reading.words_for(args.capture, args.dvi)
     found, album, run = gather(words, args.capture, max(bits))
     if run.status == program.NO_CAPTURE and not found.columns:
         raise Refused(f"{args.capture}: {program.explained(run.note)}")
@@ -561,8 +549,9 @@ def work(argv: Sequence[str] | None) -> int:
             page.write(page_of(args.capture, words, found, album, run, bits, args.clock))
     total, contents = found.counts.total(), contents_in_words(found, False)
     told = f"{len(found.frames)} frames, {len(found.packets)} packets, {total} faults"
-    print(f"{output or args.capture}: {told}{', in the contents ' if contents else ''}{', '.join(contents)}", file=sys.stderr)
-    return command.FAULTY if run.status or contents else command.DONE
+    told += f"{', in the contents ' if contents else ''}{', '.join(contents)}"
+    print(f"{output or args.capture}: {told}{f'; {ANEW}' if words == RELOCK else ''}", file=sys.stderr)
+    return command.FAULTY if is_faulty(found, run) else command.DONE
 
 
 def main(argv: Sequence[str] | None = None) -> int:

@@ -3,22 +3,25 @@
 import argparse
 import sys
 from itertools import chain
+from pathlib import Path
 from typing import BinaryIO
 
 from tqdm import tqdm
 
-from vabgrot import channels, command, listing, pcm
+from vabgrot import channels, command, listing, pcm, reading
 from vabgrot.channels import Wide
 from vabgrot.errors import Refused
 from vabgrot.formats import speakers
 from vabgrot.formats.modes import CUSTOM_CLOCK
-from vabgrot.hearing import Heard, joined, link_lines
+from vabgrot.hearing import Heard, joined, link_lines, take_batches
 from vabgrot.packets import PAIRS
 from vabgrot.replacing import replacing
 
-TEXT = f"""Reads a content listing, a link listing, or what `vabgrot read biphase` writes, from standard input and writes its samples as
-a WAV file. Of a link listing these are also sounds of more than two channels (layout 1), whose speakers the channel allocation of the
-audio InfoFrame tells; --pairs makes one of up to four pairs of channels that were read by `read biphase`.
+TEXT = f"""Reads a capture, a content listing, a link listing, or what `vabgrot read biphase` writes, from standard input and
+writes its samples as a WAV file. Of a capture and of a link listing these are also sounds of more than two channels (layout 1),
+whose speakers the channel allocation of the audio InfoFrame tells; --pairs makes one of up to four pairs of channels that were
+read by `read biphase`. A capture of which the first alignment was wrong is read anew, where the program has `recover relock`,
+which is said.
 
 The rate is that of the first clock packet and the mode's pixel clock (one within 0.2 percent of a usual rate is that rate, since a
 listing cannot tell 59.94 from 60 frames a second); that of a mode without a code is {CUSTOM_CLOCK} Hz. Without a clock packet it is the
@@ -26,10 +29,25 @@ one that the channel status names, or the audio InfoFrame; where two of these di
 counted on standard error."""
 EXAMPLES = """tools/sound tone.wav < examples/bars.content
 ./vabgrot make content < examples/bars.content > bars.tmc
-./vabgrot recover link < bars.tmc | tools/sound same.wav"""
+tools/sound same.wav < bars.tmc"""
 
 
 def heard_in(source: BinaryIO) -> Heard:
+    """The sound of a capture or of a listing."""
+    with reading.capture_in(source) as path:
+        return heard_by(path) if path else heard_by_lines(source)
+
+
+def heard_by(path: Path) -> Heard:
+    """The sound of a capture."""
+    heard, it = Heard(), reading.opened(reading.words_for(path, is_dvi=False), path)
+    take_batches(heard, it.batches())
+    reading.check_whole(it)
+    reading.tell(it)
+    return heard
+
+
+def heard_by_lines(source: BinaryIO) -> Heard:
     """The sound of a listing: its first line that is no fault says of which kind it is."""
     heard = Heard()
     lines = listing.lines(source, listing.ANY)

@@ -14,7 +14,7 @@ from concurrent.futures import ThreadPoolExecutor, as_completed
 from dataclasses import dataclass
 from html import escape
 from pathlib import Path
-from typing import IO, Any
+from typing import IO, Any, TypeVar
 
 from tqdm import tqdm
 
@@ -29,6 +29,8 @@ TEXT = """Runs `vabgrot check`, `vabgrot recover link` and `vabgrot recover cont
 verdict (clean, contents where the link is clean and its contents are not, faulty, unaligned, refused or failed), the
 lines that were told, and how many faults of each kind the link and its contents have. The table is written line by line,
 and a survey that was stopped goes on where it stood: what is in the table and has not changed since is kept.
+A capture of which the first alignment was wrong is read anew by `recover relock`, where the program has it: the column
+`relocked` says so, and the counts are those of that reading.
 `dask-scheduler` and `dask-worker HOST:8786` start a scheduler and a worker."""
 FAULTY = "done, and a capture is not clean"
 CONNECT = "DASK_DISTRIBUTED__COMM__TIMEOUTS__CONNECT"  # Dask's own
@@ -39,10 +41,12 @@ tools/survey captures -o survey.csv"""
 THINGS = ("columns", "lines", "pixels", "islands", "packets", "cut")
 FAULTS = (*(kind for kind in faults.LINK if kind not in ("guard", "slip")), "guard")  # in the order of docs/guide/FORMATS.md
 CONTENTS = tuple(faults.CONTENT)  # faults that `recover content` alone writes
+COUNTED = {*THINGS, "faults", *FAULTS, "contents", *CONTENTS}
 HEAD = ("path", "bytes", "modified", "verdict", "note", *THINGS, "faults", *FAULTS, "contents", *CONTENTS)
-HEAD += ("slips", "format", "timing", "seconds")
+HEAD += ("slips", "relocked", "format", "timing", "seconds")
 VERDICTS = {0: "clean", 1: "faulty", 3: "refused", 7: "unaligned"}
 KEPT = {*VERDICTS.values(), "contents"}
+UNTIMED = ("refused", "unaligned", "failed")
 Row = dict[str, str | int]  # of the table, by its columns
 
 
@@ -53,6 +57,10 @@ class Asked:
     is_dvi: bool = False
     slips: bool = False
     timing: bool = False
+
+
+Judge = Callable[[str, str, Sequence[str], Asked], Row]
+Got = TypeVar("Got")
 
 
 def counted(source: Iterable[bytes]) -> Counter[str]:
@@ -98,17 +106,14 @@ def timing_of(path: str, words: list[str]) -> Row:
     """The video format of a capture in words, and how many notes on its timing are faults; nothing where numpy or the package is
     missing, as on a worker that does not have it."""
     try:
-        from vabgrot import errors
+        from vabgrot import errors, surveyed
         from vabgrot.tools import timing
-        from vabgrot.video.matching import Rate, timings
     except ImportError:
         return {}
     try:
-        found = timings(timing.metered(words, Path(path))[0], Rate())
+        return surveyed.timing_row(timing.metered(words, Path(path))[0])
     except errors.Refused:
         return {}
-    notes = [note for one in found for note in (one.head, *one.notes) if note.is_fault]
-    return {"format": found[0].head.text if found else "no rows", "timing": len(notes)}
 
 
 def verdict_of(check: "subprocess.CompletedProcess[bytes]", statuses: dict[str, int], contents: int) -> Row:
@@ -122,13 +127,31 @@ def verdict_of(check: "subprocess.CompletedProcess[bytes]", statuses: dict[str, 
     return {"verdict": "contents" if contents and not status else VERDICTS[status], "note": note}
 
 
-def run_over(words: Sequence[str], capture: IO[bytes], count: Callable[[Iterable[bytes]], Counter[str]]) -> tuple[int, Counter[str]]:
+def run_over(words: Sequence[str], capture: IO[bytes], count: Callable[[IO[bytes]], Got]) -> tuple[int, Got]:
     """The status of a command over a capture, and what is counted of its output."""
     capture.seek(0)
     with subprocess.Popen(words, stdin=capture, stdout=subprocess.PIPE, stderr=subprocess.DEVNULL) as run:
         assert run.stdout
         counts = count(run.stdout)
     return run.returncode, counts
+
+
+def relocked_of(row: Row, program: str, on: Sequence[str], capture: IO[bytes]) -> Row:
+    """The row of a capture with the counts of a reading anew, where its first alignment was wrong; the same where it was not, and where
+    numpy or the package is missing, as on a worker that does not have it."""
+    if not row.get("noise") and not row.get("guard"):
+        return row
+    try:
+        from vabgrot import surveyed
+    except ImportError:
+        return row
+
+    def hear(words: Sequence[str], count: Callable[[IO[bytes]], Got]) -> Got:
+        return run_over([*on, program, *words], capture, count)[1]
+
+    if not surveyed.is_misaligned(hear):
+        return row
+    return {name: row[name] for name in row if name not in COUNTED} | hear(["recover", "relock"], surveyed.relocked_by)
 
 
 def judged_dvi(path: str, program: str, on: Sequence[str]) -> Row:
@@ -140,9 +163,29 @@ def judged_dvi(path: str, program: str, on: Sequence[str]) -> Row:
     return counts | {"verdict": verdict, "note": "" if status in (0, 1) else f"recover dvi ended with {status}"}
 
 
+def judged_here(path: str, program: str, on: Sequence[str], asked: Asked) -> Row:
+    """The verdict over one capture by the C library, in this process and in one reading; by the program what the library does not hear:
+    what is no whole capture, DVI, and lanes that slip where slips are counted."""
+    from vabgrot import reading, surveyed
+
+    began = time.monotonic()
+    try:
+        found = os.stat(path)
+        row = surveyed.judged(Path(path), asked.timing) if not asked.is_dvi else None
+    except OSError:
+        row = None
+    if row is None:
+        return judged(path, program, on, asked)
+    row |= {"path": path, "bytes": found.st_size, "modified": found.st_mtime_ns}
+    if asked.slips and not row.get("relocked") and reading.has_slips(Path(path)):
+        with open(path, "rb") as capture:
+            row |= run_over([*on, program, "recover", "track"], capture, slips_counted)[1]
+    return {"format": ""} | row | {"seconds": f"{time.monotonic() - began:.2f}"}
+
+
 def judged(path: str, program: str, on: Sequence[str] = (), asked: Asked = Asked()) -> Row:
-    """The verdict over one capture, what speaks against it, and the counts of its listings. `on` are the words that start the
-    program on one processor, if any."""
+    """The verdict over one capture by the program, what speaks against it, and the counts of its listings. `on` are the words that start
+    the program on one processor, if any."""
     began = time.monotonic()
     row: Row = {"path": path, "format": ""}
     statuses: dict[str, int] = {}
@@ -160,13 +203,23 @@ def judged(path: str, program: str, on: Sequence[str] = (), asked: Asked = Asked
                     row |= counts
                     contents = counts["contents"]
                 row |= verdict_of(check, statuses, contents)
-            if asked.slips:
+                row = relocked_of(row, program, on, capture)
+            if asked.slips and not row.get("relocked"):
                 row |= run_over([*on, program, "recover", "track"], capture, slips_counted)[1]
-        if asked.timing and row["verdict"] not in ("refused", "unaligned", "failed"):
-            row |= timing_of(path, ["recover", "dvi" if asked.is_dvi else "link"])
+        if asked.timing and row["verdict"] not in UNTIMED:
+            row |= timing_of(path, ["recover", "dvi" if asked.is_dvi else "relock" if row.get("relocked") else "link"])
     except OSError as why:
         row |= {"verdict": "failed", "note": f"{why.filename or path}: {why.strerror}"}
     return row | {"seconds": f"{time.monotonic() - began:.2f}"}
+
+
+def has_library() -> bool:
+    """Whether the C library is there, and what the package needs to read by it."""
+    try:
+        from vabgrot import reading
+    except ImportError:
+        return False
+    return reading.has_library()
 
 
 def captures_of(places: Iterable[str]) -> list[str]:
@@ -211,11 +264,13 @@ class Table:
             writer.writeheader()
             writer.writerows(rows)
 
-    def has(self, path: str) -> bool:
-        """Whether a capture was judged and is as it was."""
+    def has(self, path: str, asked: Asked) -> bool:
+        """Whether a capture was judged and is as it was, and its timing too where that is asked."""
         row = self.rows.get(path)
         found = os.stat(path)
-        return row is not None and (row["bytes"], row["modified"]) == (str(found.st_size), str(found.st_mtime_ns))
+        if row is None or (row["bytes"], row["modified"]) != (str(found.st_size), str(found.st_mtime_ns)):
+            return False
+        return not asked.timing or bool(row["format"]) or row["verdict"] in UNTIMED
 
     def add(self, row: Row) -> None:
         """Adds a row to the file, all of it or nothing."""
@@ -243,7 +298,7 @@ class Table:
         return rows
 
 
-def here(paths: list[str], program: str, asked: Asked) -> Iterator[Row]:
+def here(paths: list[str], program: str, asked: Asked, judge: Judge) -> Iterator[Row]:
     """The rows of captures that are judged on this machine, as they come: one at a time on each processor."""
     free: queue.SimpleQueue[tuple[str, ...]] = queue.SimpleQueue()
     for on in processors():
@@ -252,7 +307,7 @@ def here(paths: list[str], program: str, asked: Asked) -> Iterator[Row]:
     def judged_on_one(path: str) -> Row:
         on = free.get()
         try:
-            return judged(path, program, on, asked)
+            return judge(path, program, on, asked)
         finally:
             free.put(on)
 
@@ -331,8 +386,9 @@ def work(argv: Sequence[str] | None) -> int:
     text = "judge on the workers of this Dask scheduler, which find captures and program by the same paths; it has 5 seconds "
     text += f"to answer, or as many as {CONNECT} says"
     parser.add_argument("--scheduler", metavar="HOST:PORT", help=text)
-    text = "the program; if left out that of VABGROT_PROGRAM, the one beside the tools, or that of the PATH"
-    parser.add_argument("--program", default=os.environ.get("VABGROT_PROGRAM"), metavar="FILE", help=text)
+    text = "judge by this program alone; if left out by the C library where it is there, and by that of VABGROT_PROGRAM, the one beside "
+    text += "the tools, or that of the PATH"
+    parser.add_argument("--program", metavar="FILE", help=text)
     parser.add_argument("--dvi", action="store_true", help="the captures are of DVI: judge them by `recover dvi`, without contents")
     parser.add_argument("--slips", action="store_true", help="count the slips of lanes too, by `recover track`")
     parser.add_argument("--timing", action="store_true", help="say the video format of each too, and the faults of its timing")
@@ -341,14 +397,18 @@ def work(argv: Sequence[str] | None) -> int:
     args = parser.parse_args(argv)
     if args.table.suffix != ".csv":
         parser.error("the name behind -o ends in .csv")
-    is_elsewhere = args.scheduler and args.program  # then it is the workers that have it
-    program = str(Path(args.program if is_elsewhere else find(args.program)).resolve())
+    named = args.program or os.environ.get("VABGROT_PROGRAM")
+    # where a scheduler is named it is the workers that have it
+    program = str(Path(named if args.scheduler and named else find(named)).resolve())
     paths = captures_of(args.places)
     if not paths:
         raise Refused(f"{args.places[0]}: it has no files *.tmc")
     asked, table = Asked(args.dvi, args.slips, args.timing), Table(args.table, args.anew)
-    wanted = [path for path in paths if not table.has(path)]
-    found = elsewhere(wanted, program, args.scheduler, asked) if args.scheduler else here(wanted, program, asked)
+    wanted = [path for path in paths if not table.has(path, asked)]
+    judge: Judge = judged
+    if not args.program and not args.scheduler and has_library():
+        judge = judged_here
+    found = elsewhere(wanted, program, args.scheduler, asked) if args.scheduler else here(wanted, program, asked, judge)
     for row in tqdm(found, total=len(paths), initial=len(paths) - len(wanted), unit="capture", disable=None):
         table.add(row)
     rows = table.ended(paths)

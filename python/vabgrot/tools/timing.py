@@ -8,10 +8,9 @@ from collections.abc import Sequence
 from pathlib import Path
 from typing import Any
 
-from tqdm import tqdm
-
-from vabgrot import command, link, listing, place, program
+from vabgrot import command, place, program, reading
 from vabgrot.errors import Refused
+from vabgrot.reading import Reading
 from vabgrot.video.matching import SIZES, Note, Rate, Timing, change_note, timings
 from vabgrot.video.timings import PARTS, Meter
 
@@ -20,7 +19,8 @@ front porch, sync, back porch, total), the polarities, whether it is interlaced,
 or VESA DMT that it is, or the nearest one and what differs. It names the first place at which a number is another, and says
 whether the AVI InfoFrame says the same. Porches are counted in columns (pixel clocks) and in lines of a field; where VSYNC
 of every second field begins in the middle of a line, its porches have half lines. In deep colour, as general control packets
-say it, pixels are counted in place of columns. Formats with the same raster, as VIC 16 and VIC 34, are parted by --clock or
+say it, pixels are counted in place of columns. A capture of which the first alignment was wrong is read anew, where the program has
+`recover relock`, which is said on standard error. Formats with the same raster, as VIC 16 and VIC 34, are parted by --clock or
 --rate alone, or by the AVI InfoFrame."""
 FAULTY = "done, and it is no format, differs from it, is not steady, or the AVI InfoFrame says otherwise"
 EXAMPLES = """tools/content examples/sent.png examples/sent.png > sent.content
@@ -40,21 +40,23 @@ def positive(text: str) -> float:
     return value
 
 
-def metered(words: list[str], path: Path) -> tuple[Meter, program.Run]:
-    """What the program's listing of a capture says of its raster, and the run that wrote it."""
-    meter, columns = Meter(), link.Columns(is_dvi=words[1] == "dvi")
-    with program.Run(words, path) as run:
-        lines = listing.lines(run.output, listing.LINK, is_whole=False, raw_rows=True)
-        for line in tqdm(lines, unit="line", disable=None):
-            meter.take(columns.take(*line))
-    if run.status not in (0, 1, program.NO_CAPTURE, program.NO_ALIGNMENT):
-        raise Refused(f"`{' '.join(words)}` of {path}: {run.note or f'status {run.status}'}")
-    if run.status == program.NO_CAPTURE and not meter.next:
-        raise Refused(f"{path}: {program.explained(run.note)}")
-    return meter, run
+def metered(words: list[str], path: Path) -> tuple[Meter, Reading]:
+    """What is read of a capture's raster, and how it was read."""
+
+    def hear(it: Reading) -> tuple[Meter, Reading]:
+        meter = Meter()
+        for batch in it.batches():
+            meter.take_batch(batch)
+        return meter, it
+
+    meter, it = reading.read(words, path, hear, has_pixels=False)
+    reading.check_end(it, path)
+    if it.status == program.NO_CAPTURE and not meter.next:
+        raise Refused(f"{path}: {program.explained(it.note)}")
+    return meter, it
 
 
-def said_of(found: list[Timing], run: program.Run) -> list[Note]:
+def said_of(found: list[Timing], run: Reading) -> list[Note]:
     """What is said of the whole capture."""
     if run.status == program.NO_ALIGNMENT:
         return [Note(place.named("no alignment: `tools/lanes look` says what the lanes have"))]
@@ -84,8 +86,9 @@ def work(argv: Sequence[str] | None) -> int:
     parser.add_argument("--dvi", action="store_true", help="the source is one of DVI, without guard bands and islands")
     parser.add_argument("--json", action="store_true", help="write JSON in place of text")
     args = parser.parse_args(argv)
-    words = ["recover", "dvi" if args.dvi else "link"]
-    meter, run = metered(words, args.capture)
+    is_anew = not args.dvi and reading.is_misaligned(args.capture)
+    meter, run = metered(reading.RELOCK if is_anew else ["recover", "dvi" if args.dvi else "link"], args.capture)
+    reading.tell(run)
     found = timings(meter, Rate(args.clock, args.rate))
     whole = said_of(found, run)
     faulty = any(note.is_fault for note in whole) or any(timing.is_faulty for timing in found)

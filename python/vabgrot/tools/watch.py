@@ -6,8 +6,6 @@ import argparse
 import contextlib
 import csv
 import os
-import re
-import select
 import signal
 import sys
 import time
@@ -17,26 +15,28 @@ from pathlib import Path
 from types import FrameType
 from typing import Any, Protocol
 
-from vabgrot import command, place, program
+import numpy as np
+
+from vabgrot import command, library, place, program
 from vabgrot.errors import Refused
 from vabgrot.tools.timing import positive
 from vabgrot.video.matching import Rate
-from vabgrot.watching.counting import Count, Fault, Pieces
-from vabgrot.watching.feeding import Feed
+from vabgrot.watching.counting import WORD, Batch, Count, Fault
+from vabgrot.watching.feeding import ByProgram, Feed
 from vabgrot.watching.looking import Looks
 from vabgrot.watching.state import State
 
 TEXT = """Shows a capture while it comes in, from standard input, a FIFO, or a file that grows: whether the lanes are aligned and since
 when, columns a second, the video format, frames, faults by kind and lane, packets as they stand, sound levels, the last ten faults,
 and a small picture of the last frame. All faults and columns are counted; the view takes a tenth of the time at most, and says where
-that is not enough to look at all frames. The keyboard (Ctrl-C) ends it, with a summary. Where the output is no terminal a line is
-written each second."""
+that is not enough to look at all frames. With --raw blocks without a header come in, without an end: a live link. The keyboard
+(Ctrl-C) ends it, with a summary. Where the output is no terminal a line is written each second."""
 FAULTY = "done, and a fault came, or the lanes were not aligned"
 EXAMPLES = """./vabgrot make content < examples/bars.content > bars.tmc
 cat bars.tmc | tools/watch --log faults.csv
 tools/watch --follow --stop-on-fault bars.tmc"""
-FAULT = re.compile(rb"^! .*\n", re.MULTILINE)
 EACH = 0.25  # seconds between two views, at least
+REST = 20  # times as long as a view takes to draw passes before the next one: drawing has half of the time of what looks
 SECOND = 1.0
 HEADS = ("seconds", "kind", "lane", "epoch", "column", "numbers")
 
@@ -73,9 +73,12 @@ class Screen:
         """Draws it anew."""
         from vabgrot.watching.screen import view
 
-        with self.state.looks.budget:
+        budget = self.state.looks.budget
+        before = budget.spent
+        with budget:
             self.state.looks.keep()
             self.live.update(view(self.state, *self.live.console.size), refresh=True)
+        self.each = max(EACH, REST * (budget.spent - before))
 
 
 @contextlib.contextmanager
@@ -127,7 +130,7 @@ def opened(path: str, grows: bool) -> Iterator[int]:
 
 @dataclass
 class Watch:
-    """Takes what the program writes until it ends."""
+    """Takes what the receiver says until it ends."""
 
     state: State
     ear: Callable[[Fault], None] | None
@@ -136,32 +139,32 @@ class Watch:
     def run(self, view: View) -> bool:
         """Answers whether it came to its end, and was not stopped."""
         shown, feed = time.monotonic(), self.state.feed
-        pieces = Pieces(feed.output)
         while True:
-            due = max(0.0, shown + view.each - time.monotonic())
-            if select.select([feed.output], [], [], due)[0]:
-                if not self.take(pieces.read()):
-                    return False
-                if pieces.is_ended:
+            if feed.ready(max(0.0, shown + view.each - time.monotonic())):
+                batch = feed.read()
+                if batch is None:
                     return not feed.is_stopped
+                if not self.take(batch):
+                    return False
             self.state.sample()
             if time.monotonic() >= shown + view.each:
                 view.show()
                 shown = time.monotonic()
 
-    def take(self, text: memoryview) -> bool:
-        """Whole lines; answers whether more is wanted."""
-        first = FAULT.search(text) if self.stops else None
-        text = text[: first.end()] if first else text
-        if text:
-            self.state.count.take(text, self.ear)
-            self.state.looks.take(text)
-        return not first
+    def take(self, batch: Batch) -> bool:
+        """The next events; answers whether more is wanted."""
+        faults = np.flatnonzero(batch.kinds >= WORD) if self.stops else batch.kinds[:0]
+        batch = batch.until(int(faults[0]) + 1) if len(faults) else batch
+        if len(batch.kinds):
+            self.state.count.take(batch, self.ear)
+            self.state.looks.take(batch)
+        return not len(faults)
 
 
 def ended(state: State, is_whole: bool) -> int:
     """What is said at the end, and the status."""
-    status, note = state.feed.end() if is_whole else (int(state.count.total > 0), "")
+    status, note = state.feed.end() if is_whole else (0, "")
+    status = status or int(state.count.total > 0)
     print("\n".join(state.summary()))
     if state.feed.error:
         raise state.feed.error
@@ -189,6 +192,9 @@ def parser() -> argparse.ArgumentParser:
     kind = found.add_mutually_exclusive_group()
     kind.add_argument("--dvi", action="store_true", help="the source is one of DVI, without guard bands and islands")
     kind.add_argument("--slips", action="store_true", help="lanes may lose bits: they are aligned anew")
+    text = "raw blocks in place of a capture, without a header and without an end: three lanes of 4,096 bytes in turn; needs the C library"
+    kind.add_argument("--raw", action="store_true", help=text)
+    kind.add_argument("--by-program", action="store_true", help="hear the capture by the program, also where the C library is there")
     rate = found.add_mutually_exclusive_group()
     rate.add_argument("--clock", type=positive, metavar="HZ", help="the pixel clock of the link")
     text = "the frames a second of the link, or the fields where it is interlaced"
@@ -213,17 +219,33 @@ def stop_on_signals(feed: Feed) -> None:
     signal.signal(signal.SIGTERM, stop)
 
 
+def feed_of(args: argparse.Namespace, source: int) -> Feed:
+    """The receiver: that of the C library where it is there and hears such a link, else the program. Raises NoLibrary where raw blocks are
+    to be heard without it."""
+    if not (args.dvi or args.slips or args.by_program):
+        from vabgrot.watching.receiving import ByLibrary
+
+        try:
+            return ByLibrary(source, args.follow, args.raw)
+        except library.NoLibrary as why:
+            if args.raw:
+                raise library.NoLibrary(f"raw blocks are heard by the C library alone, and {why}") from None
+            if os.environ.get("VABGROT_LIBRARY"):
+                raise
+    words = ["recover", "dvi" if args.dvi else "track" if args.slips else "link"]
+    return ByProgram(words, source, args.follow, guards=0 if args.dvi else 2)
+
+
 def work(argv: Sequence[str] | None) -> int:
     args = parser().parse_args(argv)
     if args.capture == "-" and sys.stdin.isatty():
         raise Refused("standard input is a terminal: a capture is wanted there, or the name of a file")
     is_plain = args.plain or not sys.stdout.isatty()
-    words = ["recover", "dvi" if args.dvi else "track" if args.slips else "link"]
     with opened(args.capture, args.follow) as source:
-        feed = Feed(words, source, args.follow)
+        feed = feed_of(args, source)
         try:
             stop_on_signals(feed)
-            state = State(feed, Count(guards=0 if args.dvi else 2), Looks(args.dvi, Rate(args.clock, args.rate)))
+            state = State(feed, Count(), Looks(args.dvi, Rate(args.clock, args.rate)))
             if args.metrics:
                 from vabgrot.watching.metrics import serve
 

@@ -4,7 +4,7 @@ from __future__ import annotations
 
 from array import array
 from dataclasses import dataclass, field
-from typing import Callable, Iterator, NamedTuple, Sequence
+from typing import TYPE_CHECKING, Callable, Iterator, NamedTuple, Sequence
 
 import numpy as np
 import numpy.typing as npt
@@ -13,9 +13,13 @@ from vabgrot import link, packets
 from vabgrot.formats.characters import HSYNC, PACKET, VSYNC
 from vabgrot.formats.faults import OF_PACKET, UNCOUNTED
 
+if TYPE_CHECKING:
+    from vabgrot.batch import Batch
+
 Ints = npt.NDArray[np.int64]
 PARTS = ("active", "front porch", "sync", "back porch", "total")
-AVI, CONTROL = "82", "03"  # the first two digits of the header: of an AVI InfoFrame, of general control
+AVI_TYPE, CONTROL_TYPE = 0x82, 0x03  # packets: an AVI InfoFrame, general control
+TOLD = (f"{AVI_TYPE:02x}", f"{CONTROL_TYPE:02x}")
 BITS = {4: 24, 5: 30, 6: 36, 7: 48}  # of a pixel, by the depth that general control says (HDMI 1.4, section 6.5.3)
 DEPTH = 24  # bits of a pixel that takes one column
 LOST = 2  # in place of a level: what follows is not known to follow at once
@@ -99,7 +103,7 @@ class Field:
 
 
 class Meter:
-    """Takes the things of a link listing (those of `link.Columns`), one after another, and keeps where HSYNC, VSYNC and rows
+    """Takes the things of a link listing (those of `link.Columns`), one after another or in batches, and keeps where HSYNC, VSYNC and rows
     change. A change is kept as four times its column, and its level or LOST."""
 
     def __init__(self) -> None:
@@ -140,14 +144,90 @@ class Meter:
         elif kind == "packet":
             if thing.texts[5] != ALIKE[self.value]:
                 self.syncs(at, thing.texts[5])
-            if thing.digits.startswith(AVI):
-                self.avi(thing)
-            elif thing.digits.startswith(CONTROL):
-                self.depth(thing)
+            if thing.digits.startswith(TOLD):
+                self.tell(at, packets.packet_of(thing.texts, thing.line))
         elif kind == "slip":
             self.lose(at)
         elif kind != "cut":
             self.syncs(at, thing.digits)
+
+    def take_batch(self, batch: Batch) -> None:
+        """The next lines of the listing."""
+        begin = 0
+        for place, thing in batch.special:
+            self.take_lines(batch, begin, place)
+            self.take(thing)
+            begin = place + 1
+        self.take_lines(batch, begin, len(batch))
+
+    def take_lines(self, batch: Batch, begin: int, stop: int) -> None:
+        """Lines of a batch among which there are no faults."""
+        if begin == stop:
+            return
+        at, behind = batch.at[begin:stop], (batch.at + batch.columns)[begin:stop]
+        for step in (1 + np.flatnonzero(at[1:] != behind[:-1])).tolist():  # columns that could not be counted stand before it
+            self.take_columns(batch, slice(begin, stop + step - len(at)))
+            begin = stop + step - len(at)
+        self.take_columns(batch, slice(begin, stop))
+
+    def take_columns(self, batch: Batch, lines: slice) -> None:
+        """Lines of a batch without a column between them."""
+        kinds, at, values = batch.kinds[lines], batch.at[lines], batch.values[lines]
+        if at[0] != self.next:
+            self.lose(int(at[0]))
+        self.next = int(at[-1] + batch.columns[lines][-1])
+        control = np.flatnonzero(kinds == link.CONTROL)
+        columns, levels = at[control], values[control] & 3
+        if len(control) < len(kinds):
+            others = self.others(batch, lines, kinds)
+            columns, levels = np.concatenate([columns, others[0]]), np.concatenate([levels, others[1]])
+            order = np.argsort(columns, kind="stable")
+            columns, levels = columns[order], levels[order]
+        self.take_rows(batch, lines, columns, levels)
+        self.changes(columns, levels)
+
+    def changes(self, columns: Ints, levels: Ints) -> None:
+        """The syncs have these values at some columns."""
+        if not len(columns):
+            return
+        changed = levels ^ np.concatenate((np.array([self.value]), levels[:-1]))
+        changed[0] = changed[0] if self.value >= 0 else 3
+        for side, bit, place in ((self.hsync, HSYNC, 0), (self.vsync, VSYNC, 1)):
+            at = np.flatnonzero(changed & bit)
+            side.frombytes((columns[at] << 2 | levels[at] >> place & 1).tobytes())
+        self.value = int(levels[-1])
+
+    def others(self, batch: Batch, lines: slice, kinds: npt.NDArray[np.uint8]) -> tuple[Ints, Ints]:
+        """The syncs of islands: some columns, and their values. Packets whose columns have one value say it once."""
+        columns: list[Ints] = []
+        levels: list[Ints] = []
+        guards = lines.start + np.flatnonzero((kinds == link.OPEN) | (kinds == link.CLOSE))
+        for step, shift in ((0, 0), (1, 2)):
+            columns.append(batch.at[guards] + step)
+            levels.append(batch.values[guards] >> shift & 3)
+        islands = lines.start + np.flatnonzero(kinds == link.ISLAND_PACKET)
+        if len(islands):
+            syncs = np.stack([np.frombuffer(batch.syncs(place), np.uint8) for place in islands.tolist()]).astype(np.int64)
+            alike = (syncs == syncs[:, :1]).all(axis=1)
+            columns += [batch.at[islands[alike]], (batch.at[islands[~alike], None] + np.arange(PACKET)).reshape(-1)]
+            levels += [syncs[alike, 0], syncs[~alike].reshape(-1)]
+            types = batch.values[islands]
+            for place in islands[(types == AVI_TYPE) | (types == CONTROL_TYPE)].tolist():
+                self.tell(int(batch.at[place]), batch.packet(place))
+        return np.concatenate(columns), np.concatenate(levels)
+
+    def take_rows(self, batch: Batch, lines: slice, columns: Ints, levels: Ints) -> None:
+        """Rows among these lines, and the syncs before them."""
+        rows = lines.start + np.flatnonzero(batch.kinds[lines] == link.VIDEO)
+        if not len(rows):
+            return
+        at, behind, pixels = batch.at[rows], (batch.at + batch.columns)[rows], batch.values[rows]
+        while self.known and (found := np.flatnonzero(at == self.known[-1])).size:
+            self.known[-1] = int(behind[found[0]])
+        before = np.concatenate((np.array([self.value]), levels))[np.searchsorted(columns, at)]
+        self.firsts.frombytes((behind - pixels).tobytes())
+        self.widths.frombytes(pixels.tobytes())
+        self.levels.frombytes(before.astype(np.int8).tobytes())
 
     def change(self, column: int, value: int) -> None:
         """The syncs have another value from a column on."""
@@ -178,20 +258,43 @@ class Meter:
         elif columns:
             self.next = thing.at + columns
 
-    def depth(self, thing: link.Thing) -> None:
+    def tell(self, at: int, packet: packets.Packet) -> None:
+        """An AVI InfoFrame or a general control packet."""
+        if packet.kind == AVI_TYPE:
+            self.avi(at, packet)
+        else:
+            self.depth(at, packet)
+
+    def depth(self, at: int, packet: packets.Packet) -> None:
         """Keeps the depth of colour of a general control packet that says one."""
-        packet = packets.packet_of(thing.texts, thing.line)
         depth = packet.bytes[1] & 15
         if depth in BITS:
-            self.depths.append((thing.at, BITS[depth]))
+            self.depths.append((at, BITS[depth]))
 
-    def avi(self, thing: link.Thing) -> None:
+    def avi(self, at: int, packet: packets.Packet) -> None:
         """Keeps what an AVI InfoFrame says; one with a wrong checksum says nothing."""
-        packet = packets.packet_of(thing.texts, thing.line)
         count, data = packet.header[2] & 31, packet.bytes
         if (sum(packet.header) + sum(data[: count + 1])) & 255 or count < 5:
             return
-        self.avis.append((thing.at, Avi(data[4] & (127 if packet.header[1] < 3 else 255), data[5] & 15)))
+        self.avis.append((at, Avi(data[4] & (127 if packet.header[1] < 3 else 255), data[5] & 15)))
+
+    def follow(self, begin: int, end: int, columns: Ints, values: Ints) -> int:
+        """Columns from one up to another, of which none is damaged: HSYNC plus twice VSYNC as they are told, and where. Answers the value
+        before them."""
+        if begin != self.next:
+            self.lose(begin)
+        before, self.next = self.value, end
+        self.changes(columns, values)
+        return before
+
+    def lines(self, ends: Ints, pixels: Ints, levels: Ints) -> None:
+        """Lines among these columns: the columns behind them, their pixels, and the syncs before each."""
+        firsts = ends - pixels
+        if len(firsts) and self.known and self.known[-1] == int(firsts[0]) - 2:
+            self.known[-1] = int(ends[0])
+        self.firsts.frombytes(firsts.astype(np.int64).tobytes())
+        self.widths.frombytes(pixels.astype(np.int64).tobytes())
+        self.levels.frombytes(levels.astype(np.int8).tobytes())
 
 
 class Edges(NamedTuple):

@@ -44,11 +44,18 @@ function epochOf(at) {
   return Math.max(0, placeOf(data.epochs, at));
 }
 
-function columnText(at) {
+/* Whether columns before this one could not be counted. */
+function isAbout(at) {
+  const place = placeOf(data.doubts[0], at);
+  return place >= 0 && at < data.doubts[1][place];
+}
+
+/* A column in words; that of a fault is exact, since its line names it. */
+function columnText(at, isExact = false) {
   const epoch = epochOf(at);
   const late = at - data.epochs[epoch];
   if (data.hidden[epoch]) return `place ${count(data.places[epoch] + 10 * late)}, not aligned`;
-  const column = `column ${count(late)}`;
+  const column = `${!isExact && isAbout(at) ? "about " : ""}column ${count(late)}`;
   return data.epochs.length > 1 ? `${column} of alignment ${data.alignments[epoch] || "none"}` : column;
 }
 
@@ -506,7 +513,7 @@ function sayTime() {
   const place = placeOf(data.faultOrder.at, time.cursor);
   const at = [];
   for (let one = place; one >= 0 && data.faultOrder.at[one] === time.cursor; one--) at.push(data.faultOrder.fault[one]);
-  const parts = [columnText(time.cursor), text, frame >= 0 ? frameName(frame).toLowerCase() : ""].filter(Boolean);
+  const parts = [columnText(time.cursor, at.length > 0), text, frame >= 0 ? frameName(frame).toLowerCase() : ""].filter(Boolean);
   const faults = at.reverse().map((fault) => faultText(fault));
   by("time").setAttribute("aria-valuenow", time.cursor);
   by("time").setAttribute("aria-valuetext", [...parts, ...faults].join(", "));

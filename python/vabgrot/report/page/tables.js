@@ -133,7 +133,7 @@ function faultTable(caption, rows) {
 
 function columnButton(at) {
   const to = () => { pointTo(at); by("timeline").scrollIntoView(); by("time").focus({ preventScroll: true }); };
-  return made("button", { type: "button", className: "count", onclick: to }, columnText(at));
+  return made("button", { type: "button", className: "count", onclick: to }, columnText(at, true));
 }
 
 function faultCells(fault) {
@@ -143,7 +143,7 @@ function faultCells(fault) {
 
 /* A burst in a row, under which its faults are folded; they are drawn when they are first opened. */
 function burstCells(burst) {
-  const says = `a burst of ${count(burst.columns)} columns at ${columnText(burst.at)}: ${count(burst.faults.length)} faults`;
+  const says = `a burst of ${count(burst.columns)} columns at ${columnText(burst.at, true)}: ${count(burst.faults.length)} faults`;
   const details = made("details", {}, made("summary", {}, says));
   details.addEventListener("toggle", () => {
     const paged = new Paged(details, "the burst", 20, (faults) => faultTable("The faults of the burst", faults));
@@ -180,7 +180,7 @@ function startFaults() {
   if (!place) return;
   const wanted = { kind: "", lane: "", text: "" };
   const paged = new Paged(place, "faults", 20, (rows) => faultTable("The faults in the order of the listing", rows));
-  const textOf = (fault) => `${faultText(fault)} ${columnText(data.faults.at[fault])} ${placeText(fault)} line ${data.faults.line[fault]}`.toLowerCase();
+  const textOf = (fault) => `${faultText(fault)} ${columnText(data.faults.at[fault], true)} ${placeText(fault)} line ${data.faults.line[fault]}`.toLowerCase();
   const isWanted = (fault) =>
     (!wanted.kind || data.faults.kind[fault] === wanted.kind) && (wanted.lane === "" || data.faults.lane[fault] === Number(wanted.lane))
     && (!wanted.text || textOf(fault).includes(wanted.text));

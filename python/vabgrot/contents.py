@@ -1,0 +1,111 @@
+"""The faults of what a link carries, counted as `recover content` writes them (docs/guide/FORMATS.md), of a link listing in batches."""
+
+from __future__ import annotations
+
+from bisect import bisect_right
+from collections import Counter
+
+import numpy as np
+import numpy.typing as npt
+
+from vabgrot import packets
+from vabgrot.batch import BODIES, BODY, HEADER, Batch
+from vabgrot.formats.faults import CONTENT
+from vabgrot.link import ISLAND_PACKET, VIDEO, Ints, Vsync
+
+AVI, NULL, SAMPLES = 0x82, 0, 2  # types of packets; null packets have no faults, and those of sound are looked at together
+PARITY = np.array([value.bit_count() & 1 for value in range(256)], bool)
+Bools = npt.NDArray[np.bool_]
+
+
+class Contents:
+    """Takes the lines of a listing without slips, and counts."""
+
+    def __init__(self) -> None:
+        self.vsync, self.counts = Vsync(), Counter[str]()
+        self.vic = 0  # of the last AVI InfoFrame
+        self.is_counting = False  # whether VSYNC changed, so that what follows is a frame
+        self.width, self.rows = 0, 0  # of its first row, and how many it has
+
+    @property
+    def told(self) -> Counter[str]:
+        """How many of each kind there are, of those of which there are some."""
+        return Counter({kind: self.counts[kind] for kind in CONTENT if self.counts[kind]})
+
+    def take(self, batch: Batch) -> None:
+        """The next lines."""
+        changes = [place for place, _ in self.vsync.changes(batch)]
+        rows = np.flatnonzero(batch.kinds == VIDEO)
+        begin = 0
+        told = self.packets(batch)
+        for place in changes:
+            end = int(np.searchsorted(rows, place))
+            self.take_rows(batch.values[rows[begin:end]])
+            begin = end
+            number = bisect_right(told, (place, 0)) - 1
+            self.end_frame(told[number][1] if number >= 0 else self.vic)
+        self.take_rows(batch.values[rows[begin:]])
+        self.vic = told[-1][1] if told else self.vic
+
+    def take_rows(self, widths: Ints) -> None:
+        """Rows of a frame."""
+        if not self.is_counting or not len(widths):
+            return
+        self.width = self.width if self.rows else int(widths[0])
+        self.rows += len(widths)
+        self.counts["ragged"] += int((widths != self.width).sum())
+
+    def end_frame(self, vic: int) -> None:
+        """VSYNC changed, and the last AVI InfoFrame said this code."""
+        self.counts["vic"] += self.rows > 0 and packets.is_other_size(vic, self.width, self.rows)
+        self.is_counting, self.rows = True, 0
+
+    def packets(self, batch: Batch) -> list[tuple[int, int]]:
+        """Packets without a lost block: answers the places of AVI InfoFrames, and their codes."""
+        places = np.flatnonzero(batch.kinds == ISLAND_PACKET)
+        if not len(places):
+            return []
+        places = places[~lost_of(batch, places)]
+        kinds = batch.values[places]
+        odd, wide = faulty_samples(batch, places[kinds == SAMPLES])
+        self.counts.update({"parity": odd, "layout": wide})
+        found = []
+        for place in places[(kinds != NULL) & (kinds != SAMPLES)].tolist():  # those of which there are few
+            packet = batch.packet(place)
+            faults = packets.content_of(packet).faults
+            self.counts.update(fault.split()[0] for fault in faults)
+            if packet.kind == AVI and packet.header[1] == 2 and not faults:
+                found.append((place, packet.bytes[4] & 127))
+        return found
+
+
+def lost_of(batch: Batch, places: Ints) -> Bools:
+    """Which of the packets at some places of a batch have a lost block."""
+    lost = [place for place, thing in batch.special if thing.fault == "lost"]
+    found = np.zeros(len(places), bool)
+    found[np.searchsorted(places, lost) - 1] = True
+    return found
+
+
+def bodies_of(batch: Batch, places: Ints) -> tuple[npt.NDArray[np.uint8], npt.NDArray[np.uint8]]:
+    """The headers and the bodies of packets at some places of a batch."""
+    data = np.frombuffer(batch.data, np.uint8)
+    octets = data[batch.offsets[places, None] + np.arange(HEADER + BODIES * BODY)]
+    return octets[:, :HEADER], octets[:, HEADER:].reshape(-1, BODIES, BODY)
+
+
+def odd_sides(headers: npt.NDArray[np.uint8], bodies: npt.NDArray[np.uint8]) -> Bools:
+    """Of packets of samples of two channels, of each body and side whether its ones are odd where it is present."""
+    present = (headers[:, 1, None] >> np.arange(BODIES) & 1).astype(bool) & (headers[:, 1, None] & 16 == 0)
+    left = np.bitwise_xor.reduce(bodies[:, :, :3], axis=2) ^ bodies[:, :, 6] & 15
+    right = np.bitwise_xor.reduce(bodies[:, :, 3:6], axis=2) ^ bodies[:, :, 6] >> 4
+    found: Bools = np.stack([PARITY[left], PARITY[right]], axis=2) & present[:, :, None]
+    return found
+
+
+def faulty_samples(batch: Batch, places: Ints) -> tuple[int, int]:
+    """How many sides of samples of two channels have an odd parity, and how many packets have more channels."""
+    if not len(places):
+        return 0, 0
+    headers, bodies = bodies_of(batch, places)
+    return int(odd_sides(headers, bodies).sum()), int((headers[:, 1] >> 4 & 1).sum())
