@@ -28,6 +28,13 @@ pub nibble_below : (w : ℕ) → nibble_of w < 16
 unfolding nibble_of
 nibble_below w = zero_or_value (value_in terc_words w) (value_below_16 w)
 
+below_17 : (o : Option ℕ) → IfSome o (λ v. v < 16) → unwrap_or o 16 < 17
+below_17 o h = grind arith
+
+pub code_below : (w : ℕ) → code_of w < 17
+unfolding code_of
+code_below w = below_17 (value_in terc_words w) (value_below_16 w)
+
 -- A code says whether its word is a TERC4 word, and its nibble.
 
 nibble_in : (o : Option ℕ) → IfSome o (λ v. v < 16) → unwrap_or o 16 % 16 ≡ unwrap_or o 0

@@ -5,6 +5,7 @@ pub mod Columns
 pub mod WordColumns
 pub mod PixelColumns
 mod Parities
+mod Rows
 mod Laid
 pub mod Law
 pub mod Spelled

@@ -112,6 +112,14 @@ eight_lists (a ∷ (b ∷ (c ∷ (d ∷ (f ∷ (g ∷ (h ∷ []))))))) e = absur
 eight_lists (a ∷ (b ∷ (c ∷ (d ∷ (f ∷ (g ∷ (h ∷ (i ∷ ys)))))))) e =
     ap (λ zs. a ∷ (b ∷ (c ∷ (d ∷ (f ∷ (g ∷ (h ∷ (i ∷ zs)))))))) (eighth ys e)
 
+pub four_lists : (xs : List (List ℕ)) → length xs ≡ 4 → xs ≡ get_or xs 0 [] ∷ get_or xs 1 [] ∷ get_or xs 2 [] ∷ get_or xs 3 [] ∷ []
+four_lists [] e = absurd (omega arith)
+four_lists (a ∷ []) e = absurd (omega arith)
+four_lists (a ∷ (b ∷ [])) e = absurd (omega arith)
+four_lists (a ∷ (b ∷ (c ∷ []))) e = absurd (omega arith)
+four_lists (a ∷ (b ∷ (c ∷ (d ∷ [])))) e = refl
+four_lists (a ∷ (b ∷ (c ∷ (d ∷ (f ∷ xs))))) e = absurd (omega arith)
+
 -- four bodies, one after another
 pub length-four : (a b c d : List ℕ) → length a ≡ 7 → length b ≡ 7 → length c ≡ 7 → length d ≡ 7 → length (a ++ b ++ c ++ d) ≡ 28
 length-four a b c d la lb lc ld =

@@ -414,7 +414,7 @@ fn byte(block: u64, r: u8) -> u8
 }
 
 /// The number that has bit i of a byte in byte i.
-fn apart(byte: u8) -> u64
+pub fn apart(byte: u8) -> u64
     ensures value { result ≡ apart_of byte }
     ensures below { result ≤ 0x101010101010101 }
 {

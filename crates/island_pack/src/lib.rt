@@ -5,6 +5,7 @@ pub mod laws;
 mod laying;
 mod packet;
 mod ranges;
+mod spread;
 mod taking;
 
 pub use laying::lay;

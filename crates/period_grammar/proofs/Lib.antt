@@ -21,3 +21,4 @@ pub mod Groups
 pub mod Alike
 pub mod Pushed
 pub mod LinkOne
+mod NoControls

@@ -5,6 +5,7 @@ ghost use Rattle.tmds_word.specs.Column.{Column, column_of};
 ghost use Rattle.tmds_word.specs.Lent.{columns_in};
 ghost use Rattle.period_grammar.specs.Column.{sync_digit};
 ghost use Rattle.terc4.specs.Columns.{is_island_guard, closing_words};
+ghost use Rattle.terc4.specs.Tables.{is_control};
 ghost use Rattle.period_grammar.specs.Events.{Event, guard, empty, symbols, long_island};
 ghost use Rattle.island_pack.specs.Spelling.{column_words};
 ghost use Rattle.island_pack.specs.Repaired.{packet_of, verdicts_of, packet_in, verdicts_in};
@@ -177,16 +178,64 @@ fn is_closed_by(words: u8, column: &[Word; 3]) -> bool
 }
 
 /// Puts a column at a place after those before it.
-fn put_column(block: &mut [[Word; 3]; 32], at: u32, column: &[Word; 3])
+fn put_column(block: &mut [[Word; 3]; 32], at: usize, column: &[Word; 3])
     requires { at < 32 }
     ensures whole { length block.new ≡ 32 }
     ensures put { take (at + 1) block.new ≡ take at block.old ++ column_words (column_of column.now) ∷ [] }
 {
-    block[at as usize] = *column;
+    block[at] = *column;
 }
 
 /// Puts columns at a place after those before it, as long as they are no control columns, and answers how many these are.
-fn put_columns(block: &mut [[Word; 3]; 32], at: u32, columns: Columns<'_>) -> usize
+fn put_columns(block: &mut [[Word; 3]; 32], at: usize, columns: Columns<'_>) -> usize
+    requires { at + length (columns_in columns) ≤ 32 }
+    ensures within { result ≤ length (columns_in columns.entry) }
+    ensures pixels { All (λ c. is_pixel c ≡ true) (take result (columns_in columns.entry)) }
+    ensures put { take (at + result) block.new ≡ take at block.old ++ map column_words (take result (columns_in columns.entry)) }
+{
+    // A control column has a control word on lane 1 or 2.
+    if has_control(columns.green()) || has_control(columns.red()) {
+        return put_leading(block, at, columns);
+    }
+    put_all(block, at, columns);
+    columns.len()
+}
+
+/// Whether one of at most 32 words is a control word.
+fn has_control(words: &[u16]) -> bool
+    requires words { All (λ w. w < 1024) words.now }
+    requires few { length words.now ≤ 32 }
+    ensures { OnFalse result (All (λ w. is_control w ≡ false) words.now) }
+{
+    let mut count = 0;
+    for i in 0..words.len() {
+        count += u16::from(is_control(words[i]));
+    }
+    count != 0
+}
+
+/// Whether a word is a control word: two of these differ in bit 9 alone, and the two others have all their bits turned over.
+fn is_control(word: u16) -> bool
+    requires { word < 1024 }
+    ensures { result ≡ is_control word }
+{
+    let low = word % 512;
+    (low == 0x0ab) | (low == 0x154)
+}
+
+/// Puts columns at a place after those before it.
+fn put_all(block: &mut [[Word; 3]; 32], at: usize, columns: Columns<'_>)
+    requires { at + length (columns_in columns) ≤ 32 }
+    ensures put { take (at + length (columns_in columns.entry)) block.new ≡ take at block.old ++ map column_words (columns_in columns.entry) }
+{
+    for i in 0..columns.len() {
+        put_column(block, at + i, &columns.get(i));
+    }
+}
+
+/// Puts columns at a place after those before it, one by one, as long as they are no control columns, and answers how many
+/// these are.
+fn put_leading(block: &mut [[Word; 3]; 32], at: usize, columns: Columns<'_>) -> usize
     requires { at + length (columns_in columns) ≤ 32 }
     ensures within { result ≤ length (columns_in columns.entry) }
     ensures pixels { All (λ c. is_pixel c ≡ true) (take result (columns_in columns.entry)) }
@@ -197,7 +246,7 @@ fn put_columns(block: &mut [[Word; 3]; 32], at: u32, columns: Columns<'_>) -> us
         if is_control_column(&column) {
             return i;
         }
-        put_column(block, at + i as u32, &column);
+        put_column(block, at + i, &column);
     }
     columns.len()
 }
@@ -281,7 +330,7 @@ impl Island {
                     self.begin(column);
                     return;
                 }
-                put_column(&mut self.block, self.within, column);
+                put_column(&mut self.block, self.within as usize, column);
                 if self.within == 31 {
                     self.whole = taken(&self.block);
                     tell_packet(at, self.packets, &self.whole, notes);
@@ -357,7 +406,7 @@ impl Island {
             return 0;
         }
         let few = columns.len().min(31 - self.within as usize);
-        let count = put_columns(&mut self.block, self.within, columns.first(few));
+        let count = put_columns(&mut self.block, self.within as usize, columns.first(few));
         self.within += count as u32;
         count
     }
@@ -382,7 +431,7 @@ impl Island {
                 if self.within == 31 {
                     return false;
                 }
-                put_column(&mut self.block, self.within, column);
+                put_column(&mut self.block, self.within as usize, column);
                 self.within += 1;
                 true
             }

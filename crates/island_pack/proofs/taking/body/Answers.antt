@@ -8,14 +8,14 @@ use Rattle.island_pack.proofs.taking.body.Goals as goal
 
 pub returns-clause-taken : goal.returns-clause-taken
 returns-clause-taken c =
-    let quads = c.args.quads.now in
-    let at : List ℕ → ℕ = λ bytes. slice_index bytes c.args.b in
+    let rows = c.args.rows.now in
+    let at : List ℕ → ℕ = λ row. slice_index row c.args.b in
     let new = c.repair64-verdict.new.block in
-    let bytes = ap (map at) (eight_lists quads c.told-quads) in
+    let bytes = ap (map at) (eight_lists rows c.told-rows) in
     let bits = ap bits_of_bytes bytes in
     let first : c.body_in.result ≡ take 7 (get_or new 0 0 ∷ get_or new 1 0 ∷ get_or new 2 0 ∷ get_or new 3 0 ∷ get_or new 4 0 ∷ get_or new 5 0 ∷ get_or new 6 0 ∷ get_or new 7 0 ∷ []) =
     c.body_in.ensures.first ∙ ap (take 7) (eight new c.repair64-verdict.array_long) in
-    taken (bits_of_bytes (map at quads)) c.body_in.result 7 c.repair64-verdict.result
+    taken (bits_of_bytes (map at rows)) c.body_in.result 7 c.repair64-verdict.result
     (subst (λ x. IsVerdict x c.repair64-verdict.result) (sym bits) c.repair64-verdict.ensures.verdict)
     (ap length first)
     (ap bits_of_bytes first

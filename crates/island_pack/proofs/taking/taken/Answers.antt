@@ -1,33 +1,27 @@
-use Rattle.std.proofs.Common.{◌≡◌, ℕ, ◌<◌, ◌+◌, ◌*◌, ◌%◌, Bool, List, [], ◌∷◌, take, drop, map, ap, ap₂, arith, refl, sym, subst, ◌∙◌, All}
-use Rattle.bch_block.specs.Bits.{bit}
+use Rattle.std.proofs.Common.{◌≡◌, ℕ, ◌*◌, Bool, List, [], ◌∷◌, length, take, drop, ap, arith, refl, sym, subst, ◌∙◌}
 use Rattle.bch_block.specs.declared.Verdict.{Verdict}
 use Rattle.bch_block.specs.declared.Verdict.TheVariants.{Clean}
 use Rattle.std.specs.Prelude.{slice_index_or}
-use Rattle.std.proofs.lemmas.List.{length-map}
-use Rattle.island_pack.specs.Nibbles.{nibbles_of, by_turns, body_bits, header_bits, sync_values, foreign_words}
+use Rattle.island_pack.specs.Nibbles.{nibbles_of, by_turns, body_bits, header_bits, sync_values}
 use Rattle.island_pack.specs.Taken.{IsTaken}
-use Rattle.island_pack.proofs.Columns.{nibbles_below, length-nibbles_of}
 use Rattle.island_pack.proofs.Parts.{body_0, body_1, body_2, body_3, each_body, All-four, length-four}
+use Rattle.island_pack.proofs.Rows.{body_of_rows, header_of_rows, sync_of_rows, foreign_of_rows}
 use Rattle.island_pack.proofs.taking.taken.Goals as goal
-
-pub quads_of-quads-requires-clause-green : goal.quads_of-quads-requires-clause-green
-quads_of-quads-requires-clause-green c =
-    subst (All (λ n. n < 16)) (sym c.read_lane-green.ensures.nibbles) (nibbles_below c.args.columns.now 1)
-
-pub quads_of-quads-requires-clause-red : goal.quads_of-quads-requires-clause-red
-quads_of-quads-requires-clause-red c =
-    subst (All (λ n. n < 16)) (sym c.read_lane-red.ensures.nibbles) (nibbles_below c.args.columns.now 2)
 
 moved : (x y : List Bool) (bytes whole : List ℕ) (v : Verdict) → x ≡ y → whole ≡ bytes → IsTaken x bytes v → IsTaken y whole v
 moved x y bytes whole v e f taken = subst (λ z. IsTaken z whole v) e (subst (λ ys. IsTaken x ys v) (sym f) taken)
 
 pub returns : goal.returns
-unfolding body_bits header_bits sync_values foreign_words
+unfolding body_bits header_bits sync_values
 returns c =
     let columns = c.args.columns.now in
-    let greens = c.read_lane-green.ensures.nibbles in
-    let reds = c.read_lane-red.ensures.nibbles in
-    let blues = c.read_lane-blue.ensures.nibbles in
+    let long : length columns ≡ 32 = omega (arith, c.told-columns) in
+    let blue = c.blue_rows-blue.result in
+    let others = c.other_rows-others.result in
+    let are = c.blue_rows-blue.ensures in
+    let others_are = c.other_rows-others.ensures in
+    let four : length blue ≡ 4 = omega arith in
+    let eight : length others ≡ 8 = omega arith in
     let bits : ℕ → List Bool = λ b. by_turns b (nibbles_of columns 1) (nibbles_of columns 2) in
     let joined = c.joined.ensures in
     let verdicts : List Verdict =
@@ -41,19 +35,19 @@ returns c =
     let l2 = c.body-verdict2.ensures.long in
     let l3 = c.body-verdict3.ensures.long in
     record {
-      whole = grind (arith, length-four, All-four, length-map, length-nibbles_of);
-      sync = c.sync_of.ensures ∙ ap (map (λ n. n % 4)) blues;
+      whole = grind (arith, length-four, All-four);
+      sync = sync_of_rows columns blue c.sync_of.result long (omega arith) are c.sync_of.ensures;
       bodies =
           each_body (λ b. IsTaken (bits b) (take 7 (drop (7 * b) c.joined.result)) (slice_index_or verdicts b Clean))
-          (moved _ (bits 0) b0 _ _ (c.quads_of-quads.ensures 0 (omega arith) ∙ ap₂ (by_turns 0) greens reds)
+          (moved _ (bits 0) b0 _ _ (body_of_rows columns others 0 long eight (omega arith) others_are)
           (ap (take 7) joined ∙ body_0 b0 b1 b2 b3 l0) c.body-verdict0.ensures.taken)
-          (moved _ (bits 1) b1 _ _ (c.quads_of-quads.ensures 1 (omega arith) ∙ ap₂ (by_turns 1) greens reds)
+          (moved _ (bits 1) b1 _ _ (body_of_rows columns others 1 long eight (omega arith) others_are)
           (ap (λ ys. take 7 (drop 7 ys)) joined ∙ body_1 b0 b1 b2 b3 l0 l1) c.body-verdict1.ensures.taken)
-          (moved _ (bits 2) b2 _ _ (c.quads_of-quads.ensures 2 (omega arith) ∙ ap₂ (by_turns 2) greens reds)
+          (moved _ (bits 2) b2 _ _ (body_of_rows columns others 2 long eight (omega arith) others_are)
           (ap (λ ys. take 7 (drop 14 ys)) joined ∙ body_2 b0 b1 b2 b3 l0 l1 l2) c.body-verdict2.ensures.taken)
-          (moved _ (bits 3) b3 _ _ (c.quads_of-quads.ensures 3 (omega arith) ∙ ap₂ (by_turns 3) greens reds)
+          (moved _ (bits 3) b3 _ _ (body_of_rows columns others 3 long eight (omega arith) others_are)
           (ap (λ ys. take 7 (drop 21 ys)) joined ∙ body_3 b0 b1 b2 b3 l0 l1 l2 l3) c.body-verdict3.ensures.taken);
-      header = subst (λ x. IsTaken x c.header-verdict4.result.0 c.header-verdict4.result.1) (ap (map (λ n. bit n 2)) blues) c.header-verdict4.ensures.taken;
+      header = subst (λ x. IsTaken x c.header-verdict4.result.0 c.header-verdict4.result.1) (header_of_rows columns blue long four are) c.header-verdict4.ensures.taken;
       blocks = refl;
-      symbols = ap₂ (λ m n. m + n) (ap₂ (λ m n. m + n) c.read_lane-blue.ensures.foreign c.read_lane-green.ensures.foreign) c.read_lane-red.ensures.foreign;
+      symbols = c.foreign_in.ensures ∙ foreign_of_rows columns blue others long four eight are others_are;
     }

@@ -1,13 +1,15 @@
-use Rattle.std.proofs.Common.{sym, ◌∙◌}
+use Rattle.std.proofs.Common.{◌≡◌, ℕ, true, false, List, All, subst, sym, arith}
+use Rattle.std.proofs.lemmas.List.{take_all}
+use Rattle.tmds_word.specs.Column.{Column}
 use Rattle.tmds_word.specs.Lent.{columns_in}
-use Rattle.period_grammar.proofs.InPacket.{pixels_push, put_push}
+use Rattle.terc4.specs.Tables.{is_control}
+use Rattle.period_grammar.specs.Balanced.{is_pixel}
+use Rattle.period_grammar.proofs.NoControls.{pixels_from_lanes}
 use Rattle.period_grammar.proofs.island.put_columns.Goals as goal
 
-pub loop-i-preserved : goal.loop-i-preserved
-loop-i-preserved c =
+pub returns-clause-pixels : goal.returns-clause-pixels
+returns-clause-pixels c =
     let cols = columns_in c.args.columns in
-    let i = c.loop-i.i in
-    record {
-      pixels = pixels_push cols i _ c.get-column.ensures (sym c.is_control_column.ensures ∙ c.if-is_control_column.false) c.loop-i.invariant.pixels;
-      put = put_push cols i c.args.at _ c.args.block.now c.loop-i.block c.put_column.new.block c.get-column.ensures c.loop-i.invariant.put c.put_column.ensures.put;
-    }
+    let none : List ℕ → Type 0 = λ ws. All (λ w. is_control w ≡ false) ws in
+    subst (λ (cs : List Column). All (λ d. is_pixel d ≡ true) cs) (sym (take_all c.len.result cols (omega (arith, c.len.ensures))))
+    (pixels_from_lanes cols (subst none c.green.ensures.lane c.if-has_control.ensures) (subst none c.red.ensures.lane c.if-has_control-2.ensures))
