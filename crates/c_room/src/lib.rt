@@ -19,4 +19,5 @@ pub use handle::Handle;
 pub use kept::Ended;
 pub use lanes::{BitCounts, LentLanes};
 pub use record::Record;
+pub use room::EventRoom;
 pub use status::Status;

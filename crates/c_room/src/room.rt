@@ -52,6 +52,31 @@ impl<'a> EventRoom<'a> {
         self.used
     }
 
+    /// The records of the events that were written.
+    pub fn records(&self) -> &[Record]
+        ensures { result.now ≡ take self.now.count self.now.records.now }
+    {
+        &self.records[..self.count.min(self.records.len())]
+    }
+
+    /// The bytes that were written.
+    pub fn bytes(&self) -> &[u8]
+        ensures { result.now ≡ take self.now.used self.now.bytes.now }
+    {
+        &self.bytes[..self.used.min(self.bytes.len())]
+    }
+
+    /// Gives the room free again.
+    pub fn clear(&mut self)
+        ensures records { (self.new.records.ghost_name ≡ self.old.records.ghost_name) × (self.new.records.now ≡ self.old.records.now) }
+        ensures bytes { (self.new.bytes.ghost_name ≡ self.old.bytes.ghost_name) × (self.new.bytes.now ≡ self.old.bytes.now) }
+        ensures count { self.new.count ≡ 0 }
+        ensures used { self.new.used ≡ 0 }
+    {
+        self.count = 0;
+        self.used = 0;
+    }
+
     /// Whether there is room for an event with no bytes.
     pub fn has_one(&self) -> bool
         ensures one { OnTrue result (self.now.count < length self.now.records.now) }

@@ -1,7 +1,7 @@
 //! Three lanes whose characters arrive piece by piece, and the columns that they carry from their first
 //! full alignment on.
 
-ghost use Rattle.std.specs.Prelude.{ℕ, ◌≡◌, ◌<◌, ◌≤◌, ◌+◌, ◌-◌, ◌*◌, ◌^◌, ◌↔◌, ◌++◌, List, [], IsTrue, IfOk, IfSome, MatchOption, Some, None, length, take, drop, slice_index, true, min, cond, is_some};
+ghost use Rattle.std.specs.Prelude.{ℕ, ◌≡◌, ◌<◌, ◌≤◌, ◌+◌, ◌-◌, ◌*◌, ◌^◌, ◌↔◌, ◌++◌, List, [], IsTrue, IfSome, MatchOption, Some, None, length, take, drop, slice_index, true, min, cond, is_some};
 ghost use Rattle.lane_align.specs.Words.{AreWords};
 ghost use Rattle.lane_deskew.specs.Pushed.{History, no_history, pushed, ended, settled, consumed, AreEven, IsPastTriple, IsPastAlignment, AreKnown, Awaits, IsAligned, DeskewRepresents, CanPush, kept_of, IsCut, reach_of, ready_of, past_columns};
 ghost use Rattle.tmds_word.specs.Lent.{columns_in};
@@ -12,8 +12,6 @@ use crate::lane::Lane;
 use crate::stretch::first_triple;
 use crate::{Aligned, RUN};
 use lane_align::ROW_WORDS;
-use outside_io::NoMemory;
-use std::alloc::Global;
 use std::marker::Model;
 use tmds_word::Columns;
 
@@ -40,17 +38,17 @@ impl Model for Deskew {
 }
 
 impl Deskew {
-    /// A deskew to which nothing was pushed, with all memory that it ever has.
-    pub fn open(alloc: Global) -> Result<Deskew, NoMemory>
-        ensures stands { IfOk result (λ deskew. DeskewRepresents deskew no_history) }
-        ensures found { IfOk result (λ deskew. deskew.found ≡ None) }
+    /// A deskew to which nothing was pushed. Its rows are within it: it takes no memory.
+    pub fn open() -> Deskew
+        ensures stands { DeskewRepresents result no_history }
+        ensures found { result.found ≡ None }
     {
-        Ok(Deskew {
-            blue: Lane::open(alloc)?,
-            green: Lane::open(alloc)?,
-            red: Lane::open(alloc)?,
+        Deskew {
+            blue: Lane::open(),
+            green: Lane::open(),
+            red: Lane::open(),
             found: None,
-        })
+        }
     }
 
     /// Makes it as after `open`.

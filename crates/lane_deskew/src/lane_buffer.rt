@@ -1,14 +1,10 @@
-//! What is kept of the characters of one lane: at most 4,160, the last 32 of them in a ring while the
-//! lanes wait for their alignment.
+//! What is kept of the characters of one lane: at most 4,160, the last 32 of them aside while the lanes wait
+//! for their alignment.
 
-ghost use Rattle.std.specs.Prelude.{ℕ, ◌≡◌, ◌<◌, ◌≤◌, ◌+◌, ◌-◌, ◌++◌, List, [], IfOk, length, take, drop, slice_range};
-ghost use Rattle.circular_buffer.specs.Buffer.{keep_last};
-ghost use Rattle.lane_deskew.specs.Keeping.{stored};
+ghost use Rattle.std.specs.Prelude.{ℕ, ◌≡◌, ◌<◌, ◌≤◌, ◌+◌, ◌-◌, ◌++◌, List, [], length, take, drop, slice_range};
+ghost use Rattle.lane_deskew.specs.Keeping.{keep_last, stored};
 
-use circular_buffer::HeapCircularBuffer;
 use lane_align::ROW_WORDS;
-use outside_io::NoMemory;
-use std::alloc::Global;
 use std::marker::Model;
 
 /// How many are kept from one settling to the next. A new edge of one lane may lie near an edge whose
@@ -18,7 +14,10 @@ const LAST: usize = 32;
 /// The characters of a lane that are kept.
 #[derive(Drop)]
 pub(crate) struct LaneBuffer {
-    ring: HeapCircularBuffer<u16>,
+    /// The last characters of what was looked through, while the lanes wait.
+    aside: [u16; LAST],
+    /// How many these are.
+    waiting: usize,
     row: [u16; ROW_WORDS],
     /// How many characters of the row are kept.
     len: usize,
@@ -31,21 +30,22 @@ impl Model for LaneBuffer {
 
     ghost Value = { Stored };
 
-    ghost view = { λ k. record { ring = k.ring.items; row = take k.len k.row } };
+    ghost view = { λ k. record { ring = take k.waiting k.aside; row = take k.len k.row } };
 
-    ghost invariant = { λ k. (k.ring.capacity ≡ 32) × (length k.ring.items + k.len ≤ ROW_WORDS) × (0 < k.len → k.ring.items ≡ []) };
+    ghost invariant = { λ k. (k.waiting ≤ 32) × (k.waiting + k.len ≤ ROW_WORDS) × (0 < k.len → k.waiting ≡ 0) };
 }
 
 impl LaneBuffer {
     /// Room for all that is ever kept.
-    pub(crate) fn open(alloc: Global) -> Result<LaneBuffer, NoMemory>
-        ensures { IfOk result (λ k. k ≡ record { ring = []; row = [] }) }
+    pub(crate) fn open() -> LaneBuffer
+        ensures { result ≡ record { ring = []; row = [] } }
     {
-        Ok(LaneBuffer {
-            ring: HeapCircularBuffer::with_capacity(alloc, LAST)?,
+        LaneBuffer {
+            aside: [0; LAST],
+            waiting: 0,
             row: [0; ROW_WORDS],
             len: 0,
-        })
+        }
     }
 
     /// How many are kept.
@@ -53,7 +53,7 @@ impl LaneBuffer {
         ensures len { result ≡ length (stored self.now) }
         ensures within { result ≤ ROW_WORDS }
     {
-        self.ring.len() + self.row().len()
+        self.waiting + self.row().len()
     }
 
     /// The row.
@@ -63,17 +63,15 @@ impl LaneBuffer {
         &self.row[..self.len]
     }
 
-    /// Moves the ring's characters into the row.
+    /// Moves the characters that are kept aside into the row.
     pub(crate) fn gather(&mut self)
         ensures ring { self.new.ring ≡ [] }
         ensures row { self.new.row ≡ stored self.old }
     {
-        if !self.ring.is_empty() {
-            let (front, back) = self.ring.as_slices();
-            put(&mut self.row, 0, front);
-            put(&mut self.row, front.len(), back);
-            self.len = self.ring.len();
-            self.ring.clear();
+        if self.waiting > 0 {
+            put(&mut self.row, 0, &self.aside[..self.waiting]);
+            self.len = self.waiting;
+            self.waiting = 0;
         }
     }
 
@@ -88,13 +86,13 @@ impl LaneBuffer {
         self.len += words.len();
     }
 
-    /// Keeps the last 32 alone, in the ring.
+    /// Keeps the last 32 alone, aside.
     pub(crate) fn rest(&mut self)
         requires { self.old.ring ≡ [] }
         ensures ring { self.new.ring ≡ keep_last 32 self.old.row }
         ensures row { self.new.row ≡ [] }
     {
-        self.ring.extend_from_slice(&self.row[..self.len]);
+        self.waiting = put_last(&mut self.aside, &self.row[..self.len]);
         self.len = 0;
     }
 
@@ -121,7 +119,7 @@ impl LaneBuffer {
         ensures ring { self.new.ring ≡ [] }
         ensures row { self.new.row ≡ [] }
     {
-        self.ring.clear();
+        self.waiting = 0;
         self.len = 0;
     }
 }
@@ -133,6 +131,18 @@ fn put(row: &mut [u16], at: usize, words: &[u16])
     ensures put { take (at + length words.now) row.new ≡ take at row.old ++ words.now }
 {
     row[at..at + words.len()].copy_from_slice(words);
+}
+
+/// Puts the last 32 characters to the front of a room for so many, and answers how many they are.
+fn put_last(aside: &mut [u16], words: &[u16]) -> usize
+    requires { length aside.old ≡ 32 }
+    ensures few { result ≤ 32 }
+    ensures long { length aside.new ≡ length aside.old }
+    ensures put { take result aside.new ≡ keep_last 32 words.now }
+{
+    let last = &words[words.len().saturating_sub(LAST)..];
+    put(aside, 0, last);
+    last.len()
 }
 
 /// Moves the part from `start` to `end` to the front.

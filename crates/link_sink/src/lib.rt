@@ -6,6 +6,7 @@ mod ear;
 mod feeds;
 mod hear;
 mod hears;
+mod lane_receiver;
 mod link_hearing;
 mod receiver;
 mod sink;
@@ -14,6 +15,7 @@ mod telling;
 pub use ear::Ear;
 pub use hear::Outcome;
 pub use hears::Hears;
+pub use lane_receiver::LaneReceiver;
 pub use receiver::Receiver;
 pub use sink::{LaneSink, LinkSink};
 

@@ -1,22 +1,18 @@
-//! A sink of the bits of three lanes, which arrive feed after feed. Of what it took it keeps what is still to be
-//! reported: the last bits of each lane, the characters that wait for those of another lane, and the period
-//! that goes on.
-ghost use Rattle.std.specs.Prelude.{◌≡◌, List, [], true, false, map, IfOk, OnOk, OnErr};
+//! A sink of the bits of three lanes, which arrive feed after feed: a receiver in memory of its own.
+ghost use Rattle.std.specs.Prelude.{◌≡◌, List, true, false, IfOk, OnOk, OnErr};
 ghost use Rattle.outside_io.specs.Causes.{HasCause};
-ghost use Rattle.period_grammar.specs.Events.{Event, EventAt, all_at, event_of};
+ghost use Rattle.period_grammar.specs.Events.{Event, EventAt, all_at};
 ghost use Rattle.link_sink.specs.Ears.{StopsIn};
 ghost use Rattle.link_sink.specs.Sinks.{Fed, grown_by, IsGainBy, IsGainAt, IsLastBy};
 ghost use Rattle.link_sink.specs.Pieces.{no_bits};
 ghost use Rattle.link_sink.specs.Received.{CanFeedLanes, AreFedMore, IsFoundAt};
-ghost use Rattle.link_sink.specs.Streams.{StandsBy, IsHeard, IsAfter, bits_fed, most_bits};
+ghost use Rattle.link_sink.specs.Streams.{StandsBy, bits_fed, most_bits};
 
 use crate::Ear;
-use crate::columns::hear_columns;
 use crate::feeds::are_few;
 use crate::hear::Outcome;
 use crate::hears::Hears;
-use crate::receiver::Receiver;
-use crate::telling::hear_end;
+use crate::lane_receiver::LaneReceiver;
 use lane_deskew::Aligned;
 use lane_team::{Gate, Open};
 use outside_io::{Failed, NoMemory};
@@ -33,30 +29,16 @@ pub type LinkSink = LaneSink<Hearing>;
 /// alignment on. It has taken all its memory when it is opened.
 #[derive(Drop)]
 pub struct LaneSink<H: Hears> {
-    receiver: Receiver,
-    hearing: Box<H>,
-    /// What it would answer if the lanes ended.
-    outcome: Outcome,
-    is_open: bool,
+    /// It is too large to be moved about.
+    lanes: Box<LaneReceiver<H>>,
 }
 
-/// Before any column.
-const NOTHING: Outcome = Outcome {
-    aligned: false,
-    columns: 0,
-};
-
 impl<H: Hears> Model for LaneSink<H> {
-    ghost use Rattle.link_sink.specs.Streams.{LaneSinkSeen, IsKept};
+    ghost use Rattle.link_sink.specs.Streams.{LaneSinkSeen};
 
     ghost Value = { LaneSinkSeen H };
 
-    ghost view = { λ s. record {
-      stream = record { receiver = s.receiver; hearing = s.hearing.value; outcome = s.outcome };
-      is_open = s.is_open;
-    } };
-
-    ghost invariant = { λ s. IsKept H.goes_on s.is_open (record { receiver = s.receiver; hearing = s.hearing.value; outcome = s.outcome }) };
+    ghost view = { λ s. s.lanes.value };
 }
 
 impl<H: Hears> LaneSink<H> {
@@ -66,13 +48,8 @@ impl<H: Hears> LaneSink<H> {
         ensures fed { IfOk result (λ s. StandsBy H.goes_on s no_bits) }
         ensures bits { IfOk result (λ s. most_bits s ≡ 0) }
     {
-        let receiver = Receiver::open(alloc)?;
-        let hearing = open_hearing(alloc)?;
         Ok(LaneSink {
-            receiver,
-            hearing,
-            outcome: NOTHING,
-            is_open: true,
+            lanes: open_lanes(alloc)?,
         })
     }
 
@@ -82,17 +59,14 @@ impl<H: Hears> LaneSink<H> {
         ensures fed { StandsBy H.goes_on self.new no_bits }
         ensures bits { most_bits self.new ≡ 0 }
     {
-        self.receiver.restart();
-        self.hearing.restart();
-        self.outcome = NOTHING;
-        self.is_open = true;
+        self.lanes.restart();
     }
 
     /// Whether it is neither spent nor finished.
     pub fn is_open(&self) -> bool
         ensures { result ≡ self.now.is_open }
     {
-        self.is_open
+        self.lanes.is_open()
     }
 
     /// Where the lanes are aligned first, in all bits that it was fed; None exactly where they are aligned nowhere. The
@@ -100,7 +74,7 @@ impl<H: Hears> LaneSink<H> {
     pub fn alignment(&self) -> Option<Aligned>
         ensures { (fed : Fed) → StandsBy H.goes_on self.now fed → IsFoundAt fed result }
     {
-        self.receiver.alignment()
+        self.lanes.alignment()
     }
 
     /// Takes the bits of each lane, and reports to the ear what they decide, each event at its column. A worker of each lane passes the gate. Of a
@@ -130,16 +104,7 @@ impl<H: Hears> LaneSink<H> {
             → OnErr result ((events : List Event) × IsGainBy H.grammar fed (grown_by fed lanes.entry) events × StopsIn E.took E.broke ear.old ear.new events) }
         ensures cause { HasCause (E.faults ear.old) (E.faults ear.new) result }
     {
-        self.is_open = false;
-        self.outcome.aligned = self.receiver.feed(rt, lanes, gate);
-        hear_parts(
-            &mut self.receiver,
-            &mut *self.hearing,
-            &mut self.outcome,
-            ear,
-        )?;
-        self.is_open = true;
-        Ok(())
+        self.lanes.feed(rt, lanes, gate, ear)
     }
 
     /// Takes the bits of each lane as `feed` does, one lane after another: by the caller's own thread, however many they
@@ -163,16 +128,7 @@ impl<H: Hears> LaneSink<H> {
             → OnErr result ((events : List Event) × IsGainBy H.grammar fed (grown_by fed lanes.entry) events × StopsIn E.took E.broke ear.old ear.new events) }
         ensures cause { HasCause (E.faults ear.old) (E.faults ear.new) result }
     {
-        self.is_open = false;
-        self.outcome.aligned = self.receiver.feed_in_turn(lanes);
-        hear_parts(
-            &mut self.receiver,
-            &mut *self.hearing,
-            &mut self.outcome,
-            ear,
-        )?;
-        self.is_open = true;
-        Ok(())
+        self.lanes.feed_in_turn(lanes, ear)
     }
 
     /// Takes the bits of each lane as `feed` does with no gate to pass. Where they are few the lanes are fed one after
@@ -225,45 +181,16 @@ impl<H: Hears> LaneSink<H> {
             → OnErr result ((outcome : Outcome) × (events : List Event) × IsLastBy H.grammar fed outcome events × StopsIn E.took E.broke ear.old ear.new events) }
         ensures cause { HasCause (E.faults ear.old) (E.faults ear.new) result }
     {
-        self.is_open = false;
-        if !self.outcome.aligned {
-            return Ok(self.outcome);
-        }
-        hear_end(&mut *self.hearing, ear)?;
-        Ok(self.outcome)
+        self.lanes.finish(ear)
     }
 }
 
-/// Hears the received columns, and reports to the ear what they say.
-fn hear_parts<H: Hears, E: Ear>(
-    receiver: &mut Receiver,
-    hearing: &mut H,
-    outcome: &mut Outcome,
-    ear: &mut E,
-) -> Result<(), Failed>
-    requires { (before now : Fed) × IsAfter H.goes_on (record { receiver = receiver.old; hearing = hearing.old; outcome = outcome.old }) before now }
-    ensures heard { (before now : Fed) → IsAfter H.goes_on (record { receiver = receiver.old; hearing = hearing.old; outcome = outcome.old }) before now
-        → OnOk result (IsHeard H.goes_on (record { receiver = receiver.new; hearing = hearing.new; outcome = outcome.new }) now) }
-    ensures reported { (before now : Fed) → IsAfter H.goes_on (record { receiver = receiver.old; hearing = hearing.old; outcome = outcome.old }) before now
-        → OnOk result ((events : List EventAt) × IsGainAt H.grammar before now events × IsGainBy H.grammar before now (map event_of events)
-        × E.took_at ear.old ear.new events) }
-    ensures stopped { (before now : Fed) → IsAfter H.goes_on (record { receiver = receiver.old; hearing = hearing.old; outcome = outcome.old }) before now
-        → OnErr result ((events : List Event) × IsGainBy H.grammar before now events × StopsIn E.took E.broke ear.old ear.new events) }
-    ensures team { receiver.new.team ≡ receiver.old.team }
-    ensures cause { HasCause (E.faults ear.old) (E.faults ear.new) result }
-{
-    let columns = receiver.columns();
-    let count = columns.len();
-    hear_columns(columns, hearing, ear)?;
-    receiver.consume(count);
-    outcome.columns += count as u64;
-    Ok(())
-}
-
-/// A hearing in memory of its own: it is too large to be moved about.
+/// A receiver in memory of its own.
 #[inline(never)]
-fn open_hearing<H: Hears>(alloc: Global) -> Result<Box<H>, NoMemory>
-    ensures { IfOk result (λ h. H.goes_on h.value []) }
+fn open_lanes<H: Hears>(alloc: Global) -> Result<Box<LaneReceiver<H>>, NoMemory>
+    ensures open { IfOk result (λ lanes. lanes.value.is_open ≡ true) }
+    ensures fed { IfOk result (λ lanes. StandsBy H.goes_on lanes.value no_bits) }
+    ensures bits { IfOk result (λ lanes. most_bits lanes.value ≡ 0) }
 {
-    Ok(Box::new(alloc, H::open())?)
+    Ok(Box::new(alloc, LaneReceiver::new())?)
 }

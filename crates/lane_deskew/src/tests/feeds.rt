@@ -246,7 +246,7 @@ fn feed_case(
     zeros: u32,
     pieces: [u32; 3],
 ) -> Result<(Option<Aligned>, usize), Fail> {
-    let mut deskew = Deskew::open(alloc)?;
+    let mut deskew = Deskew::open();
     let mut lanes = FedLanes::open(alloc, case, zeros)?;
     feed_all(rt, alloc, &mut deskew, &mut lanes, case, pieces)
 }

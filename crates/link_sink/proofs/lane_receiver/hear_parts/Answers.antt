@@ -6,7 +6,7 @@ use Rattle.link_sink.specs.Sinks.{IsGainBy}
 use Rattle.link_sink.proofs.Stops.{on_err}
 use Rattle.link_sink.proofs.Alone.{none_alone, events_alone}
 use Rattle.link_sink.proofs.After.{few_lent, lent_gain, now_heard}
-use Rattle.link_sink.proofs.sink.hear_parts.Goals as goal
+use Rattle.link_sink.proofs.lane_receiver.hear_parts.Goals as goal
 
 pub hear_columns-requires-clause-few : goal.hear_columns-requires-clause-few
 hear_columns-requires-clause-few g c =
