@@ -1,4 +1,4 @@
--- What was found of the first full alignment stays so where lanes grow.
+-- What was found of the full alignments stays so where lanes grow.
 use Rattle.std.proofs.Common.{◌≡◌, ◌⊎◌, ℕ, ◌+◌, ◌-◌, ◌<◌, ◌≤◌, max, Bool, List, [], ◌++◌, length, Option, Some, None, ap, ◌∙◌, sym, subst, arith, inl, inr, append-nil}
 use Rattle.std.specs.Prelude.{MatchOption}
 use Rattle.std.proofs.lemmas.Bool.{cases_lt}
@@ -7,7 +7,7 @@ use Rattle.lane_align.proofs.Growing.{run_was, edge_stays, edge_was}
 use Rattle.lane_edges.specs.declared.finder.EdgeFinder.{EdgeFinder}
 use Rattle.lane_edges.proofs.Growing.{scanned_grows, none_grows}
 use Rattle.alignment_search.specs.Reached.{IsAt, HasLocked, HasReached}
-use Rattle.alignment_search.specs.Searches.{HasSearched}
+use Rattle.alignment_search.specs.Searches.{IsAnswered, HasSearched}
 use Rattle.alignment_search.specs.declared.lane.LaneEdges.{LaneEdges}
 use Rattle.alignment_search.specs.declared.finder.AlignmentFinder.{AlignmentFinder}
 
@@ -59,25 +59,50 @@ reached_grows xs us from limit lane grows reached = elim grows.2 [
   | inr none ↦ subst (λ ys. HasReached ys from (limit - 119) limit lane) (same_of xs us grows.0 grows.1 none) reached
 ]
 
+edge_is_there : (limit : ℕ) (xs us : List Bool) (e : ℕ) → GrowsFrom limit xs us → IsEdge xs e → IsEdge us e
+edge_is_there limit xs us e grows edge = edge_stays xs us grows.0 grows.1 e edge
+
 pub search_grows : (finder : AlignmentFinder) (xs ys zs us vs ws : List Bool) → GrowsFrom finder.limit xs us → GrowsFrom finder.limit ys vs → GrowsFrom finder.limit zs ws
     → HasSearched finder xs ys zs → HasSearched finder us vs ws
 search_grows finder xs ys zs us vs ws blue green red was =
     let limit = finder.limit in
     record {
+      low = was.low;
+      near = was.near;
+      order = was.order;
       reached = record {
-        blue = reached_grows xs us (limit - 70) limit finder.blue blue was.reached.blue;
-        green = reached_grows ys vs (limit - 70) limit finder.green green was.reached.green;
-        red = reached_grows zs ws (limit - 70) limit finder.red red was.reached.red;
+        blue = reached_grows xs us was.low limit finder.blue blue was.reached.blue;
+        green = reached_grows ys vs was.low limit finder.green green was.reached.green;
+        red = reached_grows zs ws was.low limit finder.red red was.reached.red;
       };
-      late = λ d e f t. elim (cases_lt (max d (max e f)) limit) [
+      answered = elim was.answered [
+        | inl nothing ↦ inl nothing
+        | inr last ↦ inr (last.0, last.1, last.2, answered last.0 last.1 last.2 last.3)
+      ];
+      within = was.within;
+      none = λ d e f t later. elim (cases_lt (max d (max e f)) limit) [
         | inr past ↦ past
-        | inl before ↦ was.late d e f (record {
+        | inl before ↦ was.none d e f (record {
           blue = edge_was_there limit xs us d blue (omega arith) t.blue;
           green = edge_was_there limit ys vs e green (omega arith) t.green;
           red = edge_was_there limit zs ws f red (omega arith) t.red;
           blue_green = t.blue_green;
           green_red = t.green_red;
           blue_red = t.blue_red;
-        })
+        }) later
       ];
+    }
+  where
+    answered : (d e f : ℕ) → IsAnswered finder xs ys zs d e f → IsAnswered finder us vs ws d e f
+    answered d e f last = record {
+      triple = record {
+        blue = edge_is_there finder.limit xs us d blue last.triple.blue;
+        green = edge_is_there finder.limit ys vs e green last.triple.green;
+        red = edge_is_there finder.limit zs ws f red last.triple.red;
+        blue_green = last.triple.blue_green;
+        green_red = last.triple.green_red;
+        blue_red = last.triple.blue_red;
+      };
+      from = last.from;
+      past = last.past;
     }

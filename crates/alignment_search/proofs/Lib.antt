@@ -1,4 +1,5 @@
 mod Locks
 mod Looking
 mod Searching
+pub mod Alignments
 pub mod Growing

@@ -1,17 +1,11 @@
--- How far the first full alignment of three lanes was looked for.
-use Rattle.std.specs.Prelude.{ℕ, ◌-◌, ◌≤◌, max, min, Bool, List, slice_index}
+-- How far the full alignments of three lanes were looked for.
+use Rattle.std.specs.Prelude.{◌≡◌, ◌⊎◌, ℕ, ◌+◌, ◌-◌, ◌≤◌, max, min, Bool, List, slice_index}
 use Rattle.lane_deskew.specs.Triples.{IsTriple}
+use Rattle.alignment_search.specs.Alignments.{greatest, least, HasNoAlignment}
 use Rattle.alignment_search.specs.Reached.{HasReached, IsBound}
 use Rattle.alignment_search.specs.declared.finder.AlignmentFinder.{AlignmentFinder}
 
--- of three places
-abbrev pub greatest : List ℕ → ℕ
-greatest places = max (slice_index places 0) (max (slice_index places 1) (slice_index places 2))
-
-abbrev pub least : List ℕ → ℕ
-least places = min (slice_index places 0) (min (slice_index places 1) (slice_index places 2))
-
--- all of them lie from a place on, and none past a limit
+-- all of three places lie from a place on, and none past a limit
 pub record AreWithin (from : ℕ) (places : List ℕ) (limit : ℕ) : Type 0 where
   pub after : from ≤ least places
   pub before : greatest places ≤ limit
@@ -27,7 +21,19 @@ pub record AreBounds (xs ys zs : List Bool) (from limit : ℕ) (places : List �
   pub green : IsBound ys from limit (slice_index places 1)
   pub red : IsBound zs from limit (slice_index places 2)
 
--- no alignment has all edges before the limit: those at which one can have its edges are known that far
+-- the last alignment that was answered
+pub record IsAnswered (finder : AlignmentFinder) (xs ys zs : List Bool) (blue green red : ℕ) : Type 0 where
+  pub triple : IsTriple xs ys zs blue green red
+  pub from : finder.from ≡ min blue (min green red) + 1
+  pub past : finder.past ≡ max blue (max green red) + 1
+
+-- no alignment past the last one that was answered has all edges before the limit: those at which one can have its edges are
+-- known that far
 pub record HasSearched (finder : AlignmentFinder) (xs ys zs : List Bool) : Type 0 where
-  pub reached : HaveReached finder xs ys zs (finder.limit - 70) (finder.limit - 119) finder.limit
-  pub late : (d e f : ℕ) → IsTriple xs ys zs d e f → finder.limit ≤ max d (max e f)
+  pub low : ℕ
+  pub near : finder.limit ≤ low + 71
+  pub order : low ≤ max finder.from (finder.limit - 70)
+  pub reached : HaveReached finder xs ys zs low (finder.limit - 119) finder.limit
+  pub answered : ((finder.from ≡ 0) × (finder.past ≡ 0)) ⊎ ((d e f : ℕ) × IsAnswered finder xs ys zs d e f)
+  pub within : finder.past ≤ finder.limit
+  pub none : HasNoAlignment xs ys zs finder.past finder.limit

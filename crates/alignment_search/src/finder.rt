@@ -1,9 +1,9 @@
-//! The first full alignment: the edges of three lanes, any two near each other, whose largest is least.
-ghost use Rattle.std.specs.Prelude.{◌≡◌, ◌<◌, ◌≤◌, ◌+◌, ◌-◌, ◌^◌, ◌↔◌, ℕ, Bool, List, MatchOption, IsTrue};
-ghost use Rattle.lane_deskew.specs.Triples.{IsAlignment};
+//! The full alignments: the edges of three lanes, any two near each other, in the order of their largest.
+ghost use Rattle.std.specs.Prelude.{◌≡◌, ◌<◌, ◌≤◌, ◌+◌, ◌-◌, ◌^◌, ◌↔◌, ℕ, Bool, List, MatchOption, IfSome, IsTrue};
+ghost use Rattle.alignment_search.specs.Alignments.{greatest, least, HasNoAlignment, IsNextAlignment};
 ghost use Rattle.alignment_search.specs.Parts.{HaveRoom, ArePartsOf};
 ghost use Rattle.alignment_search.specs.Reached.{CanReach};
-ghost use Rattle.alignment_search.specs.Searches.{HasSearched, HaveReached, AreWithin, AreBounds, greatest, least};
+ghost use Rattle.alignment_search.specs.Searches.{HasSearched, HaveReached, AreWithin, AreBounds};
 
 use crate::lane::{LaneEdges, LanePart};
 use lane_align::RUN_BITS;
@@ -25,13 +25,17 @@ pub struct LaneParts<'a> {
     pub base: u64,
 }
 
-/// How far the first full alignment of three lanes was looked for.
+/// How far the full alignments of three lanes were looked for, one after another.
 #[derive(Clone, Copy, Debug)]
 pub struct AlignmentFinder {
     blue: LaneEdges,
     green: LaneEdges,
     red: LaneEdges,
-    /// No alignment has all edges before this place.
+    /// One more than the least edge of the last alignment that was answered; 0 before. A later one has no edge before it.
+    from: u64,
+    /// One more than its greatest edge; 0 before.
+    past: u64,
+    /// No later alignment has all edges before this place.
     limit: u64,
 }
 
@@ -39,29 +43,35 @@ impl AlignmentFinder {
     /// A finder that has looked at nothing.
     pub fn new() -> AlignmentFinder
         ensures limit { result.limit ≡ 0 }
+        ensures past { result.past ≡ 0 }
         ensures searched { (xs ys zs : List Bool) → HasSearched result xs ys zs }
     {
         AlignmentFinder {
             blue: LaneEdges::new(),
             green: LaneEdges::new(),
             red: LaneEdges::new(),
+            from: 0,
+            past: 0,
             limit: 0,
         }
     }
 
-    /// Looks for edges before `limit`, and answers those of the first full alignment where all of them are; None where
-    /// there is no such alignment.
+    /// Looks for edges before `limit`, and answers those of the next full alignment where all of them are: of those past the
+    /// last one that was answered, that whose largest edge is least. None where there is no such alignment.
     pub fn seek(&mut self, parts: LaneParts<'_>, limit: u64) -> Option<[u64; 3]>
         requires room { HaveRoom parts }
         requires after { parts.base ≤ self.old.limit - 119 }
         requires rises { self.old.limit ≤ limit }
         requires total { limit < 2 ^ 62 }
         requires searched { (xs ys zs : List Bool) × ArePartsOf parts xs ys zs × HasSearched self.old xs ys zs }
-        ensures limit { self.new.limit ≡ limit }
+        ensures limit { MatchOption result (self.new.limit ≡ limit) (λ edges. self.new.limit ≡ greatest edges + 1) }
+        ensures past { MatchOption result (self.new.past ≡ self.old.past) (λ edges. self.new.past ≡ greatest edges + 1) }
+        ensures within { IfSome result (λ edges. (self.old.limit ≤ greatest edges) × (greatest edges < limit)) }
+        ensures searched { (xs ys zs : List Bool) → ArePartsOf parts.entry xs ys zs → HasSearched self.old xs ys zs → HasSearched self.new xs ys zs }
         ensures found { (xs ys zs : List Bool) → ArePartsOf parts.entry xs ys zs → HasSearched self.old xs ys zs
-            → MatchOption result (HasSearched self.new xs ys zs) (λ edges. IsAlignment xs ys zs edges × (greatest edges < limit)) }
+            → MatchOption result (HasNoAlignment xs ys zs self.old.past limit) (λ edges. IsNextAlignment xs ys zs self.old.past edges) }
     {
-        let mut from = self.limit.saturating_sub(NEAR);
+        let mut from = self.from.max(self.limit.saturating_sub(NEAR));
         self.find_locks(parts, limit);
         self.limit = limit;
         let mut edges = self.edges_from(parts, from);
@@ -70,6 +80,9 @@ impl AlignmentFinder {
             edges = self.edges_from(parts, from);
         }
         if greatest(edges) < limit {
+            self.from = least(edges) + 1;
+            self.past = greatest(edges) + 1;
+            self.limit = self.past;
             Some(edges)
         } else {
             None
@@ -82,6 +95,8 @@ impl AlignmentFinder {
         requires after { parts.base ≤ self.old.limit - 119 }
         requires rises { self.old.limit ≤ limit }
         requires total { limit < 2 ^ 62 }
+        ensures from { self.new.from ≡ self.old.from }
+        ensures past { self.new.past ≡ self.old.past }
         ensures limit { self.new.limit ≡ self.old.limit }
         ensures reached { (xs ys zs : List Bool) (low : ℕ) → ArePartsOf parts.entry xs ys zs → HaveReached self.old xs ys zs low (self.old.limit - 119) self.old.limit
             → HaveReached self.new xs ys zs low (limit - 119) self.old.limit }
@@ -101,6 +116,8 @@ impl AlignmentFinder {
         requires order { from ≤ self.old.limit }
         requires base { parts.base ≤ self.old.limit }
         requires reached { (xs ys zs : List Bool) × (low was : ℕ) × ArePartsOf parts xs ys zs × HaveReached self.old xs ys zs low (self.old.limit - 119) was × CanReach parts.base low was from self.old.limit }
+        ensures from { self.new.from ≡ self.old.from }
+        ensures past { self.new.past ≡ self.old.past }
         ensures limit { self.new.limit ≡ self.old.limit }
         ensures within { AreWithin from result self.old.limit }
         ensures reached { (xs ys zs : List Bool) (low was : ℕ) → ArePartsOf parts.entry xs ys zs → HaveReached self.old xs ys zs low (self.old.limit - 119) was → CanReach parts.entry.base low was from self.old.limit
@@ -122,10 +139,16 @@ fn greatest(places: [u64; 3]) -> u64
     places[0].max(places[1].max(places[2]))
 }
 
+/// The least of three places.
+fn least(places: [u64; 3]) -> u64
+    ensures { result ≡ least places }
+{
+    places[0].min(places[1].min(places[2]))
+}
+
 /// Whether any two of three places are near each other.
 fn are_near(places: [u64; 3]) -> bool
     ensures { IsTrue result ↔ (greatest places ≤ least places + 70) }
 {
-    let least = places[0].min(places[1].min(places[2]));
-    greatest(places) - least <= NEAR
+    greatest(places) - least(places) <= NEAR
 }

@@ -1,4 +1,4 @@
-//! The first full alignment of three lanes, looked for part after part of their bits.
+//! The full alignments of three lanes, one after another, looked for part after part of their bits.
 #![tactic(auto)]
 
 mod finder;
@@ -6,3 +6,6 @@ mod lane;
 
 pub use finder::{AlignmentFinder, LaneParts};
 pub use lane::LanePart;
+
+#[cfg(test)]
+mod tests;

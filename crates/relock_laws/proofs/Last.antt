@@ -30,7 +30,7 @@ use Rattle.relock_sink.specs.Relocks.{is_announced, IsUnconfirmed, IsLastEpoch}
 use Rattle.relock_laws.proofs.Announced.{PairAt, pair_at, announced_at}
 
 -- aligned columns that are received columns from one on
-column_is : (received aligned : List Column) (a j : ℕ) (c : Column) → aligned ≡ take (length aligned) (drop a received) → slice_get aligned j ≡ Some c
+pub column_is : (received aligned : List Column) (a j : ℕ) (c : Column) → aligned ≡ take (length aligned) (drop a received) → slice_get aligned j ≡ Some c
     → (a + j < length received) × (column_at received (a + j) ≡ c)
 column_is received aligned a j c columns here =
     let n = length aligned in

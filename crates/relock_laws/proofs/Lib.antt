@@ -10,3 +10,5 @@ pub mod GoodPeriod
 pub mod Settling
 pub mod Again
 pub mod AgainExample
+pub mod Standing
+pub mod Refuting

@@ -3,6 +3,7 @@
 #![tactic(auto)]
 
 ghost use Rattle.relock_laws.specs.Laws.{PayloadIsLastEpoch, UntilIsLastEpoch, LocalIsLastEpoch, SlipIsConfirmed, SlipEnds, HasLastExample, HasSlipEndExample};
+ghost use Rattle.relock_laws.specs.Refuted.{EndsOpen, PayloadStands, UntilStands, PeriodRefutes};
 ghost use Rattle.relock_laws.specs.Settled.{EndsOrIsLast, OneEnd, SettlesAtPeriod, SettlesForGood, RecoversAgain, HasAgainExample};
 
 /// The lanes of a tap whose damage lies in pixels and packets alone have one epoch.
@@ -67,4 +68,22 @@ pub fn recovers_again()
 /// The premises can be met: a stream, a tap one lane of which loses bits, and a good control period after that.
 pub fn again_example()
     ensures { HasAgainExample }
+{}
+
+/// After each control period that is received to end a period opens, where damage is sparse.
+pub fn ends_open()
+    ensures { EndsOpen }
+{}
+
+/// So the alignment of a tap is refuted by no other edges: where damage lies in pixels and packets alone, and where it is sparse,
+/// wherever it lies, and spares control and guard characters until a column that each lane has.
+pub fn true_alignment_stands()
+    ensures payload { PayloadStands }
+    ensures until { UntilStands }
+{}
+
+/// Each earlier alignment with another skew is refuted at a control period of nineteen characters whose guard band is received whole,
+/// or by it too something opens there.
+pub fn period_refutes()
+    ensures { PeriodRefutes }
 {}

@@ -6,9 +6,11 @@ use Rattle.tmds_word.specs.Bits.{window}
 use Rattle.lane_align.proofs.Controls.{run_within}
 use Rattle.lane_track.specs.Strays.{IsStray}
 use Rattle.lane_track.specs.Scouts.{HasSought}
-use Rattle.lane_deskew.specs.Triples.{IsTriple, IsAlignment}
+use Rattle.lane_deskew.specs.Triples.{IsAlignment}
 use Rattle.lane_deskew.specs.Aligned.{column_from, aligned_column, place}
-use Rattle.alignment_search.specs.Searches.{greatest, least, HasSearched}
+use Rattle.alignment_search.specs.Alignments.{greatest, least, IsNextAlignment}
+use Rattle.alignment_search.specs.Searches.{HasSearched}
+use Rattle.alignment_search.proofs.Alignments.{next_is_first}
 use Rattle.alignment_search.proofs.Growing.{search_grows}
 use Rattle.link_sink.specs.Sinks.{Fed}
 use Rattle.track_sink.specs.Epochs.{front_of, most_of, stray_ends, IsEnd, HasNoEnd}
@@ -27,8 +29,7 @@ use Rattle.relock_sink.specs.Watches.{IsJudged, HasNoneWhatever, IsSeeking, HasW
 use Rattle.relock_sink.specs.declared.relock.Relock.{Relock}
 use Rattle.relock_sink.specs.Growing.{lane_grows_from, shown_within}
 use Rattle.relock_sink.specs.Ends.{far_edges, end_was}
-use Rattle.track_sink.specs.Feds.{same_grows}
-use Rattle.relock_sink.specs.Watching.{never_unconfirmed}
+use Rattle.relock_sink.specs.Watching.{none_yet, never_unconfirmed}
 use Rattle.relock_sink.proofs.Fronts.{most_front, front_grows}
 
 when_true : (P Q : Type 0) (b : Bool) → b ≡ true → P → MatchBool b P Q
@@ -123,15 +124,18 @@ judged_here w fed limit edges flag first before long opened =
     record { none = λ p q r is. absurd (never_unconfirmed fed p q r judged is); known = when_true (IsJudged fed) (HasNoneWhatever w fed × (w.alignment.limit ≡ limit)) w.is_judged flag judged }
 
 -- no alignment is found yet
-pub none_here : (w : Relock) (fed : Fed) (limit : ℕ) → w.is_judged ≡ false → w.alignment.limit ≡ limit → limit + 19 ≤ most_of fed → HasSearched w.alignment fed.blue fed.green fed.red → HasNoDoubt w fed limit
-none_here w fed limit flag at long searched =
+pub none_here : (w : Relock) (fed : Fed) (limit : ℕ) → w.is_judged ≡ false → w.alignment.past ≡ 0 → w.alignment.limit ≡ limit → limit + 19 ≤ most_of fed → HasSearched w.alignment fed.blue fed.green fed.red → HasNoDoubt w fed limit
+none_here w fed limit flag first at long searched =
     let near : w.alignment.limit + 9 ≤ most_of fed = omega arith in
-    let whatever : HasNoneWhatever w fed = λ later grows.
-    search_grows w.alignment fed.blue fed.green fed.red later.blue later.green later.red
-    (lane_grows_from fed later w.alignment.limit grows near 0 (omega arith)) (lane_grows_from fed later w.alignment.limit grows near 1 (omega arith))
-    (lane_grows_from fed later w.alignment.limit grows near 2 (omega arith)) searched in
+    let whatever : HasNoneWhatever w fed = (
+      first,
+      λ later grows.
+          search_grows w.alignment fed.blue fed.green fed.red later.blue later.green later.red
+          (lane_grows_from fed later w.alignment.limit grows near 0 (omega arith)) (lane_grows_from fed later w.alignment.limit grows near 1 (omega arith))
+          (lane_grows_from fed later w.alignment.limit grows near 2 (omega arith)) searched,
+    ) in
     record {
-      none = λ d e f is. let late = searched.late d e f is.first.triple in omega arith;
+      none = λ d e f is. let late = none_yet w fed whatever d e f is.first.triple in omega arith;
       known = when_false (IsJudged fed) (HasNoneWhatever w fed × (w.alignment.limit ≡ limit)) w.is_judged flag (whatever, at);
     }
 
@@ -195,7 +199,7 @@ pub last_seeking : (w : Relock) (fed : Fed) → IsSought w.strays fed → IsSeek
 last_seeking w fed sought seeking all = record {
   no_stray = none;
   confirmed = λ d e f is.
-      let late = (seeking.searched fed (same_grows fed)).late d e f is.first.triple in
+      let late = none_yet w fed seeking.searched d e f is.first.triple in
       let shown = shown_within fed d e f is in
       let far = far_edges fed d e f is in
       elim seeking.far [
@@ -216,11 +220,13 @@ pub judged_by : (w : Relock) (fed : Fed) (limit : ℕ) (edges : List ℕ) (found
 judged_by w fed limit edges None flag first before long opened = judged_here w fed limit edges flag first before long opened
 judged_by w fed limit edges (Some place) flag first before long doubted = doubt_found fed edges first limit place before doubted
 
+-- the next alignment after none is the first
+pub first_found : (w : Relock) (fed : Fed) (edges : List ℕ) → w.alignment.past ≡ 0 → IsNextAlignment fed.blue fed.green fed.red w.alignment.past edges → IsAlignment fed.blue fed.green fed.red edges
+first_found w fed edges first next = (next_is_first fed.blue fed.green fed.red edges).0 (subst (λ n. IsNextAlignment fed.blue fed.green fed.red n edges) first next)
+
 -- an alignment that is found lies near the place from which on it was looked for
-pub edges_lent : (fed : Fed) (edges : List ℕ) (limit base : ℕ) → IsAlignment fed.blue fed.green fed.red edges
-    → ((d e f : ℕ) → IsTriple fed.blue fed.green fed.red d e f → limit ≤ max d (max e f)) → base ≤ limit - 119 → base ≤ least edges
+pub edges_lent : (fed : Fed) (edges : List ℕ) (limit base : ℕ) → IsAlignment fed.blue fed.green fed.red edges → limit ≤ greatest edges → base ≤ limit - 119 → base ≤ least edges
 edges_lent fed edges limit base first late after =
-    let h = late (slice_index edges 0) (slice_index edges 1) (slice_index edges 2) first.triple in
     let a = first.triple.blue_green in
     let b = first.triple.green_red in
     let c = first.triple.blue_red in

@@ -3,7 +3,7 @@ use Rattle.std.specs.Prelude.{◌≡◌, ℕ, ◌+◌, ◌-◌, true, false, Lis
 use Rattle.tmds_word.specs.Bits.{window}
 use Rattle.tmds_word.specs.Column.{Column}
 use Rattle.lane_deskew.specs.Aligned.{column_from}
-use Rattle.alignment_search.specs.Searches.{least}
+use Rattle.alignment_search.specs.Alignments.{least}
 use Rattle.link_sink.specs.Sinks.{Fed}
 use Rattle.track_sink.specs.Lents.{HasRoom}
 use Rattle.track_sink.specs.declared.watch.LentLanes.{LentLanes}

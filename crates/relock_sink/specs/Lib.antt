@@ -1,4 +1,5 @@
 pub mod Relocks
+pub mod Rivals
 pub mod Columns
 pub mod Watches
 pub mod Growing

@@ -18,9 +18,9 @@ pub record IsJudged (fed : Fed) : Type 0 where
   pub shown : shown_at blue green red ≤ most_of fed
   pub kept : IsUnconfirmed fed blue green red → ⊥
 
--- whatever follows, no alignment has all edges before the limit of the search
+-- none was answered, and whatever follows, no alignment has all edges before the limit of the search
 abbrev pub HasNoneWhatever : Relock → Fed → Type 0
-HasNoneWhatever w fed = (later : Fed) → Grows fed later → HasSearched w.alignment later.blue later.green later.red
+HasNoneWhatever w fed = (w.alignment.past ≡ 0) × ((later : Fed) → Grows fed later → HasSearched w.alignment later.blue later.green later.red)
 
 -- it is looked for as far as strays are
 pub record IsSeeking (w : Relock) (fed : Fed) : Type 0 where

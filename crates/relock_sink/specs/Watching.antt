@@ -1,8 +1,9 @@
 -- What was looked at of an epoch, when more bits arrive, and that it has no end there.
-use Rattle.std.proofs.Common.{◌≡◌, ◌⊎◌, ℕ, ◌+◌, ◌-◌, ◌≤◌, Bool, true, false, subst, arith, inl, inr}
+use Rattle.std.proofs.Common.{◌≡◌, ◌⊎◌, ℕ, ◌+◌, ◌-◌, ◌≤◌, max, Bool, true, false, subst, arith, inl, inr}
 use Rattle.std.specs.Prelude.{MatchBool}
 use Rattle.std.proofs.lemmas.Bool.{cases_lt}
 use Rattle.lane_deskew.proofs.First.{one_first}
+use Rattle.lane_deskew.specs.Triples.{IsTriple}
 use Rattle.link_sink.specs.Sinks.{Fed}
 use Rattle.track_sink.specs.Epochs.{most_of}
 use Rattle.track_sink.specs.Tracks.{Grows}
@@ -29,7 +30,11 @@ judged_on before now grows was =
     }
 
 pub whatever_on : (w : Relock) (before now : Fed) → Grows before now → HasNoneWhatever w before → HasNoneWhatever w now
-whatever_on w before now grows was later more = was later (grows_twice before now later grows more)
+whatever_on w before now grows was = (was.0, λ later more. was.1 later (grows_twice before now later grows more))
+
+-- none has all edges before the limit now
+pub none_yet : (w : Relock) (fed : Fed) → HasNoneWhatever w fed → (d e f : ℕ) → IsTriple fed.blue fed.green fed.red d e f → w.alignment.limit ≤ max d (max e f)
+none_yet w fed none d e f t = let first = none.0 in (none.1 fed (same_grows fed)).none d e f t (omega arith)
 
 pub looks_on : (w : Relock) (before now : Fed) → HasWatched w before → Grows before now → HasWatched w now
 looks_on w before now was grows = record {
@@ -57,7 +62,7 @@ not_before w fed Unconfirmed place looked is = by w.is_judged looked.judged
     by true judged = absurd (never_unconfirmed fed is.blue is.green is.red judged is.unconfirmed)
     by false seeking =
         let t = is.unconfirmed.first.triple in
-        let late = (seeking.searched fed (same_grows fed)).late is.blue is.green is.red t in
+        let late = none_yet w fed seeking.searched is.blue is.green is.red t in
         let a = t.blue_green in
         let b = t.green_red in
         let c = t.blue_red in

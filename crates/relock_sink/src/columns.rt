@@ -2,7 +2,7 @@
 ghost use Rattle.std.specs.Prelude.{◌≡◌, ◌≤◌, ◌+◌, ◌^◌, ◌<◌, Bool, List, Some, None, MatchOption, slice_index};
 ghost use Rattle.tmds_word.specs.Bits.{window};
 ghost use Rattle.tmds_word.specs.Column.{column_of};
-ghost use Rattle.alignment_search.specs.Searches.{greatest, least};
+ghost use Rattle.alignment_search.specs.Alignments.{greatest, least};
 ghost use Rattle.link_sink.specs.Sinks.{Fed};
 ghost use Rattle.track_sink.specs.Lents.{HasRoom, IsLent, AreLent};
 ghost use Rattle.relock_sink.specs.Relocks.{is_announced};
