@@ -14,11 +14,11 @@ use Rattle.dvi_laws.proofs.LocalStream.{dvi_stream_anywhere}
 use Rattle.command_line.specs.Commands.{IsCommand}
 use Rattle.command_line.specs.declared.command.Command.TheVariants.{RecoverDvi}
 use Rattle.hdmi_cli.specs.DviLocal.{IsDviTappedUntil, DviAlignsBy, dvi_row_of, dvi_reported_to, HasDviRows, IsDviHeardBy}
-use Rattle.hdmi_cli.specs.Listings.{link_listing}
-use Rattle.hdmi_cli.specs.Listers.{after_link, last_link, link_is_text}
+use Rattle.capture_commands.specs.Listings.{link_listing}
+use Rattle.capture_commands.specs.Listers.{after_link, last_link, link_is_text}
 use Rattle.hdmi_cli.specs.Headline.{TappedStream, aligned_of}
-use Rattle.hdmi_cli.specs.Endings.{Devices, RunEnds, Unless, status_of}
-use Rattle.hdmi_cli.specs.declared.ending.Ending.{Ending}
+use Rattle.capture_commands.specs.Endings.{Devices, RunEnds, Unless, status_of}
+use Rattle.capture_commands.specs.declared.ending.Ending.{Ending}
 use Rattle.hdmi_cli.proofs.Headline.{capture_listing, run_ended}
 use Rattle.hdmi_cli.proofs.Local.{begins_with_lines}
 

@@ -7,17 +7,17 @@ use Rattle.outside_io.specs.Causes.{Rose}
 use Rattle.outside_io.specs.declared.NoMemory.{NoMemory as NoMemoryAnswer}
 use Rattle.command_line.specs.Commands.{IsCommand}
 use Rattle.command_line.proofs.OneCommand.{command_once}
-use Rattle.hdmi_cli.specs.Notes.{usage_note, memory_note}
-use Rattle.hdmi_cli.specs.Outcome.{RunOutcome, IsOutcome, NamesNone}
-use Rattle.hdmi_cli.specs.Manners.{ReadsInput, WritesLast, WritesOn}
-use Rattle.hdmi_cli.specs.Endings.{Devices, Answers, Ends, RunEnds, RunReadFailed, RunWriteFailed, status_of, note_of}
+use Rattle.capture_commands.specs.Notes.{usage_note, memory_note}
+use Rattle.capture_commands.specs.Outcome.{RunOutcome, IsOutcome, NamesNone}
+use Rattle.capture_commands.specs.Manners.{ReadsInput, WritesLast, WritesOn}
+use Rattle.capture_commands.specs.Endings.{Devices, Answers, Ends, RunEnds, RunReadFailed, RunWriteFailed, status_of, note_of}
 use Rattle.hdmi_cli.specs.RunNotes.{IsNoteOf}
-use Rattle.hdmi_cli.specs.Samples.{SampleEnds, IsSampleWritten}
-use Rattle.hdmi_cli.proofs.Answered.{sample_answers}
+use Rattle.capture_commands.specs.Samples.{SampleEnds, IsSampleWritten}
+use Rattle.capture_commands.proofs.Answered.{keeps_itself, sample_answers}
 use Rattle.command_line.specs.declared.command.Command.{Command}
 use Rattle.command_line.specs.declared.command.Command.TheVariants.{Sample}
-use Rattle.hdmi_cli.specs.declared.ending.Ending.{Ending}
-use Rattle.hdmi_cli.specs.declared.ending.Ending.TheVariants.{Done, Faulty, Usage, Listing, Raster, Capture, Place, Frames, TooLong, ReadFailed, WriteFailed, NoMemory, Unaligned}
+use Rattle.capture_commands.specs.declared.ending.Ending.{Ending}
+use Rattle.capture_commands.specs.declared.ending.Ending.TheVariants.{Done, Faulty, Usage, Listing, Raster, Capture, Place, Frames, TooLong, ReadFailed, WriteFailed, NoMemory, Unaligned}
 
 -- all that a run says of its status and its note
 pub record Says (words : List (List ℕ)) (before after : Devices) (status : ℕ) (note : List ℕ) : Type 0 where
@@ -355,9 +355,6 @@ pub line_of : (words : List (List ℕ)) (r : Result (Option Command) NoMemoryAns
 line_of words r o command answer ok some =
     subst (λ (x : Option Command). MatchOption x ((c : Command) → IsCommand words c → ⊥) (λ c. IsCommand words c)) some
     (subst (λ (x : Result (Option Command) NoMemoryAnswer). IfOk x (λ answer. MatchOption answer ((c : Command) → IsCommand words c → ⊥) (λ c. IsCommand words c))) ok answer)
-
-pub keeps_itself : (held : Option (List ℕ)) → Keeps held held
-keeps_itself held = grind arith
 
 pub none_named_ends : (words : List (List ℕ)) (devices : Devices) (r : Result (Option Command) NoMemoryAnswer) (o : Option Command)
     → IfOk r (λ answer. MatchOption answer ((c : Command) → IsCommand words c → ⊥) (λ c. IsCommand words c)) → r ≡ Ok o → o ≡ None → RunEnds words Usage devices devices

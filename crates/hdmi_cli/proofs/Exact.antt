@@ -15,9 +15,9 @@ use Rattle.listing_writer.specs.Texts.{fault_lines}
 use Rattle.listing_writer.specs.Checks.{check_text}
 use Rattle.listing_laws.proofs.Exact.{count_is_exact, verdict_is_exact}
 use Rattle.command_line.specs.Commands.{IsCommand}
-use Rattle.hdmi_cli.specs.Outcome.{RunOutcome, ListsLanes, ListsCapture, Does, IsOutcome, status_with}
-use Rattle.hdmi_cli.specs.Endings.{Devices}
-use Rattle.hdmi_cli.specs.Listings.{check_listing}
+use Rattle.capture_commands.specs.Outcome.{RunOutcome, ListsLanes, ListsCapture, Does, IsOutcome, status_with}
+use Rattle.capture_commands.specs.Endings.{Devices}
+use Rattle.capture_commands.specs.Listings.{check_listing}
 use Rattle.hdmi_cli.specs.Exact.{IsAlignedCapture, IsJudged}
 use Rattle.command_line.specs.declared.command.Command.{Command}
 use Rattle.command_line.specs.declared.command.Command.TheVariants.{Check}

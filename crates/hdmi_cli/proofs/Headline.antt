@@ -16,20 +16,20 @@ use Rattle.dvi_hearing.specs.DviGrammar.{dvi_grammar}
 use Rattle.dvi_laws.proofs.Tapped.{tap_accounted as dvi_tap_accounted}
 use Rattle.link_laws.specs.Laws.{IsAccounted, BeginColumn}
 use Rattle.link_laws.proofs.Tapped.{payload_accounted, tap_accounted}
-use Rattle.hdmi_cli.specs.Listings.{Listing as ListingOf, link_listing}
+use Rattle.capture_commands.specs.Listings.{Listing as ListingOf, link_listing}
 use Rattle.command_line.specs.Commands.{IsCommand}
-use Rattle.hdmi_cli.specs.Outcome.{RunOutcome, ListsLanes, ListsCapture, Does, status_with}
+use Rattle.capture_commands.specs.Outcome.{RunOutcome, ListsLanes, ListsCapture, Does, status_with}
 use Rattle.hdmi_cli.specs.Headline.{TappedStream, IsTapped, AlignsBy, IsFirstOf, IsRecovered, IsRecoveredBy, Aligns, FromFirst, IsDviTapped, IsDviRecovered, aligned_of}
-use Rattle.hdmi_cli.specs.Endings.{Devices, Answers, Ends, RunEnds, Unless, status_of}
-use Rattle.hdmi_cli.specs.Samples.{SampleEnds}
+use Rattle.capture_commands.specs.Endings.{Devices, Answers, Ends, RunEnds, Unless, status_of}
+use Rattle.capture_commands.specs.Samples.{SampleEnds}
 use Rattle.command_line.specs.declared.command.Command.{Command}
 use Rattle.command_line.specs.declared.command.Command.TheVariants.{RecoverDvi, RecoverLink, Sample}
 use Rattle.command_line.proofs.OneCommand.{command_once}
-use Rattle.hdmi_cli.specs.declared.ending.Ending.{Ending}
-use Rattle.hdmi_cli.specs.declared.ending.Ending.TheVariants.{Done, Faulty, Usage, Listing, Raster, Capture, Place, Frames, TooLong, ReadFailed, WriteFailed, NoMemory, Unaligned}
+use Rattle.capture_commands.specs.declared.ending.Ending.{Ending}
+use Rattle.capture_commands.specs.declared.ending.Ending.TheVariants.{Done, Faulty, Usage, Listing, Raster, Capture, Place, Frames, TooLong, ReadFailed, WriteFailed, NoMemory, Unaligned}
 use Rattle.capture_file.specs.Laws.{AreSame}
 use Rattle.capture_file.proofs.OneCapture.{one_capture, no_fault}
-use Rattle.hdmi_cli.proofs.Answered.{sample_answers}
+use Rattle.capture_commands.proofs.Answered.{sample_answers}
 
 -- where three lanes are aligned there is one first full alignment
 pub aligned_same : (x y z : List Bool) (d e f p q r : ℕ) → IsFirst x y z d e f → IsFirst x y z p q r → aligned_columns x y z d e f ≡ aligned_columns x y z p q r

@@ -12,13 +12,13 @@ use Rattle.link_laws.proofs.LocalLanes.{aligned_whatever_follows}
 use Rattle.link_laws.proofs.LocalStream.{stream_anywhere}
 use Rattle.command_line.specs.Commands.{IsCommand}
 use Rattle.command_line.specs.declared.command.Command.{Command}
-use Rattle.hdmi_cli.specs.Listings.{Listing as ListingOf}
-use Rattle.hdmi_cli.specs.Listers.{IsText}
-use Rattle.hdmi_cli.specs.Outcome.{RunOutcome, ListsCapture, Does}
+use Rattle.capture_commands.specs.Listings.{Listing as ListingOf}
+use Rattle.capture_commands.specs.Listers.{IsText}
+use Rattle.capture_commands.specs.Outcome.{RunOutcome, ListsCapture, Does}
 use Rattle.hdmi_cli.specs.Headline.{TappedStream, AlignsBy, aligned_of}
-use Rattle.hdmi_cli.specs.Endings.{Devices, RunEnds, Unless, status_of}
+use Rattle.capture_commands.specs.Endings.{Devices, RunEnds, Unless, status_of}
 use Rattle.hdmi_cli.specs.Local.{IsTappedUntil, HasRows, IsHeardBy, row_of, reported_to}
-use Rattle.hdmi_cli.specs.declared.ending.Ending.{Ending}
+use Rattle.capture_commands.specs.declared.ending.Ending.{Ending}
 use Rattle.hdmi_cli.proofs.Headline.{capture_listing, run_ended}
 
 -- the text of events begins with the lines of the first of them

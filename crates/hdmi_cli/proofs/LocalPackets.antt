@@ -19,12 +19,12 @@ use Rattle.listing_laws.proofs.LocalPackets.{island_packets, island_lines}
 use Rattle.listing_laws.proofs.Reported.{reported_both}
 use Rattle.command_line.specs.Commands.{IsCommand}
 use Rattle.command_line.specs.declared.command.Command.TheVariants.{RecoverContent}
-use Rattle.hdmi_cli.specs.Listings.{content_listing}
-use Rattle.hdmi_cli.specs.Listers.{after_content, last_link, content_is_text}
+use Rattle.capture_commands.specs.Listings.{content_listing}
+use Rattle.capture_commands.specs.Listers.{after_content, last_link, content_is_text}
 use Rattle.hdmi_cli.specs.Headline.{TappedStream, AlignsBy, aligned_of}
-use Rattle.hdmi_cli.specs.Endings.{Devices, RunEnds, Unless, status_of}
+use Rattle.capture_commands.specs.Endings.{Devices, RunEnds, Unless, status_of}
 use Rattle.hdmi_cli.specs.Local.{IsTappedUntil, IsHeardFrom, IsHeardBy, ArePacketsFrom, ArePacketsBy, row_of, reported_to}
-use Rattle.hdmi_cli.specs.declared.ending.Ending.{Ending}
+use Rattle.capture_commands.specs.declared.ending.Ending.{Ending}
 use Rattle.hdmi_cli.proofs.Headline.{unless_so}
 use Rattle.hdmi_cli.proofs.Local.{headlined_locally}
 

@@ -17,10 +17,10 @@ use Rattle.command_line.specs.declared.command.Command.{Command}
 use Rattle.command_line.specs.declared.command.Command.TheVariants.{MakeLink, MakeContent, MakeDvi, RecoverLink, RecoverContent, RecoverTrack, RecoverRelock, RecoverBiphase, RecoverDvi, Check, Damage, Slip, ReadBiphase, Relay, Sample}
 use Rattle.command_line.proofs.OneCommand.{command_once}
 use Rattle.relay_laws.proofs.OneSpelling.{one_spelling}
-use Rattle.hdmi_cli.specs.Commands.{hit_asked, tap_asked}
-use Rattle.hdmi_cli.specs.Listings.{link_listing, check_listing, content_listing, biphase_listing}
+use Rattle.capture_commands.specs.Commands.{hit_asked, tap_asked}
+use Rattle.capture_commands.specs.Listings.{link_listing, check_listing, content_listing, biphase_listing}
 use Rattle.hdmi_cli.specs.OneOutcome.{Decides, OneOutcome}
-use Rattle.hdmi_cli.specs.Outcome.{RunOutcome, Does}
+use Rattle.capture_commands.specs.Outcome.{RunOutcome, Does}
 use Rattle.hdmi_cli.proofs.OneOutcomeCopies.{damages_once, lanes_asked, slips_once, frames_once}
 use Rattle.hdmi_cli.proofs.OneOutcomeLists.{lists_once, tracks_once}
 use Rattle.hdmi_cli.proofs.OneOutcomeMakes.{makes_once, content_once, one_dvi_spelling}

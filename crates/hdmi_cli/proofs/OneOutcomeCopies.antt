@@ -16,9 +16,9 @@ use Rattle.audio_packets.specs.declared.sample.Sample.{Sample as Sound}
 use Rattle.biphase_listing.specs.FrameText.{frames_text}
 use Rattle.biphase_listing.proofs.OneRefusal.{one_refusal}
 use Rattle.biphase_listing.proofs.Streams.{one_stream, stream_is_faultless}
-use Rattle.hdmi_cli.specs.Commands.{hit_asked}
-use Rattle.hdmi_cli.specs.Notes.{capture_note, place_note, frames_note}
-use Rattle.hdmi_cli.specs.Outcome.{RunOutcome, Damages, Slips, IsPastEnd, ListsFrames}
+use Rattle.capture_commands.specs.Commands.{hit_asked}
+use Rattle.capture_commands.specs.Notes.{capture_note, place_note, frames_note}
+use Rattle.capture_commands.specs.Outcome.{RunOutcome, Damages, Slips, IsPastEnd, ListsFrames}
 
 -- ---- hits
 

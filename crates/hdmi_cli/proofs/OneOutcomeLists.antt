@@ -13,11 +13,11 @@ use Rattle.link_sink.proofs.Following.{reported_one}
 use Rattle.track_sink.specs.Epochs.{EpochRule}
 use Rattle.track_sink.specs.Rules.{IsRule}
 use Rattle.track_laws.proofs.One.{one_track_by}
-use Rattle.hdmi_cli.specs.Blocks.{AreBefore, HasBlocks}
-use Rattle.hdmi_cli.specs.Listings.{Listing}
-use Rattle.hdmi_cli.specs.Notes.{capture_note}
-use Rattle.hdmi_cli.specs.TrackText.{track_faults, track_text}
-use Rattle.hdmi_cli.specs.Outcome.{RunOutcome, status_with, ListsLanes, ListsBefore, ListsCapture, TracksLanes, TracksCapture}
+use Rattle.capture_commands.specs.Blocks.{AreBefore, HasBlocks}
+use Rattle.capture_commands.specs.Listings.{Listing}
+use Rattle.capture_commands.specs.Notes.{capture_note}
+use Rattle.capture_commands.specs.TrackText.{track_faults, track_text}
+use Rattle.capture_commands.specs.Outcome.{RunOutcome, status_with, ListsLanes, ListsBefore, ListsCapture, TracksLanes, TracksCapture}
 use Rattle.hdmi_cli.proofs.Headline.{aligned_same, same_lanes}
 
 -- ---- the whole blocks before a place

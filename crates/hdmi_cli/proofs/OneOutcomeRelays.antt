@@ -23,10 +23,10 @@ use Rattle.link_laws.specs.Growth.{AreGrown}
 use Rattle.link_laws.proofs.Growth.{reported_grows}
 use Rattle.relay.specs.Relayed.{relayed}
 use Rattle.relay_laws.proofs.OneSpelling.{one_spelling}
-use Rattle.hdmi_cli.specs.Blocks.{HasBlocks}
-use Rattle.hdmi_cli.specs.Notes.{capture_note}
-use Rattle.hdmi_cli.specs.Outcome.{RunOutcome, Relays}
-use Rattle.hdmi_cli.specs.Relays.{IsRelayed, PassesLimit, RelaysBefore, relay_status, whole_tap}
+use Rattle.capture_commands.specs.Blocks.{HasBlocks}
+use Rattle.capture_commands.specs.Notes.{capture_note}
+use Rattle.capture_commands.specs.Outcome.{RunOutcome, Relays}
+use Rattle.capture_commands.specs.Relays.{IsRelayed, PassesLimit, RelaysBefore, relay_status, whole_tap}
 use Rattle.hdmi_cli.proofs.Headline.{aligned_same}
 use Rattle.hdmi_cli.proofs.OneOutcomeLists.{capture_of, none_read, read_before}
 use Rattle.hdmi_cli.proofs.RelayBlocks.{LanesBegin, blocks_begin}

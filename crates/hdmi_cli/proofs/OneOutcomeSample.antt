@@ -20,7 +20,7 @@ use Rattle.sampling.specs.Counts.{counts_of, counts_text}
 use Rattle.sampling.specs.Sampled.{IsSampled, sample_mode, sample_tap}
 use Rattle.sampling.specs.Strikes.{hits_of}
 use Rattle.sampling.specs.declared.counts.Counts.{Counts}
-use Rattle.hdmi_cli.specs.Outcome.{RunOutcome, Samples}
+use Rattle.capture_commands.specs.Outcome.{RunOutcome, Samples}
 use Rattle.hdmi_cli.proofs.Headline.{aligned_same}
 
 -- of lanes one count of columns and one list of events is reported

@@ -27,7 +27,7 @@ use Rattle.link_laws.specs.Laws.{ReceivedOf, AlignsUntil}
 use Rattle.link_laws.proofs.Ends.{edges_end}
 use Rattle.link_laws.proofs.Tapped.{tap_accounted}
 use Rattle.listing_laws.proofs.Undamaged.{undamaged}
-use Rattle.hdmi_cli.specs.Relays.{whole_tap}
+use Rattle.capture_commands.specs.Relays.{whole_tap}
 
 -- The lanes.
 

@@ -22,13 +22,13 @@ use Rattle.listing_laws.proofs.PacketLines.{packet_lines_come_back}
 use Rattle.listing_laws.proofs.PacketsListed.{packet_lines_are_listed}
 use Rattle.listing_laws.proofs.Reported.{packets_come_back}
 use Rattle.command_line.specs.declared.command.Command.TheVariants.{RecoverContent}
-use Rattle.hdmi_cli.specs.Listings.{content_listing}
+use Rattle.capture_commands.specs.Listings.{content_listing}
 use Rattle.command_line.specs.Commands.{IsCommand}
 use Rattle.link_laws.specs.Account.{account}
 use Rattle.hdmi_cli.specs.Headline.{TappedStream, IsTapped, IsRecovered, Aligns, FromFirst, aligned_of}
 use Rattle.hdmi_cli.specs.Pictures.{ArePackets, ArePictures}
-use Rattle.hdmi_cli.specs.Endings.{Devices, RunEnds, Unless, status_of}
-use Rattle.hdmi_cli.specs.declared.ending.Ending.{Ending}
+use Rattle.capture_commands.specs.Endings.{Devices, RunEnds, Unless, status_of}
+use Rattle.capture_commands.specs.declared.ending.Ending.{Ending}
 use Rattle.hdmi_cli.proofs.Headline.{recovered, unless_so}
 
 -- aligned columns are some of those that were received

@@ -24,11 +24,11 @@ use Rattle.link_laws.proofs.Freely.{free_spelled}
 use Rattle.relay_laws.proofs.Own.{spelled_long}
 use Rattle.command_line.specs.Commands.{IsCommand}
 use Rattle.command_line.specs.declared.command.Command.TheVariants.{Relay}
-use Rattle.hdmi_cli.specs.Endings.{Devices, RunEnds, Unless, status_of}
-use Rattle.hdmi_cli.specs.Outcome.{RunOutcome, Relays}
+use Rattle.capture_commands.specs.Endings.{Devices, RunEnds, Unless, status_of}
+use Rattle.capture_commands.specs.Outcome.{RunOutcome, Relays}
 use Rattle.hdmi_cli.specs.RelayClauses.{ComesBack, IsRelayedAgain}
-use Rattle.hdmi_cli.specs.Relays.{IsRelayed, whole_tap}
-use Rattle.hdmi_cli.specs.declared.ending.Ending.{Ending}
+use Rattle.capture_commands.specs.Relays.{IsRelayed, whole_tap}
+use Rattle.capture_commands.specs.declared.ending.Ending.{Ending}
 use Rattle.hdmi_cli.proofs.Headline.{run_ended}
 use Rattle.hdmi_cli.proofs.OwnCapture.{IsOwn, blue_of, green_of, red_of, own_aligned, own_captured, own_nowhere}
 use Rattle.hdmi_cli.proofs.RelayHeadline.{capture_relay, keeps_of, nowhere_relay}

@@ -25,10 +25,10 @@ use Rattle.relay.specs.Relayed.{without_faults, kept_from, kept, nulled, gathere
 use Rattle.relay.proofs.Conforming.{relayed_conforms}
 use Rattle.relay_laws.specs.Own.{RelayedAgain, cut_first}
 use Rattle.link_laws.proofs.Freely.{free_spelled}
-use Rattle.hdmi_cli.specs.Outcome.{RunOutcome}
+use Rattle.capture_commands.specs.Outcome.{RunOutcome}
 use Rattle.hdmi_cli.specs.RelayClauses.{IsCleanToEnd}
 use Rattle.hdmi_cli.specs.RelayExamples.{HasCleanCapture, HasRelayedTwice}
-use Rattle.hdmi_cli.specs.Relays.{relay_status, whole_tap}
+use Rattle.capture_commands.specs.Relays.{relay_status, whole_tap}
 use Rattle.hdmi_cli.proofs.OwnCapture.{blue_of, green_of, red_of, own_aligned, own_captured}
 use Rattle.hdmi_cli.proofs.RelayAgain.{cut_spelled, heard_again}
 

@@ -25,12 +25,12 @@ use Rattle.relay_laws.specs.Received.{RelayedAccount}
 use Rattle.relay.specs.Relayed.{relayed}
 use Rattle.command_line.specs.Commands.{IsCommand}
 use Rattle.command_line.specs.declared.command.Command.TheVariants.{Relay}
-use Rattle.hdmi_cli.specs.Endings.{Devices, Answers, RunEnds, Unless, status_of}
+use Rattle.capture_commands.specs.Endings.{Devices, Answers, RunEnds, Unless, status_of}
 use Rattle.hdmi_cli.specs.Headline.{TappedStream, IsTapped, IsFirstOf, Aligns, FromFirst, aligned_of}
-use Rattle.hdmi_cli.specs.Outcome.{RunOutcome, Relays}
+use Rattle.capture_commands.specs.Outcome.{RunOutcome, Relays}
 use Rattle.hdmi_cli.specs.RelayClauses.{IsSentWithin, sent_on}
-use Rattle.hdmi_cli.specs.Relays.{IsRelayed, relay_status, whole_tap}
-use Rattle.hdmi_cli.specs.declared.ending.Ending.{Ending}
+use Rattle.capture_commands.specs.Relays.{IsRelayed, relay_status, whole_tap}
+use Rattle.capture_commands.specs.declared.ending.Ending.{Ending}
 use Rattle.hdmi_cli.proofs.Headline.{aligned_same, first_accounted, run_ended}
 use Rattle.hdmi_cli.proofs.RelayLimit.{passes_nowhere, passes_whole, same_reported}
 

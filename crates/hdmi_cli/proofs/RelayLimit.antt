@@ -19,7 +19,7 @@ use Rattle.relay.specs.Relayed.{without_faults, kept_from, kept, nulled, gathere
 use Rattle.relay.proofs.Going.{stream_columns}
 use Rattle.relay.proofs.Growing.{columns_grow}
 use Rattle.link_laws.specs.Growth.{AreGrown, Begins}
-use Rattle.hdmi_cli.specs.Relays.{PassesLimit}
+use Rattle.capture_commands.specs.Relays.{PassesLimit}
 use Rattle.link_laws.proofs.Growth.{whole_grows}
 use Rattle.hdmi_cli.proofs.Headline.{aligned_same}
 use Rattle.hdmi_cli.proofs.RelayBlocks.{LanesBegin, blocks_begin}

@@ -11,14 +11,14 @@ use Rattle.link_laws.proofs.LocalLanes.{aligned_whatever_follows}
 use Rattle.relay_laws.specs.Local.{IsRelayedAfter, line_sent, island_sent, LineRelayed, IslandRelayed}
 use Rattle.command_line.specs.Commands.{IsCommand}
 use Rattle.command_line.specs.declared.command.Command.TheVariants.{Relay}
-use Rattle.hdmi_cli.specs.Endings.{Devices, RunEnds, Unless, status_of}
+use Rattle.capture_commands.specs.Endings.{Devices, RunEnds, Unless, status_of}
 use Rattle.hdmi_cli.specs.Headline.{TappedStream, AlignsBy, aligned_of}
-use Rattle.hdmi_cli.specs.Listings.{link_listing}
-use Rattle.hdmi_cli.specs.Listers.{after_link, last_link, link_is_text}
+use Rattle.capture_commands.specs.Listings.{link_listing}
+use Rattle.capture_commands.specs.Listers.{after_link, last_link, link_is_text}
 use Rattle.hdmi_cli.specs.Local.{IsTappedUntil, reported_to}
-use Rattle.hdmi_cli.specs.Outcome.{RunOutcome}
+use Rattle.capture_commands.specs.Outcome.{RunOutcome}
 use Rattle.hdmi_cli.specs.RelayLocal.{IsSentOnOf, IsTooLongOf, IsRelayedBy}
-use Rattle.hdmi_cli.specs.declared.ending.Ending.{Ending}
+use Rattle.capture_commands.specs.declared.ending.Ending.{Ending}
 use Rattle.hdmi_cli.proofs.Headline.{run_ended}
 use Rattle.hdmi_cli.proofs.Local.{rows_stand}
 use Rattle.hdmi_cli.proofs.RelayHeadline.{IsRelayOf, IsLongOf, keeps_of, capture_relay}

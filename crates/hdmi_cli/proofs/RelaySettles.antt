@@ -16,13 +16,13 @@ use Rattle.relay.proofs.Conforming.{relayed_conforms}
 use Rattle.relay_laws.proofs.OneSpelling.{one_spelling, free_spelling_agrees}
 use Rattle.command_line.specs.Commands.{IsCommand}
 use Rattle.command_line.specs.declared.command.Command.TheVariants.{Relay}
-use Rattle.hdmi_cli.specs.Endings.{Devices, RunEnds, Unless, status_of}
+use Rattle.capture_commands.specs.Endings.{Devices, RunEnds, Unless, status_of}
 use Rattle.hdmi_cli.specs.Exact.{IsAlignedCapture}
-use Rattle.hdmi_cli.specs.Outcome.{RunOutcome, Relays}
+use Rattle.capture_commands.specs.Outcome.{RunOutcome, Relays}
 use Rattle.hdmi_cli.specs.RelayClauses.{IsCleanToEnd, IsPassedOn, past_twelve}
 use Rattle.hdmi_cli.specs.RelaySettles.{IsWritten, IsWrittenButBit3}
-use Rattle.hdmi_cli.specs.Relays.{IsRelayed, whole_tap}
-use Rattle.hdmi_cli.specs.declared.ending.Ending.{Ending}
+use Rattle.capture_commands.specs.Relays.{IsRelayed, whole_tap}
+use Rattle.capture_commands.specs.declared.ending.Ending.{Ending}
 use Rattle.hdmi_cli.proofs.Headline.{run_ended}
 use Rattle.hdmi_cli.proofs.RelayAgain.{comes_back, stays_nowhere}
 use Rattle.hdmi_cli.proofs.RelayClean.{relay_passes}

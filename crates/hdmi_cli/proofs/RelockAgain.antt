@@ -22,12 +22,12 @@ use Rattle.relock_sink.specs.Relocks.{relock_rule, IsLastEpoch}
 use Rattle.relock_sink.specs.RelockRule.{relock_is_rule}
 use Rattle.relock_laws.specs.Settled.{IsStart, first_start, next_start}
 use Rattle.relock_laws.proofs.Again.{recovers_again}
-use Rattle.hdmi_cli.specs.Endings.{Devices, RunEnds, Unless, status_of}
-use Rattle.hdmi_cli.specs.Notes.{alignment_note}
-use Rattle.hdmi_cli.specs.Outcome.{RunOutcome, TracksLanes, TracksCapture, status_with}
+use Rattle.capture_commands.specs.Endings.{Devices, RunEnds, Unless, status_of}
+use Rattle.capture_commands.specs.Notes.{alignment_note}
+use Rattle.capture_commands.specs.Outcome.{RunOutcome, TracksLanes, TracksCapture, status_with}
 use Rattle.hdmi_cli.specs.RelockAgain.{AgainStream, ComesAgain, IsRelockedAgain}
-use Rattle.hdmi_cli.specs.TrackText.{track_faults, track_text}
-use Rattle.hdmi_cli.specs.declared.ending.Ending.{Ending}
+use Rattle.capture_commands.specs.TrackText.{track_faults, track_text}
+use Rattle.capture_commands.specs.declared.ending.Ending.{Ending}
 use Rattle.hdmi_cli.proofs.Headline.{run_ended}
 use Rattle.hdmi_cli.proofs.TrackHeadline.{epoch_reported}
 use Rattle.hdmi_cli.proofs.TrackSlip.{reported_at}

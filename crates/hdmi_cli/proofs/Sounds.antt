@@ -16,11 +16,11 @@ use Rattle.biphase_listing.specs.StreamText.{biphase_text, samples_at, reported_
 use Rattle.biphase_listing.proofs.Payload.{samples_of_payload}
 use Rattle.command_line.specs.Commands.{IsCommand}
 use Rattle.command_line.specs.declared.command.Command.TheVariants.{RecoverBiphase}
-use Rattle.hdmi_cli.specs.Endings.{Devices, RunEnds, Unless, status_of}
+use Rattle.capture_commands.specs.Endings.{Devices, RunEnds, Unless, status_of}
 use Rattle.hdmi_cli.specs.Headline.{TappedStream, IsTapped, IsRecovered, Aligns, FromFirst, aligned_of}
-use Rattle.hdmi_cli.specs.Listings.{biphase_listing}
+use Rattle.capture_commands.specs.Listings.{biphase_listing}
 use Rattle.hdmi_cli.specs.Sounds.{AreSamples, samples_sent, samples_reported}
-use Rattle.hdmi_cli.specs.declared.ending.Ending.{Ending}
+use Rattle.capture_commands.specs.declared.ending.Ending.{Ending}
 use Rattle.hdmi_cli.proofs.Headline.{recovered, unless_so}
 use Rattle.hdmi_cli.proofs.Pictures.{within_received}
 

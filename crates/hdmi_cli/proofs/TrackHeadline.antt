@@ -21,9 +21,9 @@ use Rattle.track_sink.specs.TrackEvents.{TrackEvent, track_events_of}
 use Rattle.track_sink.specs.Feds.{same_fed}
 use Rattle.track_laws.proofs.Calm.{one_epoch}
 use Rattle.hdmi_cli.specs.Headline.{TappedStream, IsTapped, Aligns}
-use Rattle.hdmi_cli.specs.Listings.{link_listing}
-use Rattle.hdmi_cli.specs.Outcome.{RunOutcome, ListsLanes, ListsCapture, TracksLanes, TracksCapture, status_with}
-use Rattle.hdmi_cli.specs.TrackText.{event_faults, event_lines, track_faults, track_text}
+use Rattle.capture_commands.specs.Listings.{link_listing}
+use Rattle.capture_commands.specs.Outcome.{RunOutcome, ListsLanes, ListsCapture, TracksLanes, TracksCapture, status_with}
+use Rattle.capture_commands.specs.TrackText.{event_faults, event_lines, track_faults, track_text}
 
 -- what is reported of one epoch
 pub record IsEpoch (x : Fed) (aligned : ℕ) (track_events : List TrackEvent) : Type 0 where

@@ -6,12 +6,12 @@ use Rattle.command_line.specs.declared.command.Command.TheVariants.{RecoverTrack
 use Rattle.link_sink.specs.Sinks.{Fed}
 use Rattle.track_sink.specs.Epochs.{stray_rule}
 use Rattle.track_sink.specs.StrayRule.{stray_is_rule}
-use Rattle.hdmi_cli.specs.Endings.{Devices, RunEnds, Unless, status_of}
+use Rattle.capture_commands.specs.Endings.{Devices, RunEnds, Unless, status_of}
 use Rattle.hdmi_cli.specs.Headline.{TappedStream, AlignsBy}
-use Rattle.hdmi_cli.specs.Listings.{link_listing}
-use Rattle.hdmi_cli.specs.Listers.{after_link, last_link, link_is_text}
+use Rattle.capture_commands.specs.Listings.{link_listing}
+use Rattle.capture_commands.specs.Listers.{after_link, last_link, link_is_text}
 use Rattle.hdmi_cli.specs.Local.{IsTappedUntil, IsHeardBy, HasNoStrays}
-use Rattle.hdmi_cli.specs.declared.ending.Ending.{Ending}
+use Rattle.capture_commands.specs.declared.ending.Ending.{Ending}
 use Rattle.hdmi_cli.proofs.Local.{headlined_here}
 use Rattle.hdmi_cli.proofs.TrackHeadline.{lists_as_link}
 

@@ -18,13 +18,13 @@ use Rattle.relock_laws.proofs.SlipEnds.{slip_ends}
 use Rattle.track_laws.specs.Laws.{Received, FirstAccounted}
 use Rattle.track_laws.proofs.Noticed.{slip_passes}
 use Rattle.hdmi_cli.proofs.Unnoticed.{passed_reported, short_passes, short_reported}
-use Rattle.hdmi_cli.specs.Endings.{Devices, RunEnds, Unless, status_of}
+use Rattle.capture_commands.specs.Endings.{Devices, RunEnds, Unless, status_of}
 use Rattle.hdmi_cli.specs.Headline.{TappedStream}
-use Rattle.hdmi_cli.specs.Listings.{link_listing}
-use Rattle.hdmi_cli.specs.Outcome.{Does, RunOutcome, TracksCapture}
+use Rattle.capture_commands.specs.Listings.{link_listing}
+use Rattle.capture_commands.specs.Outcome.{Does, RunOutcome, TracksCapture}
 use Rattle.hdmi_cli.specs.TrackPasses.{IsUnnoticed, IsAccountedBefore, IsTrackedAsOne}
 use Rattle.hdmi_cli.specs.TrackSlip.{LineSlip, lanes_of, IsSlippedTap, columns_in}
-use Rattle.hdmi_cli.specs.declared.ending.Ending.{Ending}
+use Rattle.capture_commands.specs.declared.ending.Ending.{Ending}
 use Rattle.hdmi_cli.proofs.Headline.{capture_listing, run_ended}
 use Rattle.hdmi_cli.proofs.TrackHeadline.{lists_as_link}
 

@@ -26,11 +26,11 @@ use Rattle.relock_laws.proofs.SlipEnds.{slip_ends}
 use Rattle.track_laws.specs.Laws.{Received}
 use Rattle.track_laws.proofs.Noticed.{second_epoch, slip_noticed}
 use Rattle.track_laws.proofs.Before.{first_epoch}
-use Rattle.hdmi_cli.specs.Endings.{Devices, RunEnds, Unless, status_of}
+use Rattle.capture_commands.specs.Endings.{Devices, RunEnds, Unless, status_of}
 use Rattle.hdmi_cli.specs.Headline.{TappedStream}
-use Rattle.hdmi_cli.specs.Outcome.{Does, RunOutcome, TracksLanes, TracksCapture}
+use Rattle.capture_commands.specs.Outcome.{Does, RunOutcome, TracksLanes, TracksCapture}
 use Rattle.hdmi_cli.specs.TrackSlip.{LineSlip, lanes_of, IsSlippedTap, IsNoticed, track_events_across, IsTrackedAcross}
-use Rattle.hdmi_cli.specs.declared.ending.Ending.{Ending}
+use Rattle.capture_commands.specs.declared.ending.Ending.{Ending}
 use Rattle.hdmi_cli.proofs.Headline.{aligned_same, run_ended}
 use Rattle.hdmi_cli.proofs.TrackHeadline.{epoch_reported}
 

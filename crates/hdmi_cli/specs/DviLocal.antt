@@ -16,8 +16,8 @@ use Rattle.link_laws.specs.Laws.{BeginColumn}
 use Rattle.dvi_laws.specs.DviAccount.{dvi_video_row}
 use Rattle.dvi_laws.specs.DviLocal.{line_part, DviStandsAlone, DviReceivedUntil, DviAlignsUntil, DviHoldsUntil}
 use Rattle.hdmi_cli.specs.Headline.{TappedStream, aligned_of, IsFirstOf}
-use Rattle.hdmi_cli.specs.Listings.{link_listing}
-use Rattle.hdmi_cli.specs.Outcome.{status_with}
+use Rattle.capture_commands.specs.Listings.{link_listing}
+use Rattle.capture_commands.specs.Outcome.{status_with}
 
 -- its bytes are the capture, of either version, of a tap of columns of a stream without guard columns, received with sparse damage
 -- of its pixels up to a column and as any characters after it

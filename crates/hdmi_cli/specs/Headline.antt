@@ -20,9 +20,9 @@ use Rattle.capture_file.specs.Taps.{tapped_capture}
 use Rattle.period_grammar.specs.Exact.{faultless}
 use Rattle.relay_laws.specs.Received.{reception}
 use Rattle.relay.specs.Relayed.{conformed}
-use Rattle.hdmi_cli.specs.Relays.{relay_status, whole_tap}
-use Rattle.hdmi_cli.specs.Listings.{Listing}
-use Rattle.hdmi_cli.specs.Outcome.{status_with}
+use Rattle.capture_commands.specs.Relays.{relay_status, whole_tap}
+use Rattle.capture_commands.specs.Listings.{Listing}
+use Rattle.capture_commands.specs.Outcome.{status_with}
 
 -- a tapped stream: the periods that were sent, the columns as they were sent and as they were received, where in them
 -- each lane begins and how many bits it has, and the bits and bytes of the capture

@@ -18,8 +18,8 @@ use Rattle.listing_laws.specs.ListingLaws.{Each, reported_lines, as_sent_at}
 use Rattle.listing_laws.specs.PacketLaws.{ReportedPacket, reported_packets, received_packet, each_at}
 use Rattle.track_sink.specs.Epochs.{HasNoEnd}
 use Rattle.hdmi_cli.specs.Headline.{TappedStream, aligned_of, IsFirstOf}
-use Rattle.hdmi_cli.specs.Listings.{Listing}
-use Rattle.hdmi_cli.specs.Outcome.{status_with}
+use Rattle.capture_commands.specs.Listings.{Listing}
+use Rattle.capture_commands.specs.Outcome.{status_with}
 
 -- its bytes are the capture, of either version, of a tap of columns of conforming periods, received with sparse damage up to a
 -- column and as any characters after it

@@ -4,7 +4,7 @@ use Rattle.capture_file.specs.Captures.{IsCapture}
 use Rattle.command_line.specs.Commands.{IsCommand}
 use Rattle.command_line.specs.declared.command.Command.{Command}
 use Rattle.command_line.specs.declared.command.Command.TheVariants.{RecoverTrack, RecoverRelock}
-use Rattle.hdmi_cli.specs.Outcome.{RunOutcome, IsOutcome}
+use Rattle.capture_commands.specs.Outcome.{RunOutcome, IsOutcome}
 
 -- but for bytes that are no capture, of which `recover track` and `recover relock` may have listed more or less of what their whole
 -- blocks decide

@@ -16,7 +16,7 @@ use Rattle.relay_laws.specs.Received.{reception}
 use Rattle.relay_laws.specs.Own.{cut_first}
 use Rattle.relay.specs.Relayed.{conformed, relayed}
 use Rattle.hdmi_cli.specs.Headline.{TappedStream, IsSentOn, aligned_of}
-use Rattle.hdmi_cli.specs.Relays.{IsRelayed, whole_tap}
+use Rattle.capture_commands.specs.Relays.{IsRelayed, whole_tap}
 
 -- A tapped stream.
 

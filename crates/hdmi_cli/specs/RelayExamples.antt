@@ -5,9 +5,9 @@ use Rattle.island_pack.specs.Periods.{ControlRun, DataIsland, control, video, is
 use Rattle.period_grammar.specs.Events.{Event}
 use Rattle.relay.specs.Relayed.{relayed}
 use Rattle.hdmi_cli.specs.Exact.{IsAlignedCapture}
-use Rattle.hdmi_cli.specs.Outcome.{RunOutcome, Relays}
+use Rattle.capture_commands.specs.Outcome.{RunOutcome, Relays}
 use Rattle.hdmi_cli.specs.RelayClauses.{IsCleanToEnd}
-use Rattle.hdmi_cli.specs.Relays.{IsRelayed}
+use Rattle.capture_commands.specs.Relays.{IsRelayed}
 
 -- a capture of which `check` says `clean`, with 79 aligned columns that end in a control period
 pub record IsCleanCase (blue green red : List Bool) (d e f : ℕ) (bytes : List ℕ) : Type 0 where

@@ -17,7 +17,7 @@ use Rattle.relay.specs.Relayed.{relayed}
 use Rattle.relay_laws.specs.Local.{IsRelayedAfter, line_sent, island_sent}
 use Rattle.hdmi_cli.specs.Headline.{TappedStream, aligned_of, IsFirstOf}
 use Rattle.hdmi_cli.specs.Local.{reported_to}
-use Rattle.hdmi_cli.specs.Relays.{relay_status, whole_tap}
+use Rattle.capture_commands.specs.Relays.{relay_status, whole_tap}
 
 -- the output grew by the capture of what is relayed of events, which has 20,000,000 columns or fewer, and the status says whether a
 -- fault was reported

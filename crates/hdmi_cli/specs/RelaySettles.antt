@@ -9,7 +9,7 @@ use Rattle.island_pack.specs.Periods.{Period}
 use Rattle.island_pack.specs.Spelling.{SpellsBy, freely}
 use Rattle.island_pack.specs.declared.ranges.TheConstants.{COLUMN_LIMIT}
 use Rattle.relay_laws.specs.Spelled.{Agree}
-use Rattle.hdmi_cli.specs.Relays.{whole_tap}
+use Rattle.capture_commands.specs.Relays.{whole_tap}
 
 -- a text is written, and no fault was reported
 abbrev pub IsWritten : List ℕ → ℕ → Option (List ℕ) → Option (List ℕ) → Type 0

@@ -11,7 +11,7 @@ use Rattle.track_sink.specs.Epochs.{rest_of}
 use Rattle.track_sink.specs.TrackEvents.{TrackEvent, track_events_of}
 use Rattle.relock_sink.specs.Relocks.{IsLastEpoch}
 use Rattle.relock_laws.specs.Settled.{IsAgain, IsSettled, IsStart}
-use Rattle.hdmi_cli.specs.TrackText.{track_text}
+use Rattle.capture_commands.specs.TrackText.{track_text}
 
 -- a stream that comes again: the periods that are sent, the columns as they are sent and as they are received, where in them each
 -- lane begins and how many bits it has of them, how many bits each lane has before, and all its bits; the edges of a control

@@ -1,7 +1,7 @@
 -- Which of the lines of `Notes` a run writes, by its status.
 use Rattle.std.specs.Prelude.{◌≡◌, ◌⊎◌, ℕ, List, [], Option, Some}
-use Rattle.hdmi_cli.specs.Notes.{usage_note, read_note, write_note, memory_note, alignment_note}
-use Rattle.hdmi_cli.specs.Outcome.{RunOutcome, IsOutcome}
+use Rattle.capture_commands.specs.Notes.{usage_note, read_note, write_note, memory_note, alignment_note}
+use Rattle.capture_commands.specs.Outcome.{RunOutcome, IsOutcome}
 
 -- what the notes are to grow by, for the words, what the input had left, and the status
 pub record IsNoteOf (words : List (List ℕ)) (left : Option (List ℕ)) (status : ℕ) (note : List ℕ) : Type 0 where

@@ -12,7 +12,7 @@ use Rattle.listing_laws.specs.ListingLaws.{Each, as_sent_at}
 use Rattle.listing_laws.specs.PacketLaws.{Placed, ReportedPacket, received_packet, packets_received, placed}
 use Rattle.biphase_listing.specs.StreamText.{biphase_faults, samples_at}
 use Rattle.hdmi_cli.specs.Headline.{TappedStream, aligned_of}
-use Rattle.hdmi_cli.specs.Outcome.{status_with}
+use Rattle.capture_commands.specs.Outcome.{status_with}
 
 -- the samples of a pair of channels that a packet gives as it is reported: none if it is of another type than 2 or has
 -- lost a block

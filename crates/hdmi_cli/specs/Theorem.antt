@@ -18,15 +18,15 @@ use Rattle.hdmi_cli.specs.RelockAgain.{AgainStream, ComesAgain, IsRelockedAgain}
 use Rattle.hdmi_cli.specs.RelayClauses.{IsCleanToEnd, IsPassedOn, IsRelayedAgain, IsSentWithin}
 use Rattle.hdmi_cli.specs.RelayLocal.{IsRelayedBy}
 use Rattle.hdmi_cli.specs.RelaySettles.{IsWritten, IsWrittenButBit3}
-use Rattle.hdmi_cli.specs.Relays.{IsRelayed}
+use Rattle.capture_commands.specs.Relays.{IsRelayed}
 use Rattle.period_grammar.specs.Events.{Event}
 use Rattle.relay.specs.Relayed.{relayed}
 use Rattle.hdmi_cli.specs.Pictures.{ArePackets, ArePictures}
 use Rattle.hdmi_cli.specs.Sounds.{AreSamples}
 use Rattle.hdmi_cli.specs.Exact.{IsAlignedCapture, IsJudged}
-use Rattle.hdmi_cli.specs.Listings.{link_listing, content_listing, check_listing}
-use Rattle.hdmi_cli.specs.Outcome.{RunOutcome, Relays}
-use Rattle.hdmi_cli.specs.Endings.{Devices, Unless}
+use Rattle.capture_commands.specs.Listings.{link_listing, content_listing, check_listing}
+use Rattle.capture_commands.specs.Outcome.{RunOutcome, Relays}
+use Rattle.capture_commands.specs.Endings.{Devices, Unless}
 use Rattle.command_line.specs.Commands.{IsCommand}
 use Rattle.command_line.specs.declared.command.Command.TheVariants.{RecoverLink, RecoverContent, RecoverTrack, RecoverRelock, RecoverBiphase, RecoverDvi, Check, Relay}
 

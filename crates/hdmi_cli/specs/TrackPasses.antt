@@ -13,8 +13,8 @@ use Rattle.track_sink.specs.Epochs.{lane_of, HasNoEnd}
 use Rattle.track_laws.specs.Laws.{later_skews, words_at}
 use Rattle.command_line.specs.declared.command.Command.TheVariants.{RecoverLink}
 use Rattle.hdmi_cli.specs.Headline.{TappedStream, IsRecovered}
-use Rattle.hdmi_cli.specs.Listings.{link_listing}
-use Rattle.hdmi_cli.specs.Outcome.{RunOutcome, Does}
+use Rattle.capture_commands.specs.Listings.{link_listing}
+use Rattle.capture_commands.specs.Outcome.{RunOutcome, Does}
 use Rattle.hdmi_cli.specs.TrackSlip.{LineSlip, lanes_of, IsSlippedTap, IsNoticed, IsFirstIn, columns_in}
 
 -- the lane had a lock before it lost the bits, or it had none

@@ -17,8 +17,8 @@ use Rattle.track_sink.specs.Epochs.{lane_of, rest_of, front_of}
 use Rattle.track_sink.specs.TrackEvents.{TrackEvent, track_events_of, slip_if}
 use Rattle.track_laws.specs.Laws.{Slipped, SlipsInVideo, BeginsAgain, FirstAccounted, later_skews, words_at}
 use Rattle.hdmi_cli.specs.Headline.{TappedStream}
-use Rattle.hdmi_cli.specs.Outcome.{status_with}
-use Rattle.hdmi_cli.specs.TrackText.{track_faults, track_text}
+use Rattle.capture_commands.specs.Outcome.{status_with}
+use Rattle.capture_commands.specs.TrackText.{track_faults, track_text}
 
 -- a lane lost so many bits from a place on, within pixels of a line, of which the first one named is column `first`; column
 -- `next` is the first of the control period after that line

@@ -1,26 +1,13 @@
 //! Vabgrot: the sender and the receiver of one HDMI TMDS link.
 #![tactic(auto)]
 
-mod block_gate;
-mod commands;
-mod ending;
-mod hearing;
 mod laws;
-mod lister;
-mod listing;
 mod note;
-mod reading;
 mod run;
-mod slice_source;
 #[cfg(test)]
 mod tests;
-mod track_lister;
-mod track_listing;
-mod tracking;
 mod words;
-mod writing;
 
-pub use block_gate::BlockGate;
 use lane_team::Open;
 use outside_io::{ReadSource, WriteSink, write_all};
 pub use run::run;

@@ -3,12 +3,12 @@ ghost use Rattle.std.specs.Prelude.{◌≡◌, ◌⊎◌, ℕ, ◌+◌, ◌≤�
 ghost use Rattle.std.specs.Io.KnownBytes.{Appends};
 ghost use Rattle.arrayvec.specs.ArrayVec.{array_vec_len};
 ghost use Rattle.outside_io.specs.Causes.{Rose};
-ghost use Rattle.hdmi_cli.specs.Endings.{note_of};
-ghost use Rattle.hdmi_cli.specs.Notes.{cause_name, listing_note, capture_name, capture_number, capture_note, frames_note, place_note, raster_note};
+ghost use Rattle.capture_commands.specs.Endings.{note_of};
+ghost use Rattle.capture_commands.specs.Notes.{cause_name, listing_note, capture_name, capture_number, capture_note, frames_note, place_note, raster_note};
 
-use crate::ending::Ending;
 use arrayvec::ArrayVec;
 use biphase_listing::BiphaseFault;
+use capture_commands::Ending;
 use capture_file::CaptureFault;
 use listing_reader::{ListCause, ListFault};
 use outside_io::{Sink, write_all};

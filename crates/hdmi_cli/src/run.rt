@@ -2,36 +2,24 @@
 ghost use Rattle.std.specs.Prelude.{◌≡◌, ◌⊎◌, ℕ, ◌≤◌, List, [], ◌∷◌, take, Some, Contains};
 ghost use Rattle.std.specs.Io.KnownBytes.{Appends, Consumes, IsAtEnd, Keeps};
 ghost use Rattle.outside_io.specs.Causes.{Rose};
-ghost use Rattle.hdmi_cli.specs.Manners.{WritesLast, WritesOn};
-ghost use Rattle.hdmi_cli.specs.Outcome.{RunOutcome, IsOutcome, NamesNone};
-ghost use Rattle.hdmi_cli.specs.Endings.{RunEnds, RunReadFailed, RunWriteFailed, seen};
+ghost use Rattle.capture_commands.specs.Manners.{WritesLast, WritesOn};
+ghost use Rattle.capture_commands.specs.Outcome.{RunOutcome, IsOutcome, NamesNone};
+ghost use Rattle.capture_commands.specs.Endings.{RunEnds, RunReadFailed, RunWriteFailed, seen};
 ghost use Rattle.hdmi_cli.specs.Theorem.{Promises};
 ghost use Rattle.hdmi_cli.specs.RunNotes.{IsNoteOf};
-ghost use Rattle.hdmi_cli.specs.Samples.{IsSampleWritten};
-ghost use Rattle.hdmi_cli.specs.Taken.{EndsRefused, WantsMemory};
+ghost use Rattle.capture_commands.specs.Samples.{IsSampleWritten};
+ghost use Rattle.capture_commands.specs.Taken.{EndsRefused, WantsMemory};
 ghost use Rattle.command_line.specs.Commands.{IsCommand};
 ghost use Rattle.command_line.specs.declared.command.Command.{Command as CommandValue};
 ghost use Rattle.command_line.specs.declared.command.Command.TheVariants.{Relay as RelayCommand, Sample};
 
 use crate::Words;
-use crate::block_gate::BlockGate;
-use crate::commands::check::check;
-use crate::commands::damage::damage;
-use crate::commands::make_content::make_content;
-use crate::commands::make_dvi::make_dvi;
-use crate::commands::make_link::make_link;
-use crate::commands::read_biphase::read_biphase;
-use crate::commands::recover_biphase::recover_biphase;
-use crate::commands::recover_content::recover_content;
-use crate::commands::recover_dvi::recover_dvi;
-use crate::commands::recover_link::recover_link;
-use crate::commands::recover_relock::recover_relock;
-use crate::commands::recover_track::recover_track;
-use crate::commands::relay_capture::relay_capture;
-use crate::commands::sample::count_sample;
-use crate::commands::slip::slip;
-use crate::ending::Ending;
 use crate::note::write_note;
+use capture_commands::{
+    BlockGate, ByWorkers, Ending, Feeds, check, count_sample, damage, make_content, make_dvi,
+    make_link, read_biphase, recover_biphase, recover_content, recover_dvi, recover_link,
+    recover_relock, recover_track, relay_capture, slip,
+};
 use command_line::Command;
 use outside_io::{Sink, Source};
 use std::alloc::Global;
@@ -116,20 +104,19 @@ pub fn run<R: Threads, S: Source, K: Sink, N: Sink, G: BlockGate>(
     ensures output_later { K.faults output.old ≤ K.faults output.new }
     ensures notes_later { N.faults notes.old ≤ N.faults notes.new }
 {
-    let ending = carry_out(rt, alloc, words, input, output, gate);
+    let ending = carry_out(&ByWorkers::new(rt, gate), alloc, words, input, output);
     write_note(&ending, notes);
     ending.status()
 }
 
 /// Does what the words say.
-#[tactic(auto, using(crate::proofs::Consumed::takes_none))]
-fn carry_out<R: Threads, S: Source, K: Sink, G: BlockGate>(
-    rt: &R,
+#[tactic(auto, using(capture_commands::proofs::Consumed::takes_none))]
+fn carry_out<F: Feeds, S: Source, K: Sink>(
+    feeding: &F,
     alloc: Global,
     words: &Words,
     input: &mut S,
     output: &mut K,
-    gate: &G,
 ) -> Ending
     ensures ends { RunEnds words.now result
         (seen (S.left input.old) (S.faults input.old) (K.held output.old) (K.faults output.old))
@@ -147,17 +134,17 @@ fn carry_out<R: Threads, S: Source, K: Sink, G: BlockGate>(
         Command::MakeLink(tap) => make_link(alloc, &tap, input, output),
         Command::MakeContent(tap) => make_content(alloc, &tap, input, output),
         Command::MakeDvi(tap) => make_dvi(alloc, &tap, input, output),
-        Command::RecoverLink => recover_link(rt, alloc, input, output, gate),
-        Command::RecoverContent => recover_content(rt, alloc, input, output, gate),
-        Command::RecoverTrack => recover_track(rt, alloc, input, output),
-        Command::RecoverRelock => recover_relock(rt, alloc, input, output),
-        Command::RecoverBiphase(pair) => recover_biphase(rt, alloc, pair, input, output, gate),
-        Command::RecoverDvi => recover_dvi(rt, alloc, input, output, gate),
-        Command::Check => check(rt, alloc, input, output, gate),
+        Command::RecoverLink => recover_link(feeding, alloc, input, output),
+        Command::RecoverContent => recover_content(feeding, alloc, input, output),
+        Command::RecoverTrack => recover_track(feeding, alloc, input, output),
+        Command::RecoverRelock => recover_relock(feeding, alloc, input, output),
+        Command::RecoverBiphase(pair) => recover_biphase(feeding, alloc, pair, input, output),
+        Command::RecoverDvi => recover_dvi(feeding, alloc, input, output),
+        Command::Check => check(feeding, alloc, input, output),
         Command::Damage(damages) => damage(alloc, damages.as_slice(), input, output),
         Command::Slip(words) => slip(alloc, words, input, output),
         Command::ReadBiphase => read_biphase(input, output),
-        Command::Relay => relay_capture(rt, alloc, input, output, gate),
-        Command::Sample(frames) => count_sample(rt, alloc, frames, output, gate),
+        Command::Relay => relay_capture(feeding, alloc, input, output),
+        Command::Sample(frames) => count_sample(feeding, alloc, frames, output),
     }
 }

@@ -2,7 +2,7 @@
 ghost use Rattle.std.specs.Prelude.{◌<◌};
 
 use super::trial::{STEADY, answer_of, answer_through};
-use crate::BlockGate;
+use capture_commands::BlockGate;
 use lane_team::Gate;
 use link_sink::{Ear, Hears, LaneSink, LinkSink};
 use listing_writer::LinkLister;

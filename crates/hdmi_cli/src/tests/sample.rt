@@ -1,6 +1,6 @@
 //! The counts of samples. The expected values are those of an independent model of the sample.
 use super::trial::{Devices, STEADY, answer_of, judge};
-use crate::commands::sample::damaged;
+use capture_commands::damaged;
 use std::process::Abort;
 use std::test::*;
 

@@ -1,5 +1,6 @@
 //! Runs of the program over sources and sinks in memory, and tables of what they must answer.
-use crate::{BlockGate, Words, run};
+use crate::{Words, run};
+use capture_commands::BlockGate;
 use lane_team::Open;
 use outside_io::{MemSink, MemSource};
 use std::alloc::Global;

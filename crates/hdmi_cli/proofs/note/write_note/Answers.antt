@@ -1,7 +1,7 @@
 use Rattle.std.proofs.Common.{◌⊎◌, ◌∙◌, ap, sym, subst, List, ℕ}
 use Rattle.std.specs.Io.KnownBytes.{Appends}
 use Rattle.outside_io.specs.Causes.{Rose}
-use Rattle.hdmi_cli.specs.Endings.{note_of}
+use Rattle.capture_commands.specs.Endings.{note_of}
 use Rattle.hdmi_cli.proofs.note.write_note.Goals as goal
 
 pub returns-in-Listing-clause-whole : goal.returns-in-Listing-clause-whole

@@ -1,9 +1,9 @@
 use Rattle.std.proofs.Common.{arith, subst}
 use Rattle.command_line.specs.Commands.{IsCommand as IsLine}
 use Rattle.command_line.specs.declared.command.Command.{Command}
-use Rattle.hdmi_cli.specs.Endings.{Devices}
+use Rattle.capture_commands.specs.Endings.{Devices}
 use Rattle.hdmi_cli.proofs.Ends.{line_of, none_named_ends}
-use Rattle.hdmi_cli.proofs.Answered.{frames_of_line, lanes_of_line, version_of_line, pair_of_line, version_of_content, version_of_dvi}
+use Rattle.capture_commands.proofs.Answered.{frames_of_line, lanes_of_line, version_of_line, pair_of_line, version_of_content, version_of_dvi}
 use Rattle.hdmi_cli.proofs.run.carry_out.Goals as goal
 
 pub returns-in-Ok-None-clause-ends : goal.returns-in-Ok-None-clause-ends
@@ -23,12 +23,14 @@ make_dvi-requires g c = grind (arith, version_of_dvi, line_of)
 pub make_content-requires : goal.make_content-requires
 make_content-requires g c = grind (arith, version_of_content, line_of)
 
-pub count_sample-requires-clause-few : goal.count_sample-requires-clause-few
-count_sample-requires-clause-few g c = grind (arith, frames_of_line, line_of)
+pub count_sample-requires : goal.count_sample-requires
+count_sample-requires g c = grind (arith, frames_of_line, line_of)
 
-pub recover_biphase-requires-clause-few : goal.recover_biphase-requires-clause-few
-recover_biphase-requires-clause-few g c = λ κs lives. pair_of_line c.args.words.now c.in-RecoverBiphase.pair (subst (λ (d : Command). IsLine c.args.words.now d) c.in-RecoverBiphase.is
-    (line_of c.args.words.now c.command.result c.in-Ok-Some.field-0 c.in-Ok-Some.command c.command.ensures c.in-Ok-Some.is c.in-Ok-Some.field-0-is))
+pub recover_biphase-requires : goal.recover_biphase-requires
+recover_biphase-requires g c = record {
+  few = pair_of_line c.args.words.now c.in-RecoverBiphase.pair (subst (λ (d : Command). IsLine c.args.words.now d) c.in-RecoverBiphase.is
+      (line_of c.args.words.now c.command.result c.in-Ok-Some.field-0 c.in-Ok-Some.command c.command.ensures c.in-Ok-Some.is c.in-Ok-Some.field-0-is));
+}
 
 pub slip-requires : goal.slip-requires
 slip-requires g c = grind (arith, line_of)

@@ -1,8 +1,8 @@
 use Rattle.std.proofs.Common.{rules}
-use Rattle.hdmi_cli.specs.Endings.{note_of, seen}
+use Rattle.capture_commands.specs.Endings.{note_of, seen}
 use Rattle.command_line.specs.declared.command.Command.TheVariants.{RecoverLink, RecoverContent, RecoverTrack, RecoverRelock, Check}
-use Rattle.hdmi_cli.specs.Listings.{link_listing, content_listing, check_listing}
-use Rattle.hdmi_cli.specs.Listers.{after_link, last_link, link_is_text, after_content, content_is_text, after_check, last_check, check_is_text}
+use Rattle.capture_commands.specs.Listings.{link_listing, content_listing, check_listing}
+use Rattle.capture_commands.specs.Listers.{after_link, last_link, link_is_text, after_content, content_is_text, after_check, last_check, check_is_text}
 use Rattle.hdmi_cli.proofs.Ends.{says}
 use Rattle.hdmi_cli.proofs.Exact.{check_is_exact}
 use Rattle.hdmi_cli.proofs.Headline.{headlined, headlined_anywhere, dvi_headlined, recovered}
@@ -16,7 +16,7 @@ use Rattle.hdmi_cli.proofs.RelayClean.{relay_passes}
 use Rattle.hdmi_cli.proofs.RelayHeadline.{relay_headlined}
 use Rattle.hdmi_cli.proofs.RelayLocal.{relayed_locally}
 use Rattle.hdmi_cli.proofs.RelaySettles.{relay_agrees, relay_settles}
-use Rattle.hdmi_cli.proofs.Taken.{run_refused, run_wants}
+use Rattle.capture_commands.proofs.Taken.{run_refused, run_wants}
 use Rattle.hdmi_cli.proofs.TrackHeadline.{tracks_as_link, relocks_as_link}
 use Rattle.hdmi_cli.proofs.TrackLocal.{tracked_locally}
 use Rattle.hdmi_cli.proofs.TrackSlip.{tracked_across, relocked_across}

@@ -1,0 +1,12 @@
+pub mod Consumed
+pub mod Answered
+pub mod Listings
+pub mod Heard
+pub mod BlockReading
+pub mod Hearings
+pub mod Samples
+pub mod SampleRaster
+pub mod Taken
+pub mod Relaying
+pub mod Trackings
+pub mod Tracked

@@ -1,0 +1,16 @@
+pub mod Commands
+pub mod Manners
+pub mod Notes
+pub mod Blocks
+pub mod Listings
+pub mod Listers
+pub mod Reading
+pub mod Hearings
+pub mod Tracking
+pub mod TrackText
+pub mod Samples
+pub mod Relays
+pub mod Outcome
+pub mod Taken
+pub mod Endings
+pub mod ListsCommands

@@ -1,0 +1,30 @@
+//! The command `recover track`.
+ghost use Rattle.std.specs.Prelude.{◌≤◌, ℕ, List};
+ghost use Rattle.std.specs.Io.KnownBytes.{Consumes};
+ghost use Rattle.capture_commands.specs.Endings.{Ends, seen};
+ghost use Rattle.command_line.specs.declared.command.Command.TheVariants.{RecoverTrack};
+
+use crate::ending::Ending;
+use crate::feeding::Feeds;
+use crate::track_listing::list_epochs;
+use outside_io::{Sink, Source};
+use std::alloc::Global;
+use track_sink::Strays;
+
+/// Writes the link listing of a capture whose lanes may lose bits, while it is read: where a lane's characters begin
+/// elsewhere, the lanes are searched anew.
+pub fn recover_track<F: Feeds, S: Source, K: Sink>(
+    feeding: &F,
+    alloc: Global,
+    input: &mut S,
+    output: &mut K,
+) -> Ending
+    ensures ends { Ends RecoverTrack result
+        (seen (S.left input.old) (S.faults input.old) (K.held output.old) (K.faults output.old))
+        (seen (S.left input.new) (S.faults input.new) (K.held output.new) (K.faults output.new)) }
+    ensures taken { (taken : List ℕ) × Consumes (S.left input.old) (S.left input.new) taken }
+    ensures input_later { S.faults input.old ≤ S.faults input.new }
+    ensures output_later { K.faults output.old ≤ K.faults output.new }
+{
+    list_epochs::<F, S, K, Strays>(feeding, alloc, input, output)
+}

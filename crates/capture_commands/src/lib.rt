@@ -1,0 +1,36 @@
+//! What the commands do with a capture, a listing or a content: each reads a source, writes a sink and answers how it ends.
+#![tactic(auto)]
+
+mod block_gate;
+mod commands;
+mod ending;
+mod feeding;
+mod hearing;
+mod lister;
+mod listing;
+mod reading;
+mod slice_source;
+mod track_lister;
+mod track_listing;
+mod tracking;
+mod writing;
+
+pub use block_gate::BlockGate;
+pub use commands::check::check;
+pub use commands::damage::damage;
+pub use commands::make_content::make_content;
+pub use commands::make_dvi::make_dvi;
+pub use commands::make_link::make_link;
+pub use commands::read_biphase::read_biphase;
+pub use commands::recover_biphase::recover_biphase;
+pub use commands::recover_content::recover_content;
+pub use commands::recover_dvi::recover_dvi;
+pub use commands::recover_link::recover_link;
+pub use commands::recover_relock::recover_relock;
+pub use commands::recover_track::recover_track;
+pub use commands::relay_capture::relay_capture;
+pub use commands::sample::{count_sample, damaged};
+pub use commands::slip::slip;
+pub use ending::Ending;
+pub use feeding::{ByWorkers, Feeds, InTurn};
+pub use slice_source::SliceSource;

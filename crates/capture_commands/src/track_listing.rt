@@ -1,0 +1,66 @@
+//! A capture is listed from epoch to epoch, while it is read.
+ghost use Rattle.std.specs.Prelude.{◌≡◌, ◌≤◌, ℕ, [], true, List};
+ghost use Rattle.std.specs.Io.KnownBytes.{Consumes};
+ghost use Rattle.link_sink.specs.Pieces.{no_bits};
+ghost use Rattle.track_sink.specs.TrackSinks.{EpochSinkRepresents, most_bits};
+ghost use Rattle.capture_commands.specs.ListsCommands.{IsTracks};
+ghost use Rattle.capture_commands.specs.Endings.{Ends, seen};
+ghost use Rattle.command_line.specs.declared.command.Command.{Command as CommandValue};
+
+use crate::ending::Ending;
+use crate::feeding::Feeds;
+use crate::listing::{judged, unheard};
+use crate::track_lister::TrackLister;
+use crate::tracking::follow_capture;
+use listing_writer::LinkLister;
+use outside_io::{Sink, Source};
+use std::alloc::Global;
+use track_sink::{EpochSink, Watch};
+
+/// Writes the link listing of a capture while it is read: where an epoch of its lanes ends, the lanes are searched anew.
+#[tactic(auto, using(crate::proofs::Consumed::takes_none))]
+pub(crate) fn list_epochs<F: Feeds, S: Source, K: Sink, W: Watch>(
+    feeding: &F,
+    alloc: Global,
+    input: &mut S,
+    output: &mut K,
+) -> Ending
+    ensures ends { (command : CommandValue) → IsTracks W.rule command → Ends command result
+        (seen (S.left input.old) (S.faults input.old) (K.held output.old) (K.faults output.old))
+        (seen (S.left input.new) (S.faults input.new) (K.held output.new) (K.faults output.new)) }
+    ensures taken { (taken : List ℕ) × Consumes (S.left input.old) (S.left input.new) taken }
+    ensures input_later { S.faults input.old ≤ S.faults input.new }
+    ensures output_later { K.faults output.old ≤ K.faults output.new }
+{
+    match EpochSink::open(alloc) {
+        Ok(mut sink) => list_track::<F, S, K, W>(feeding, &mut sink, input, output),
+        Err(_) => Ending::NoMemory,
+    }
+}
+
+/// The same with a sink that was fed nothing.
+fn list_track<F: Feeds, S: Source, K: Sink, W: Watch>(
+    feeding: &F,
+    sink: &mut EpochSink<W>,
+    input: &mut S,
+    output: &mut K,
+) -> Ending
+    requires open { sink.old.is_open ≡ true }
+    requires fresh { EpochSinkRepresents W.rule W.looked W.passed sink.old no_bits [] }
+    requires unfed { most_bits sink.old ≡ 0 }
+    ensures ends { (command : CommandValue) → IsTracks W.rule command → Ends command result
+        (seen (S.left input.old) (S.faults input.old) (K.held output.old) (K.faults output.old))
+        (seen (S.left input.new) (S.faults input.new) (K.held output.new) (K.faults output.new)) }
+    ensures taken { (taken : List ℕ) × Consumes (S.left input.old) (S.left input.new) taken }
+    ensures input_later { S.faults input.old ≤ S.faults input.new }
+    ensures output_later { K.faults output.old ≤ K.faults output.new }
+{
+    let mut lister = TrackLister {
+        lister: LinkLister::open(output),
+    };
+    match follow_capture(feeding, sink, input, &mut lister) {
+        Ok(outcome) if outcome.aligned > 0 => judged(lister.end(), lister.faults()),
+        Ok(_) => Ending::Unaligned,
+        Err(error) => unheard(error),
+    }
+}

@@ -1,9 +1,0 @@
-use Rattle.std.proofs.Common.{arith}
-use Rattle.hdmi_cli.proofs.Answered.{slipped_ends}
-use Rattle.hdmi_cli.proofs.commands.slip.slip.Goals as goal
-
-pub returns-clause-ends : goal.returns-clause-ends
-returns-clause-ends g c = grind (arith, slipped_ends)
-
-pub returns-clause-taken : goal.returns-clause-taken
-returns-clause-taken g c = c.slip.ensures.taken

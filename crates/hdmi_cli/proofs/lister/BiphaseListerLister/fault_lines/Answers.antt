@@ -1,7 +1,0 @@
-use Rattle.std.proofs.Common.{◌∙◌, []}
-use Rattle.hdmi_cli.specs.Listers.{sound_counted}
-use Rattle.hdmi_cli.proofs.lister.BiphaseListerLister.fault_lines.Goals as goal
-
-pub returns : goal.returns
-returns g c = λ first events fresh took.
-    c.faults.ensures ∙ sound_counted first.pair c.args.self.now.encoder events first.faults c.args.self.now.faults (g.K.Sink.held first.sink.now) (g.K.Sink.held c.args.self.now.sink.now) (took.2 [] fresh.0) fresh.1
