@@ -4,14 +4,15 @@
 ** A receiver is fed the raw bits of three serial lanes, blue (lane 0), green (lane 1) and red (lane 2), with unknown bit offset
 ** and up to 70 bits of skew between the lanes, in pieces of any size. It finds where characters begin on each lane, lines the
 ** lanes up, and writes what they carry as events into an array of the caller's: runs of control columns, lines of pixels,
-** packets of data islands, and what is wrong with them. A column is one pixel clock: one character of each lane.
+** packets of data islands, and what is wrong with them. A column is one pixel clock: one character of each lane. Of a whole capture in
+** memory two calls without a receiver write what the program lists of it: vabgrot_recover and vabgrot_check.
 **
 ** What the calls write is proved: of all bits that were fed, exactly the events that the program's `recover link` lists, or its
 ** `recover dvi`, by the receiver's kind, in whatever pieces they were fed. docs/proof/PROVED.md of the project has the theorem, and
 ** what it owes to the caller.
 **
-** Memory. vabgrot_open takes 63,584 bytes from malloc, or 63,360 of VABGROT_DVI, in seven blocks; no other call takes any;
-** vabgrot_close frees them.
+** Memory. vabgrot_open takes 63,496 bytes from malloc, or 63,272 of VABGROT_DVI, in two blocks; no other call on a handle takes any;
+** vabgrot_close frees them. vabgrot_recover and vabgrot_check take a receiver's and room for the whole listing, and free all.
 **
 ** Threads. The library keeps nothing outside the handle and starts no thread. Calls on different handles may run side by side.
 ** Calls on one handle must not overlap; between calls a handle may pass to another thread, as any memory does.
@@ -49,16 +50,22 @@ enum vabgrot_status {
   VABGROT_FULL = 1,   /* there is no room for what the rest may report; what was done stands */
   VABGROT_MISUSE = 2, /* the call does not fit the calls before it, or its bits those before them; nothing was done */
   VABGROT_TOOBIG = 3, /* a lane would have 2^60 bits or more; nothing was done */
-  VABGROT_NOMEM = 4   /* malloc answered NULL; nothing was done */
+  VABGROT_NOMEM = 4,  /* malloc answered NULL; nothing was done */
+  /* Of vabgrot_recover and vabgrot_check alone: */
+  VABGROT_FAULTY = 5,    /* all was listed, and it has faults */
+  VABGROT_NOCAPTURE = 6, /* the bytes are no capture: what the whole blocks before the fault say was listed */
+  VABGROT_UNALIGNED = 7  /* the lanes have no full alignment, so that nothing was listed */
 };
 
 /*
 ** Kinds of receivers. Both write the same events; of VABGROT_DVI there are runs, lines, the cut, and of the faults VABGROT_WORD,
-** VABGROT_SHORT, VABGROT_CODE and VABGROT_LONG_LINE.
+** VABGROT_SHORT, VABGROT_CODE and VABGROT_LONG_LINE. The last two are kinds of vabgrot_recover alone.
 */
 enum vabgrot_kind {
-  VABGROT_LINK = 0, /* a link with guard bands and preambles (HDMI 1.4, chapter 5) */
-  VABGROT_DVI = 1   /* one without them: a line begins with its first pixel (DVI 1.0) */
+  VABGROT_LINK = 0,  /* a link with guard bands and preambles (HDMI 1.4, chapter 5) */
+  VABGROT_DVI = 1,   /* one without them: a line begins with its first pixel (DVI 1.0) */
+  VABGROT_TRACK = 2, /* a link whose lanes may lose bits: where one does the lanes are searched anew */
+  VABGROT_RELOCK = 3 /* the same, from an alignment that a guard band confirms */
 };
 
 /*
@@ -197,6 +204,23 @@ int vabgrot_restart(vabgrot *v);
 ** Frees the receiver. The handle is then as before vabgrot_open. Nothing is done where it is not open. It answers VABGROT_OK.
 */
 int vabgrot_close(vabgrot *v);
+
+/*
+** Lists a whole capture (a file of the program's, version 1 or 2) by a kind, as `recover link`, `recover dvi`, `recover track` and
+** `recover relock` do: the lines of its events and its faults. Whatever the status is, `*size` is how many bytes the listing has; as
+** many of them as there is room for are in the buffer, from its first on, with no zero after them. A call with a `room` of 0 says how
+** much is needed. It starts no thread.
+**
+** VABGROT_OK, VABGROT_FAULTY, VABGROT_NOCAPTURE, VABGROT_UNALIGNED: what the program ends with 0, 1, 3 and 7 of; all is in the buffer.
+** VABGROT_FULL: the listing has more bytes than the buffer. VABGROT_MISUSE: there is no such kind. VABGROT_NOMEM: malloc answered NULL,
+** and the buffer may have anything. With the last two `*size` is 0.
+*/
+int vabgrot_recover(uint32_t kind, const uint8_t *capture, size_t capture_size, uint8_t *listing, size_t room, size_t *size);
+
+/*
+** Lists the faults of a capture alone, and `clean` or `faulty`, as `check` does: as vabgrot_recover, but for VABGROT_MISUSE.
+*/
+int vabgrot_check(const uint8_t *capture, size_t capture_size, uint8_t *listing, size_t room, size_t *size);
 
 #ifdef __cplusplus
 }

@@ -10,6 +10,7 @@ if TYPE_CHECKING:
     from vabgrot.library import Misuse, NoLibrary
     from vabgrot.receiving import Arrays, Receiver, receive
     from vabgrot.recovery import Recovered, recover
+    from vabgrot.texts import Text, text_of
 
 __all__ = [
     "Arrays",
@@ -28,11 +29,13 @@ __all__ = [
     "Recovered",
     "Refused",
     "Run",
+    "Text",
     "receive",
     "recover",
+    "text_of",
 ]
 _HOMES = {"Misuse": "library", "NoLibrary": "library", "Refused": "errors", "Recovered": "recovery", "recover": "recovery"}
-_HOMES |= dict.fromkeys(("Arrays", "Receiver", "receive"), "receiving")
+_HOMES |= dict.fromkeys(("Arrays", "Receiver", "receive"), "receiving") | dict.fromkeys(("Text", "text_of"), "texts")
 
 
 def __getattr__(name: str) -> Any:

@@ -3,9 +3,9 @@
 import ctypes
 from ctypes import POINTER, Structure, byref, c_int, c_size_t, c_uint8, c_uint32, c_uint64, c_void_p
 
-OK, FULL, MISUSE, TOOBIG, NOMEM = range(5)
+OK, FULL, MISUSE, TOOBIG, NOMEM, FAULTY, NOCAPTURE, UNALIGNED = range(8)
 LEAST_EVENTS, LEAST_BYTES = 104, 12327
-LINK, DVI = 0, 1
+LINK, DVI, TRACK, RELOCK = range(4)
 
 
 class Handle(Structure):
@@ -34,7 +34,18 @@ def loaded(path):
     for name, types in (("open", (c_uint32,)), ("feed", feed), ("finish", room), ("restart", ()), ("close", ())):
         call = getattr(calls, f"vabgrot_{name}")
         call.argtypes, call.restype = (POINTER(Handle), *types), c_int
+    listed = (POINTER(c_uint8), c_size_t) * 2 + (POINTER(c_size_t),)
+    calls.vabgrot_recover.argtypes, calls.vabgrot_recover.restype = (c_uint32, *listed), c_int
+    calls.vabgrot_check.argtypes, calls.vabgrot_check.restype = listed, c_int
     return calls
+
+
+def listed(calls, kind, capture, room):
+    """The status, the size and the buffer of a call that lists a capture: of vabgrot_check where the kind is None."""
+    call, words = (calls.vabgrot_check, ()) if kind is None else (calls.vabgrot_recover, (kind,))
+    given, buffer, size = (c_uint8 * max(1, len(capture)))(*capture), (c_uint8 * max(1, room))(), c_size_t()
+    status = call(*words, given, len(capture), buffer, room, byref(size))
+    return status, size.value, bytes(buffer[:room])
 
 
 class Receiver:

@@ -1,5 +1,6 @@
 /*
-** Refuses each allocation of vabgrot_open in turn, for each kind, and counts those of all calls. Linked with --wrap=malloc, realloc and free.
+** Refuses each allocation of vabgrot_open in turn, for each kind, and counts those of all calls; and each of vabgrot_recover and
+** vabgrot_check. Linked with --wrap=malloc, realloc and free.
 */
 #include <stdio.h>
 #include <stdlib.h>
@@ -71,6 +72,44 @@ static int try_kind(uint32_t kind) {
   return 0;
 }
 
+/* A red pixel after a longer control period, from bit 7 on with skews of 0, 70 and 35. */
+static const char capture_text[] =
+    "544d433100000189a69a6aaaa9a69a6aaaa9a69a6aaaa9a69a6aaaa9a69a6aaaa9a69a6aaaa9a69a6aaaa9a69a6aaa99651620aaa9a69a"
+    "6aaa01a69a6aaaa9a69a6aaaa9a69a6aaaa9a69a6aaaa95e65955556596595555699692680a8a69a6aaaa9a69a6aaaa9a69a6aaa01d554"
+    "534d35d554534d35d554534d35d554534d35d554534d35d554534d35d554534d35b3cc024835d554534d35d554534d01";
+
+static uint8_t capture[sizeof capture_text / 2];
+
+/* Lists the capture by a kind, or its faults for a kind that there is not. */
+static int list_capture(uint32_t kind, uint8_t *listing, size_t room, size_t *size) {
+  if (kind > VABGROT_RELOCK) return vabgrot_check(capture, sizeof capture, listing, room, size);
+  return vabgrot_recover(kind, capture, sizeof capture, listing, room, size);
+}
+
+static int try_listing(uint32_t kind) {
+  uint8_t listing[4096];
+  size_t size = 0;
+  asked = 0;
+  const int status = list_capture(kind, listing, sizeof listing, &size);
+  const long needed = asked;
+  if ((status != VABGROT_OK && status != VABGROT_FAULTY) || size == 0 || size > sizeof listing || held != 0) return wrong("list");
+  for (long at = 1; at <= needed; at++) {
+    asked = 0;
+    refused_at = at;
+    if (list_capture(kind, listing, sizeof listing, &size) != VABGROT_NOMEM || size != 0 || held != 0) return wrong("a refused listing");
+    refused_at = 0;
+  }
+  return 0;
+}
+
 int main(void) {
+  for (size_t at = 0; at < sizeof capture; at++) {
+    unsigned byte;
+    if (sscanf(capture_text + 2 * at, "%2x", &byte) != 1) return wrong("the capture's digits");
+    capture[at] = (uint8_t)byte;
+  }
+  for (uint32_t kind = VABGROT_LINK; kind <= VABGROT_RELOCK + 1; kind++) {
+    if (try_listing(kind)) return 1;
+  }
   return try_kind(VABGROT_LINK) || try_kind(VABGROT_DVI);
 }

@@ -110,7 +110,7 @@ def test_symbols(library):
     """The shared library exports the header's calls and nothing else, and needs the C library alone."""
     if not shutil.which("nm") or not shutil.which("readelf"):
         pytest.skip("binutils are missing")
-    names = {f"vabgrot_{it}" for it in ("open", "feed", "finish", "restart", "close")}
+    names = {f"vabgrot_{it}" for it in ("open", "feed", "finish", "restart", "close", "recover", "check")}
     path = library / "libvabgrot.so.1"
     lines = ran(["nm", "-D", "--defined-only", path], b"").stdout.decode().split("\n")
     assert {line.split()[2].partition("@")[0] for line in lines if " T " in line} == names

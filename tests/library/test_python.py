@@ -17,7 +17,7 @@ import vabgrot
 from tests.library.test_calls import lanes_of
 from tests.models import feeding, hearing
 from tests.support import HANGS, LISTING, TOP, run
-from vabgrot import capture, library
+from vabgrot import capture, library, texts
 from vabgrot.events import Closing, Cut, End, Fault, Kind, Line, Opening, Packet, Run
 from vabgrot.formats.characters import CONTROL
 
@@ -207,6 +207,23 @@ def test_recover_refuses(tmp_path):
         vabgrot.recover(tmp_path / "none")
 
 
+def test_texts(executable, compare, monkeypatch, tmp_path):
+    """What is listed of whole captures is what the program writes, by the library and without it; of a file as of its bytes."""
+    monkeypatch.setenv("VABGROT_PROGRAM", executable)
+
+    def cases():
+        for name, data in (("no capture", b"TMC3"), ("nothing", b""), *captures(executable)):
+            for reader in ("link", "dvi", "track", "relock", "check"):
+                status, text, _ = run(executable, [reader] if reader == "check" else ["recover", reader], data)
+                yield f"{name}, {reader}", vabgrot.text_of(data, reader), (status, text)
+                yield f"{name}, {reader} by the program", texts.by_program(data, reader), (status, text)
+        path = tmp_path / "x.tmc"
+        path.write_bytes(data)
+        yield "a file", vabgrot.text_of(path), vabgrot.text_of(data)
+
+    compare(cases())
+
+
 # ---- a test bench
 
 
@@ -283,11 +300,14 @@ def blocks(language):
 
 
 def test_c_as_printed(bars, compiled):
-    (source,) = blocks("c")
+    source, call = blocks("c")
     (bars / "count.c").write_text(source)
     came = subprocess.run([compiled(bars / "count.c"), "blue", "green", "red"], cwd=bars, capture_output=True, text=True, timeout=HANGS)
     columns = 3 * (32 + 8 + 16 + 64) * (8 + 2 + 2 + 3) + 32  # three frames of the listing's mode, and the columns after the last
     assert (came.returncode, came.stdout) == (0, f"{columns} columns, 24 lines, 1 faults\n")
+    given = "const uint8_t capture[] = {84, 77, 67, 51}; const size_t capture_size = 4, room = 4; uint8_t listing[4];"
+    (bars / "call.c").write_text(f"#include <vabgrot.h>\n\nint main(void) {{\n{given}\n{call}return size != 0;\n}}\n")
+    assert subprocess.run([compiled(bars / "call.c")], timeout=HANGS).returncode == 0  # no capture: nothing is listed
 
 
 def test_python_as_printed(bars, found):

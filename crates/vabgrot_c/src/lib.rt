@@ -6,6 +6,10 @@ ghost use Rattle.period_grammar.specs.Events.{Event, EventAt, all_at};
 ghost use Rattle.link_sink.specs.Sinks.{Fed, IsGainAt, IsLastBy};
 ghost use Rattle.link_sink.specs.Pieces.{no_bits};
 ghost use Rattle.link_sink.specs.declared.hear.Outcome.{Outcome as OutcomeValue};
+ghost use Rattle.command_line.specs.declared.command.Command.TheVariants.{Check};
+ghost use Rattle.c_capture.specs.Listed.{Lists, Recovers};
+ghost use Rattle.c_capture.specs.Statuses.{code_of as listing_code};
+ghost use Rattle.c_capture.specs.declared.status.Status.{Status as ListingStatus};
 ghost use Rattle.c_room.specs.Handles.{IsHandle, IsOfKind, Holds, IsOpen, MayFeedAll, AreFewMore};
 ghost use Rattle.c_room.specs.Kinds.{number_of, grammar_of, IsNoKind};
 ghost use Rattle.c_room.specs.Orders.{FollowInOrder};
@@ -16,6 +20,7 @@ ghost use Rattle.c_room.specs.declared.kind.Kind.{Kind as KindValue};
 ghost use Rattle.c_room.specs.declared.status.Status.{Status as StatusValue};
 ghost use Rattle.c_room.specs.declared.status.Status.TheVariants.{Done, Full, Misuse, TooMany, NoMemory};
 
+use c_capture::{check, recover};
 use c_room::{BitCounts, Handle, LentLanes, Record};
 use std::alloc::Global;
 
@@ -154,4 +159,36 @@ pub extern "C" fn vabgrot_close(handle: &mut Handle) -> i32
 {
     handle.close();
     0
+}
+
+/// Lists a capture by the reader that has a number, as the program's command does: as many of its first bytes as there is room
+/// for. `size` is how many it has.
+#[unsafe(no_mangle)]
+pub extern "C" fn vabgrot_recover(
+    alloc: Global,
+    number: u32,
+    capture: &[u8],
+    listing: &mut [u8],
+    size: &mut usize,
+) -> i32
+    ensures { (status : ListingStatus) × (result ≡ listing_code status) × Recovers number capture.now status size.new listing.new }
+{
+    let listed = recover(alloc, number, capture, listing);
+    *size = listed.size;
+    listed.status.code()
+}
+
+/// Lists the faults of a capture, as the program's `check` does: `vabgrot_recover`.
+#[unsafe(no_mangle)]
+pub extern "C" fn vabgrot_check(
+    alloc: Global,
+    capture: &[u8],
+    listing: &mut [u8],
+    size: &mut usize,
+) -> i32
+    ensures { (status : ListingStatus) × (result ≡ listing_code status) × Lists Check capture.now status size.new listing.new }
+{
+    let listed = check(alloc, capture, listing);
+    *size = listed.size;
+    listed.status.code()
 }
