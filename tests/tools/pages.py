@@ -1,6 +1,8 @@
-"""A page of tools/report in headless Chromium, and what it shows. Without Selenium or the browser a test that imports it is skipped."""
+"""Pages of tools/report and of page/ in headless Chromium, and what they show. Without Selenium or the browser the tests are skipped."""
 
 import os
+import re
+from base64 import b64encode
 
 import pytest
 from PIL import Image
@@ -32,6 +34,8 @@ def opened():
 
 class Page:
     """A page in the browser."""
+
+    loads = {"data:", "blob:"}  # from where it may
 
     def __init__(self, driver, path):
         self.driver = driver
@@ -102,8 +106,60 @@ class Page:
         """Nothing went wrong in the page, nothing was loaded, and what is shown has a name."""
         assert [entry for entry in self.driver.get_log("browser") if entry["level"] == "SEVERE"] == []
         loaded = self.run("return performance.getEntriesByType('resource').map((one) => one.name.slice(0, 5))")
-        assert set(loaded) <= {"data:", "blob:"}
+        assert set(loaded) <= self.loads
         nameless = """return [...document.querySelectorAll('button, a, select, input, canvas, img, svg, table, audio')].filter((one) =>
             one.getAttribute('aria-hidden') !== 'true' && !(one.textContent.trim() || one.getAttribute('aria-label') || one.labels?.length
             || one.tagName === 'AUDIO' || one.getAttribute('alt') === '')).map((one) => one.outerHTML.slice(0, 80))"""
         assert self.run(nameless) == []
+
+
+class Reader(Page):
+    """The page that reads a capture by itself, at a URL."""
+
+    def __init__(self, driver, url):
+        self.driver, self.url = driver, url
+        self.loads = Page.loads | {url[:5]}
+        driver.get_log("browser")
+        driver.get(url)
+        self.wait("waiting")
+
+    def wait(self, *states):
+        """Waits until it waits for a capture, has read one, or stopped."""
+        WebDriverWait(self.driver, HANGS, poll_frequency=0.05).until(lambda _: self.state() in states or self.text("trouble"))
+        assert not self.text("trouble"), self.text("trouble")
+
+    def state(self):
+        return self.run("return document.documentElement.dataset.ready && document.documentElement.dataset.state"
+                        " || (document.documentElement.dataset.state === 'waiting' ? 'waiting' : '')")
+
+    def choose(self, *paths):
+        """Gives it files by its button."""
+        self.driver.find_element(By.ID, "files").send_keys("\n".join(map(str, paths)))
+
+    def read(self, *paths):
+        """Gives it files, and waits until they are read."""
+        self.choose(*paths)
+        self.wait("done")
+
+    def drop(self, name, data):
+        """Drops a file of some bytes on it, and waits until it is read."""
+        self.run(
+            "const files = new DataTransfer(); const bytes = Uint8Array.from(atob(arguments[1]), (one) => one.charCodeAt(0));"
+            "files.items.add(new File([bytes], arguments[0])); document.documentElement.dataset.ready = '';"
+            "for (const kind of ['dragover', 'drop']) document.getElementById('drop').dispatchEvent("
+            "new DragEvent(kind, {dataTransfer: files, bubbles: true, cancelable: true}))",
+            name,
+            b64encode(data).decode(),
+        )
+        self.wait("done")
+
+    def saved(self, folder):
+        """The listing, as its button saves it."""
+        self.driver.execute_cdp_cmd("Browser.setDownloadBehavior", {"behavior": "allow", "downloadPath": str(folder)})
+        size = int(re.search(r"([\d,]+) bytes", self.text("listing-says"))[1].replace(",", ""))
+        self.click("listing-save")
+        WebDriverWait(self.driver, HANGS).until(lambda _: [it for it in folder.glob("*.link") if it.stat().st_size >= size])
+        (path,) = folder.glob("*.link")
+        data = path.read_bytes()
+        path.unlink()
+        return data

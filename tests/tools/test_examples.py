@@ -5,9 +5,10 @@ import subprocess
 import pytest
 
 from tests.support import HANGS, TOP, built
+from vabgrot.report import whole
 
-TOOLS = ["characters", "compare", "conform", "content", "errors", "lanes", "pictures", "report", "slice", "sound", "survey", "timing"]
-TOOLS += ["watch"]
+TOOLS = ["characters", "compare", "conform", "content", "errors", "lanes", "page", "pictures", "report", "slice", "sound", "survey"]
+TOOLS += ["timing", "watch"]
 
 
 def commands(text):
@@ -18,6 +19,8 @@ def commands(text):
 
 @pytest.mark.parametrize("name", TOOLS)
 def test_examples(tool, program, tmp_path, name):
+    if name == "page" and not (whole.FOLDER / whole.MODULE).is_file():
+        pytest.skip(f"there is no page/{whole.MODULE}: page/build makes it")
     lines = commands(tool(name, "--help").stdout.decode())
     assert lines
     for folder in ("tools", "examples", "docs"):

@@ -25,7 +25,7 @@ def front(tmp_path, kit):
     (tmp_path / "program").chmod(0o755)
     for name in ("vabgrot", "build.py", "README.md", "CHANGELOG.md"):
         shutil.copy(TOP / name, top)
-    for folder in ("tools", "python", "docs", "examples"):
+    for folder in ("page", "tools", "python", "docs", "examples"):
         shutil.copytree(TOP / folder, top / folder, ignore=shutil.ignore_patterns("__pycache__"))
 
     def run(*words, has_kit=True, script=top / "vabgrot"):
@@ -100,6 +100,8 @@ def test_installed(front, tmp_path):
         assert not re.search(r"tools/|\./vabgrot|\b(docs|examples)/(?!\w)", came.stdout)
     for name in ("man/man1/vabgrot.1", "doc/vabgrot/README.md", "doc/vabgrot/docs/guide/FORMATS.md", "doc/vabgrot/examples/red.vcd"):
         assert (local / "share" / name).is_file()
+    for name in ("page/index.html", "page/page.js", "python/vabgrot/report/page/report.js", "python/vabgrot/report/page/report.css"):
+        assert (local / "lib/vabgrot" / name).is_file()
 
 
 LIBRARY = """#!/bin/sh

@@ -324,7 +324,7 @@ class Told:
         }
 
 
-LEFT, RIGHT = frozenset("FL RL RLC FLC FLH FLW".split()), frozenset("FR RR RRC FRC FRH FRW".split())
+LEFT, RIGHT = frozenset("FL RL RLC FLC FLH FLW".split()), frozenset("FR RR RRC FRC FRH FRW".split())  # of the downmix
 HALF = 0.5**0.5
 
 

@@ -5,7 +5,7 @@ import sys
 from collections.abc import Sequence
 
 NAMES = (
-    *("characters", "compare", "conform", "content", "errors", "lanes", "pictures"),
+    *("characters", "compare", "conform", "content", "errors", "lanes", "page", "pictures"),
     *("report", "slice", "sound", "survey", "timing", "watch"),
 )
 # Debian's packages, by their modules.

@@ -29,6 +29,7 @@ from vabgrot.replacing import replacing
 from vabgrot.report import bursts, judged
 from vabgrot.report.album import Album
 from vabgrot.report.findings import Findings, tables_of
+from vabgrot.report.said import ADVICE, NOT_EXACT
 from vabgrot.report.sound import Told
 from vabgrot.video.colours import DEPTHS, Signal
 from vabgrot.video.matching import SIZES, Rate, Timing, change_note, timings
@@ -41,20 +42,12 @@ parity is wrong, or a frame has another size than its InfoFrame says). It is one
 are followed where the program has `recover track`; where the first alignment was wrong the capture is read anew, where it has
 `recover relock`."""
 PAGE = Path(bursts.__file__).resolve().parent / "page"
-SCRIPTS = ("tables.js", "sound.js", "report.js")
+SCRIPTS = ("tables.js", "sound.js", "report.js", "start.js")
 PLACES = ("on lane 0 (blue)", "on lane 1 (green)", "on lane 2 (red)", "of no lane")
 BLOCKS = ("body 0", "body 1", "body 2", "body 3", "header")
 ENDS = {"vsync": "whole", "slip": "broken off by a slip", "end": "broken off by the end of the capture"}
 EXAMPLES = """./vabgrot make content < examples/bars.content > bars.tmc
 tools/report bars.tmc -o bars.html"""
-ADVICE = (
-    "Are the three files the three data lanes, and none of them the clock? A lane without control characters has no lock.",
-    "Is a lane inverted (its pair swapped), or in the other bit order within bytes? “tools/lanes look” tries them.",
-    "Are the lanes in the order blue, green, red? Lanes that are swapped lock, but what they carry is noise.",
-    "Are the lanes more than 70 bits (seven characters) apart? “tools/lanes cut” cuts those that are late at their beginning.",
-    "Is it long enough? Each lane must have twelve control characters in a row, which come once a row of pixels.",
-    "Is the link scrambled (HDMI 2.0 above 340 MHz), or encrypted? The first is not read, of the other pixels are noise.",
-)
 DVI_ADVICE = """No control period ends in the guard bands of HDMI, at any skew of the lanes: a DVI source has none.
 “tools/report --dvi” reads it, where the program has “recover dvi”."""
 WRONG = """The first alignment was likely wrong: a damaged control character before it sets a wrong skew for all that follows.
@@ -370,9 +363,7 @@ def notes_of(found: Found, words: list[str], album: Album, measured: list[Timing
             "The program has no “recover track”, so a lane that loses bits is not followed: what comes behind it is noise."
         )
     if any(picture.kind != "image/png" for picture in album.pictures):
-        notes.append(
-            "So that the page stays small some pictures are not exact; where they are enlarged, damaged pixels are."
-        )
+        notes.append(NOT_EXACT)
     notes.extend(found.fields.notes(interlaced_by(found, measured)))
     if not found.sound.samples:
         notes.extend(f"{count:,} packets of {name} came, which are not played." for name, count in sorted(found.sound.others.items()))

@@ -3,14 +3,17 @@
 import csv
 import io
 import json
+import multiprocessing
 import os
 import queue
+import signal
 import subprocess
 import sys
 import time
 from collections import Counter
 from collections.abc import Callable, Iterable, Iterator, Sequence
-from concurrent.futures import ThreadPoolExecutor, as_completed
+from concurrent.futures import Future, ProcessPoolExecutor, ThreadPoolExecutor, as_completed
+from concurrent.futures.process import BrokenProcessPool
 from dataclasses import dataclass
 from html import escape
 from pathlib import Path
@@ -59,7 +62,6 @@ class Asked:
     timing: bool = False
 
 
-Judge = Callable[[str, str, Sequence[str], Asked], Row]
 Got = TypeVar("Got")
 
 
@@ -298,8 +300,8 @@ class Table:
         return rows
 
 
-def here(paths: list[str], program: str, asked: Asked, judge: Judge) -> Iterator[Row]:
-    """The rows of captures that are judged on this machine, as they come: one at a time on each processor."""
+def here(paths: list[str], program: str, asked: Asked) -> Iterator[Row]:
+    """The rows of captures that the program judges on this machine, as they come: one at a time on each processor."""
     free: queue.SimpleQueue[tuple[str, ...]] = queue.SimpleQueue()
     for on in processors():
         free.put(on)
@@ -307,7 +309,7 @@ def here(paths: list[str], program: str, asked: Asked, judge: Judge) -> Iterator
     def judged_on_one(path: str) -> Row:
         on = free.get()
         try:
-            return judge(path, program, on, asked)
+            return judged(path, program, on, asked)
         finally:
             free.put(on)
 
@@ -319,6 +321,43 @@ def here(paths: list[str], program: str, asked: Asked, judge: Judge) -> Iterator
         except BaseException:
             pool.shutdown(cancel_futures=True)
             raise
+
+
+def begin(places: "multiprocessing.SimpleQueue[int | None]") -> None:
+    """Begins a process that judges captures, on a processor of its own with what it starts; an interrupt is the survey's."""
+    signal.signal(signal.SIGINT, signal.SIG_IGN)
+    place = places.get()
+    if place is not None:
+        os.sched_setaffinity(0, {place})
+    processors.cache_clear()
+
+
+def by_library(paths: list[str], program: str, asked: Asked) -> Iterator[Row]:
+    """The rows of captures that the C library judges, as they come: a process on each processor, since what is counted of the events is
+    counted by Python. They are there when this returns, so that no thread of this process is copied."""
+    context = multiprocessing.get_context("fork")
+    places = context.SimpleQueue()
+    for on in processors():
+        places.put(int(on[-1]) if on else None)
+    pool = ProcessPoolExecutor(min(len(processors()), len(paths)), context, begin, (places,))
+    waits = {pool.submit(judged_here, path, program, (), asked): path for path in paths}
+    return rows_of(pool, waits)
+
+
+def rows_of(pool: ProcessPoolExecutor, waits: "dict[Future[Row], str]") -> Iterator[Row]:
+    """The rows of captures that wait for a process, as they come."""
+    try:
+        for wait in as_completed(waits):
+            try:
+                yield wait.result()
+            except BrokenProcessPool:
+                yield {"path": waits[wait], "verdict": "failed", "note": "a process that judged captures was ended"}
+        pool.shutdown()
+    except BaseException:
+        pool.shutdown(wait=False, cancel_futures=True)
+        for child in multiprocessing.active_children():
+            child.terminate()
+        raise
 
 
 def judged_there(path: str, program: str, flags: tuple[bool, bool, bool]) -> Row:
@@ -405,10 +444,12 @@ def work(argv: Sequence[str] | None) -> int:
         raise Refused(f"{args.places[0]}: it has no files *.tmc")
     asked, table = Asked(args.dvi, args.slips, args.timing), Table(args.table, args.anew)
     wanted = [path for path in paths if not table.has(path, asked)]
-    judge: Judge = judged
-    if not args.program and not args.scheduler and has_library():
-        judge = judged_here
-    found = elsewhere(wanted, program, args.scheduler, asked) if args.scheduler else here(wanted, program, asked, judge)
+    if args.scheduler:
+        found = elsewhere(wanted, program, args.scheduler, asked)
+    elif wanted and not args.program and has_library():
+        found = by_library(wanted, program, asked)
+    else:
+        found = here(wanted, program, asked)
     for row in tqdm(found, total=len(paths), initial=len(paths) - len(wanted), unit="capture", disable=None):
         table.add(row)
     rows = table.ended(paths)

@@ -8,11 +8,8 @@ const colour = (name) => getComputedStyle(document.documentElement).getPropertyV
 const LANES = ["lane 0 (blue)", "lane 1 (green)", "lane 2 (red)"];
 const PERIODS = ["control", "video", "island", "island", "island", "unknown", "unaligned"];
 let data;
-
-async function unpacked(text) {
-  const stream = new Blob([bytesOf(text)]).stream().pipeThrough(new DecompressionStream("deflate"));
-  return JSON.parse(await new Response(stream).text());
-}
+const growing = []; // what shows each section anew when data has grown
+let shown = new AbortController(); // ends what listens to the whole page for the data that is shown
 
 function made(name, words = {}, ...children) {
   const element = document.createElement(name);
@@ -62,13 +59,15 @@ function columnText(at, isExact = false) {
 /* ---- the pictures ---- */
 
 /* A picture is a frame, or two fields of one, woven: `fields` are their numbers among data.frames, of two the upper first. */
-const viewer = { picture: -1, x: 0, y: 0, isDrawn: false, pictures: [], pictureOf: [], sides: [], marks: [], places: [], changed: [], loaded: new Map() };
+const unseen = () => ({ picture: -1, x: 0, y: 0, isDrawn: false, isChosen: false, pictures: [], pictureOf: [], sides: [], marks: [], places: [], changed: [], loaded: new Map() });
+const viewer = unseen();
+
+/* What gives a picture by its number: as a file, or as its pixels. */
+let pictureOf = () => new ImageData(1, 1);
 
 async function bitmap(number) {
   if (!viewer.loaded.has(number)) {
-    const element = by(`picture-${number}`);
-    const blob = new Blob([bytesOf(element.textContent)], { type: element.dataset.kind });
-    viewer.loaded.set(number, createImageBitmap(blob));
+    viewer.loaded.set(number, createImageBitmap(await pictureOf(number)));
     if (viewer.loaded.size > 6) viewer.loaded.delete(viewer.loaded.keys().next().value);
   }
   return viewer.loaded.get(number);
@@ -102,6 +101,11 @@ function startShown(isWoven) {
   });
   const order = (one, other) => rowOf(one) - rowOf(other) || data.faults.x[one] - data.faults.x[other];
   viewer.places = viewer.marks.flatMap((marks) => marks.filter((mark) => data.faults.x[mark] >= 0).sort(order));
+}
+
+/* Whether fields are shown woven, as long as nobody asks for them apart. */
+function areWoven() {
+  return !by("show-fields")?.checked;
 }
 
 /* The row of a mark in the picture that it is in: a field's rows are every second one of a woven frame. */
@@ -193,6 +197,7 @@ async function showPicture(number, x, y) {
 
 /* Shows the picture of a mark, enlarged about it. */
 function showMark(mark) {
+  viewer.isChosen = true;
   const number = viewer.pictureOf[data.faults.frame[mark]];
   const [x, y] = [data.faults.x[mark], rowOf(mark)];
   return number === viewer.picture ? enlarge(x, y) : showPicture(number, x, y);
@@ -285,24 +290,58 @@ async function stepFault(step) {
   if (mark !== undefined) await showMark(mark);
 }
 
-/* The strip of small pictures: of two fields the upper one's, as high as both. */
+/* A small picture with its name and its faults: of two fields the upper one's, as high as both. */
+function smallPicture(picture, number, faults) {
+  const image = made("img", { src: data.thumbs[data.frames[picture.fields[0]].picture], alt: "", loading: "lazy" });
+  if (picture.fields.length > 1) image.style.cssText = `object-fit: fill; width: min(100%, ${(5 * picture.width) / picture.height}rem); margin-inline: auto`;
+  const says = made("span", {}, picture.name, made("br"), faults ? made("em", {}, faults) : "no faults");
+  const button = made("button", { type: "button", onclick: () => showPicture(number) }, image, says);
+  button.dataset.frame = number;
+  button.classList.toggle("small", picture.width < 192);
+  return made("li", {}, button);
+}
+
+/* The strip of small pictures; those that stand there as they are to be stay. */
 function drawStrip() {
-  by("strip").replaceChildren(...viewer.pictures.map((picture, number) => {
+  const strip = by("strip");
+  viewer.pictures.forEach((picture, number) => {
     const faults = pictureFaults(picture);
-    const image = made("img", { src: data.thumbs[data.frames[picture.fields[0]].picture], alt: "", loading: "lazy" });
-    if (picture.fields.length > 1) image.style.cssText = `object-fit: fill; width: min(100%, ${(5 * picture.width) / picture.height}rem); margin-inline: auto`;
-    const says = made("span", {}, picture.name, made("br"), faults ? made("em", {}, faults) : "no faults");
-    const button = made("button", { type: "button", onclick: () => showPicture(number) }, image, says);
-    button.dataset.frame = number;
-    button.classList.toggle("small", picture.width < 192);
-    return made("li", {}, button);
-  }));
+    const key = JSON.stringify([picture, faults]);
+    const old = strip.children[number];
+    if (old?.dataset.key === key) return;
+    const item = smallPicture(picture, number, faults);
+    item.dataset.key = key;
+    if (old) old.replaceWith(item);
+    else strip.append(item);
+  });
+  while (strip.children.length > viewer.pictures.length) strip.lastChild.remove();
+}
+
+/* The picture that is shown first: the first damaged one, or the first whole one. */
+function firstPicture() {
+  const damaged = viewer.pictures.findIndex((picture, number) => picture.whole && viewer.marks[number].length);
+  const sides = Math.max(...viewer.pictures.map((picture) => picture.fields.length));
+  const first = damaged >= 0 ? damaged : viewer.pictures.findIndex((picture) => picture.whole && picture.fields.length === sides);
+  return Math.max(0, first);
+}
+
+/* Frames have come: the one in view stays, but that the first damaged one takes its place where nobody has chosen one. */
+function growPictures() {
+  if (!viewer.pictures.length) return undefined;
+  drawStrip();
+  by("fields-switch").hidden = !isInterlaced();
+  const first = firstPicture();
+  const isBetter = !viewer.isChosen && viewer.marks[first].length && !viewer.marks[viewer.picture]?.length;
+  if (viewer.picture < 0 || isBetter) return showPicture(first);
+  by("frame-on").disabled = viewer.picture === viewer.pictures.length - 1;
+  by("pixel-back").disabled = by("pixel-on").disabled = !viewer.places.length;
+  return undefined;
 }
 
 /* Shows fields woven or apart, about the one that is in view. */
 async function switchFields() {
   const field = viewer.pictures[viewer.picture].fields[0];
-  startShown(!by("show-fields").checked);
+  startShown(areWoven());
   drawStrip();
   drawTime();
   for (const change of viewer.changed) change();
@@ -310,11 +349,10 @@ async function switchFields() {
 }
 
 function startPictures() {
-  if (!data.frames.length) return;
-  drawStrip();
-  by("fields-switch").hidden = !isInterlaced();
-  by("show-fields").onchange = switchFields;
   const canvas = by("picture");
+  if (!canvas) return undefined;
+  by("show-fields").onchange = switchFields;
+  for (const event of ["pointerdown", "keydown"]) by("pictures").addEventListener(event, () => { viewer.isChosen = true; });
   const point = (event) => {
     const box = canvas.getBoundingClientRect();
     enlarge(((event.clientX - box.left) / box.width) * canvas.width, ((event.clientY - box.top) / box.height) * canvas.height);
@@ -334,15 +372,14 @@ function startPictures() {
   by("pixel-on").onclick = () => stepFault(1);
   by("show-marks").onchange = drawMarks;
   new ResizeObserver(() => viewer.isDrawn && drawMarks()).observe(canvas);
-  const damaged = viewer.pictures.findIndex((picture, number) => picture.whole && viewer.marks[number].length);
-  const sides = Math.max(...viewer.pictures.map((picture) => picture.fields.length));
-  const first = damaged >= 0 ? damaged : viewer.pictures.findIndex((picture) => picture.whole && picture.fields.length === sides);
-  return showPicture(Math.max(0, first));
+  growing.push(growPictures);
+  return growPictures();
 }
 
 /* ---- the timeline ---- */
 
-const time = { first: 0, last: 1, cursor: 0, drag: null };
+const unmoved = () => ({ first: 0, last: 0, all: 0, cursor: 0, drag: null });
+const time = unmoved();
 const ROWS = ["frames", "periods", "lane 0", "lane 1", "lane 2", "packets", "structure", "slips"];
 const [ROW, HEAD, LABEL] = [28, 22, 76];
 
@@ -555,11 +592,18 @@ function stepTimeFault(step) {
   pointTo(order.at[place]);
 }
 
-function startTime() {
+/* Columns have come: where all were in view all are. */
+function growTime() {
   const order = data.faults.at.map((_, fault) => fault).sort((a, b) => data.faults.at[a] - data.faults.at[b] || a - b);
   data.faultOrder = { fault: order, at: order.map((fault) => data.faults.at[fault]) };
   sumPeriods();
-  time.last = data.columns;
+  if (time.first === 0 && time.last === time.all) time.last = data.columns;
+  time.all = data.columns;
+  by("time").setAttribute("aria-valuemax", data.columns - 1);
+  drawTime();
+}
+
+function startTime() {
   const canvas = by("time");
   const columnAt = (event) => {
     const box = canvas.getBoundingClientRect();
@@ -604,8 +648,9 @@ function startTime() {
   by("fault-back").onclick = () => stepTimeFault(-1);
   by("fault-on").onclick = () => stepTimeFault(1);
   new ResizeObserver(drawTime).observe(canvas);
-  matchMedia("(prefers-color-scheme: dark)").addEventListener("change", drawTime);
-  drawTime();
+  matchMedia("(prefers-color-scheme: dark)").addEventListener("change", drawTime, { signal: shown.signal });
+  growing.push(growTime);
+  growTime();
 }
 
 /* ---- the listing ---- */
@@ -613,7 +658,6 @@ function startTime() {
 const LINES = 100;
 
 function startListing() {
-  const numbers = data.lines.map((_, number) => number);
   const paged = new Paged(by("lines"), "the listing", LINES, (shown) => {
     const list = made("ol", { className: "lines" });
     for (const number of shown) {
@@ -651,36 +695,53 @@ function startListing() {
   const findForm = made("form", { onsubmit: (event) => { event.preventDefault(); find(1); } },
     made("label", {}, "text ", text), " ", made("button", {}, "Find →"), " ",
     made("button", { type: "button", onclick: () => find(-1) }, "← Find"), " ", says);
-  const input = made("input", { type: "number", min: 1, max: numbers.length });
-  const go = (event) => { event.preventDefault(); location.hash = `L${clamp(Number(input.value) || 1, 1, numbers.length)}`; };
+  const input = made("input", { type: "number", min: 1 });
+  const go = (event) => { event.preventDefault(); location.hash = `L${clamp(Number(input.value) || 1, 1, data.lines.length)}`; };
   paged.bar.prepend(findForm, made("form", { onsubmit: go }, made("label", {}, "line ", input), " ", made("button", {}, "Go")));
-  paged.set(numbers);
+  const grow = () => {
+    input.max = data.lines.length;
+    search.text = "";
+    paged.grow(data.lines.map((_, number) => number));
+  };
   const follow = () => {
     const found = /^#L(\d+)$/.exec(location.hash);
-    if (found) show(clamp(Number(found[1]), 1, numbers.length), true);
+    if (found) show(clamp(Number(found[1]), 1, data.lines.length), true);
   };
-  addEventListener("hashchange", follow);
+  addEventListener("hashchange", follow, { signal: shown.signal });
   document.addEventListener("click", (event) => {
     const link = event.target.closest?.("a[href^='#L']");
     if (link && link.getAttribute("href") === location.hash) { event.preventDefault(); follow(); }
-  });
+  }, { signal: shown.signal });
+  growing.push(grow);
+  grow();
   follow();
 }
 
-async function start() {
-  data = await unpacked(by("data").textContent);
-  if (data.columns) {
-    startShown(true);
-    startTime();
-    startRules();
-    startFaults();
-    startPackets();
-    startListing();
-    startSound();
-    await startPictures();
-  }
-  document.documentElement.dataset.ready = "yes";
-  performance.mark("ready");
+/* ---- all sections ---- */
+
+/* Shows data for the first time. */
+async function startReport() {
+  startShown(true);
+  startTime();
+  startRules();
+  startFaults();
+  startPackets();
+  startListing();
+  startSound();
+  await startPictures();
 }
 
-start();
+/* Shows what has come to data since. */
+function growReport() {
+  startShown(areWoven());
+  return Promise.all(growing.map((grow) => grow()));
+}
+
+/* Forgets the data that was shown; the sections are to be new ones. */
+function endReport() {
+  shown.abort();
+  shown = new AbortController();
+  growing.length = 0;
+  Object.assign(viewer, unseen());
+  Object.assign(time, unmoved());
+}

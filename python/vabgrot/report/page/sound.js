@@ -52,10 +52,13 @@ function played(file, choice) {
   return mixedWav(wavHead(file), gains);
 }
 
+/* What gives the WAV file of all channels. */
+let soundOf = () => new Uint8Array(0);
+
 function startSound() {
   const audio = by("audio");
-  if (!audio) return;
-  const file = bytesOf(by("sound-file").textContent);
+  if (!audio || !data.sound) return;
+  const file = soundOf();
   const urlOf = (bytes) => URL.createObjectURL(new Blob([bytes], { type: "audio/wav" }));
   const choose = (choice) => {
     if (audio.src) URL.revokeObjectURL(audio.src);

@@ -24,6 +24,16 @@ class Paged {
     this.go(0);
   }
 
+  /* More rows: the page stays, and is drawn anew only where it shows other ones. */
+  grow(rows) {
+    const first = this.page * this.size;
+    const before = this.rows.slice(first, first + this.size);
+    const isSame = before.length === this.size && before.every((row, at) => row === rows[first + at]);
+    this.rows = rows;
+    if (isSame) this.say();
+    else this.go(this.page);
+  }
+
   /* A field for a text that the rows are to have, and a button that saves these rows: `lines` gives those of one. */
   addSearch(change) {
     const input = made("input", { type: "search", oninput: () => change(input.value.trim().toLowerCase()) });
@@ -36,16 +46,25 @@ class Paged {
   }
 
   go(page) {
-    const pages = Math.max(1, Math.ceil(this.rows.length / this.size));
-    this.page = clamp(page, 0, pages - 1);
+    this.page = clamp(page, 0, this.pages - 1);
+    this.say();
+    this.body.replaceChildren(this.draw(this.shown));
+  }
+
+  get pages() {
+    return Math.max(1, Math.ceil(this.rows.length / this.size));
+  }
+
+  get shown() {
+    return this.rows.slice(this.page * this.size, (this.page + 1) * this.size);
+  }
+
+  say() {
     const first = this.page * this.size;
-    const shown = this.rows.slice(first, first + this.size);
+    const last = Math.min(first + this.size, this.rows.length);
     this.back.disabled = this.page === 0;
-    this.on.disabled = this.page === pages - 1;
-    this.says.textContent = shown.length
-      ? `${count(first + 1)} to ${count(first + shown.length)} of ${count(this.rows.length)}`
-      : "nothing of this kind";
-    this.body.replaceChildren(this.draw(shown));
+    this.on.disabled = this.page === this.pages - 1;
+    this.says.textContent = last ? `${count(first + 1)} to ${count(last)} of ${count(this.rows.length)}` : "nothing of this kind";
   }
 }
 
@@ -57,6 +76,14 @@ function table(caption, heads, rows) {
     made("thead", {}, made("tr", {}, ...heads.map((head) => made("th", { scope: "col" }, head)))),
     made("tbody", {}, ...rows.map((row) => made("tr", {}, ...cells(row)))),
   );
+}
+
+/* Gives a select these texts, of which "" stands for all; what is chosen stays. */
+function setChoices(select, texts) {
+  if (select.options.length === texts.length + 1) return;
+  const was = select.value;
+  select.replaceChildren(...["", ...texts].map((value) => made("option", { value }, value || "all")));
+  select.value = was;
 }
 
 function choice(name, options, change) {
@@ -127,8 +154,10 @@ function foldedFaults() {
   });
 }
 
+/* The faults in rows; the characters at each are shown where they are told. */
 function faultTable(caption, rows) {
-  return table(caption, ["fault", "column", "picture", "listing", "characters"], rows.map((row) => (row.faults ? burstCells(row) : faultCells(row))));
+  const heads = ["fault", "column", "picture", "listing", ...(data.faults.characters ? ["characters"] : [])];
+  return table(caption, heads, rows.map((row) => (row.faults ? burstCells(row) : faultCells(row)).slice(0, heads.length)));
 }
 
 function columnButton(at) {
@@ -137,7 +166,7 @@ function columnButton(at) {
 }
 
 function faultCells(fault) {
-  const characters = made("td", { className: "digits" }, data.faults.characters[fault]);
+  const characters = made("td", { className: "digits" }, data.faults.characters?.[fault] ?? "");
   return [faultText(fault), columnButton(data.faults.at[fault]), faultPlace(fault), lineLink(data.faults.line[fault]), characters];
 }
 
@@ -185,23 +214,28 @@ function startFaults() {
     (!wanted.kind || data.faults.kind[fault] === wanted.kind) && (wanted.lane === "" || data.faults.lane[fault] === Number(wanted.lane))
     && (!wanted.text || textOf(fault).includes(wanted.text));
   const isAll = () => !wanted.kind && wanted.lane === "" && !wanted.text;
-  const fill = () => paged.set(isAll() ? foldedFaults() : data.faults.kind.map((_, fault) => fault).filter(isWanted));
+  const rows = () => (isAll() ? foldedFaults() : data.faults.kind.map((_, fault) => fault).filter(isWanted));
+  const fill = () => paged.set(rows());
   paged.addSearch((text) => { wanted.text = text; fill(); });
   paged.addSave("faults", FAULT_HEADS, (row) => (row.faults || [row]).map(faultFields));
-  const kinds = [...new Set(data.faults.kind)];
-  const [kindLabel, kind] = choice("kind", [["", "all"], ...kinds.map((one) => [one, one])], (value) => { wanted.kind = value; fill(); });
+  const [kindLabel, kind] = choice("kind", [["", "all"]], (value) => { wanted.kind = value; fill(); });
   const [laneLabel, lane] = choice("lane", [["", "all"], ...LANES.map((one, number) => [String(number), one]), ["-1", "of no lane"]], (value) => { wanted.lane = value; fill(); });
   paged.bar.prepend(kindLabel, laneLabel);
-  for (const button of document.querySelectorAll(".count[data-kind]")) {
-    button.onclick = () => {
-      kind.value = wanted.kind = button.dataset.kind;
-      lane.value = wanted.lane = button.dataset.lane;
-      fill();
-      place.scrollIntoView();
-      paged.says.focus();
-    };
-  }
-  fill();
+  by("faults").addEventListener("click", (event) => {
+    const button = event.target.closest(".count[data-kind]");
+    if (!button) return;
+    kind.value = wanted.kind = button.dataset.kind;
+    lane.value = wanted.lane = button.dataset.lane;
+    fill();
+    place.scrollIntoView();
+    paged.says.focus();
+  });
+  const grow = () => {
+    setChoices(kind, [...new Set(data.faults.kind)]);
+    paged.grow(rows());
+  };
+  grow();
+  growing.push(grow);
   viewer.changed.push(() => paged.go(paged.page));
 }
 
@@ -251,16 +285,22 @@ function startPackets() {
     const text = `${packets.names[number]} ${columnText(packets.at[number])} ${data.words[packets.words[number]]} ${faults} line ${packets.line[number]}`;
     return text.toLowerCase().includes(wanted.text) || (wanted.digits && packetBytes(number).some((part) => part.includes(wanted.digits)));
   };
-  const fill = () => paged.set(packets.at.map((_, number) => number).filter((number) =>
-    (!wanted.name || packets.names[number] === wanted.name) && (!wanted.hurt || isHurt(number)) && (!wanted.text || hasText(number))));
+  const rows = () => packets.at.map((_, number) => number).filter((number) =>
+    (!wanted.name || packets.names[number] === wanted.name) && (!wanted.hurt || isHurt(number)) && (!wanted.text || hasText(number)));
+  const fill = () => paged.set(rows());
   paged.addSearch((text) => {
     wanted.text = text;
     wanted.digits = /^[0-9a-f ]+$/.test(text) ? text.replaceAll(" ", "") : "";
     fill();
   });
   paged.addSave("packets", PACKET_HEADS(), (number) => [packetFields(number)]);
-  const [kind] = choice("kind", [["", "all"], ...[...new Set(packets.names)].map((one) => [one, one])], (value) => { wanted.name = value; fill(); });
+  const [kind, kinds] = choice("kind", [["", "all"]], (value) => { wanted.name = value; fill(); });
   const [state] = choice("blocks", [["", "all"], ["hurt", "not all clean"]], (value) => { wanted.hurt = value; fill(); });
   paged.bar.prepend(kind, state);
-  fill();
+  const grow = () => {
+    setChoices(kinds, [...new Set(packets.names)]);
+    paged.grow(rows());
+  };
+  grow();
+  growing.push(grow);
 }

@@ -1,0 +1,44 @@
+// Bytes and numbers in words.
+
+/** @param {Iterable<number>} bytes @returns {string} their hexadecimal digits */
+export function hex(bytes) {
+  let text = "";
+  for (const byte of bytes) text += DIGITS[byte];
+  return text;
+}
+
+const DIGITS = Array.from({ length: 256 }, (_, byte) => byte.toString(16).padStart(2, "0"));
+
+/** @param {number} byte @returns {string} its two hexadecimal digits */
+export function hexByte(byte) {
+  return DIGITS[byte];
+}
+
+/** @param {Iterable<number>} bytes @returns {number} what they sum to */
+export function sum(bytes) {
+  let total = 0;
+  for (const byte of bytes) total += byte;
+  return total;
+}
+
+/** @param {number} value up to 32 bits @returns {number} how many of its bits are ones */
+export function ones(value) {
+  let count = 0;
+  for (let left = value; left; left &= left - 1) count += 1;
+  return count;
+}
+
+/** @param {number} value @returns {string} a whole number with a comma between thousands */
+export function thousands(value) {
+  return value.toLocaleString("en-US");
+}
+
+/** @param {number} bytes @returns {string} how many millions they are */
+export function megabytes(bytes) {
+  return (bytes / 1e6).toLocaleString("en-US", { minimumFractionDigits: 1, maximumFractionDigits: 1 });
+}
+
+/** @param {number} value @param {string} name @returns {string} a number with what it counts */
+export function counted(value, name) {
+  return `${thousands(value)} ${name}${value === 1 ? "" : "s"}`;
+}
