@@ -529,10 +529,11 @@ def memory(program):
         for room in rooms if len(source) < 1000 else rooms[::4]:
             came = in_room(program, words, source, room)
             loader = came[:2] == (127, b"") and any(text in came[2] for text in LOADER)
-            spared = came in ((6, b"", b"out of memory\n"), (6, b"", b""))
             # what was taken before the last pages of its stack leaves no room for these, and the system ends any such process
-            stack = came[0] == -signal.SIGSEGV and in_room(program, words, source, room + STACK) == whole
-            yield f"{words} in {room} KiB", loader or spared or stack or came == whole, True
+            if came[0] == -signal.SIGSEGV:
+                came = in_room(program, words, source, room + STACK)
+            spared = came in ((6, b"", b"out of memory\n"), (6, b"", b""))
+            yield f"{words} in {room} KiB", loader or spared or came == whole, True
 
 
 def in_room(program, words, source, room):

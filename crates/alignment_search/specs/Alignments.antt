@@ -15,7 +15,7 @@ HasNoAlignment xs ys zs past limit = (d e f : ℕ) → IsTriple xs ys zs d e f �
 
 -- of the alignments whose greatest edge lies at or after a place, that whose greatest edge is least. From the place 0 on it is
 -- the first alignment, IsAlignment of lane_deskew
-pub record IsNextAlignment (xs ys zs : List Bool) (past : ℕ) (edges : List ℕ) : Type 0 where
-  pub triple : IsTriple xs ys zs (slice_index edges 0) (slice_index edges 1) (slice_index edges 2)
+pub record IsNextAlignment (blue green red : List Bool) (past : ℕ) (edges : List ℕ) : Type 0 where
+  pub triple : IsTriple blue green red (slice_index edges 0) (slice_index edges 1) (slice_index edges 2)
   pub after : past ≤ greatest edges
-  pub least : HasNoAlignment xs ys zs past (greatest edges)
+  pub least : HasNoAlignment blue green red past (greatest edges)

@@ -29,11 +29,11 @@ pub record IsAnswered (finder : AlignmentFinder) (xs ys zs : List Bool) (blue gr
 
 -- no alignment past the last one that was answered has all edges before the limit: those at which one can have its edges are
 -- known that far
-pub record HasSearched (finder : AlignmentFinder) (xs ys zs : List Bool) : Type 0 where
+pub record HasSearched (finder : AlignmentFinder) (blue green red : List Bool) : Type 0 where
   pub low : ℕ
   pub near : finder.limit ≤ low + 71
   pub order : low ≤ max finder.from (finder.limit - 70)
-  pub reached : HaveReached finder xs ys zs low (finder.limit - 119) finder.limit
-  pub answered : ((finder.from ≡ 0) × (finder.past ≡ 0)) ⊎ ((d e f : ℕ) × IsAnswered finder xs ys zs d e f)
+  pub reached : HaveReached finder blue green red low (finder.limit - 119) finder.limit
+  pub answered : ((finder.from ≡ 0) × (finder.past ≡ 0)) ⊎ ((d e f : ℕ) × IsAnswered finder blue green red d e f)
   pub within : finder.past ≤ finder.limit
-  pub none : HasNoAlignment xs ys zs finder.past finder.limit
+  pub none : HasNoAlignment blue green red finder.past finder.limit

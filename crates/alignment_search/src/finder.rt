@@ -44,7 +44,7 @@ impl AlignmentFinder {
     pub fn new() -> AlignmentFinder
         ensures limit { result.limit ≡ 0 }
         ensures past { result.past ≡ 0 }
-        ensures searched { (xs ys zs : List Bool) → HasSearched result xs ys zs }
+        ensures searched { (blue green red : List Bool) → HasSearched result blue green red }
     {
         AlignmentFinder {
             blue: LaneEdges::new(),
@@ -63,13 +63,13 @@ impl AlignmentFinder {
         requires after { parts.base ≤ self.old.limit - 119 }
         requires rises { self.old.limit ≤ limit }
         requires total { limit < 2 ^ 62 }
-        requires searched { (xs ys zs : List Bool) × ArePartsOf parts xs ys zs × HasSearched self.old xs ys zs }
+        requires searched { (blue green red : List Bool) × ArePartsOf parts blue green red × HasSearched self.old blue green red }
         ensures limit { MatchOption result (self.new.limit ≡ limit) (λ edges. self.new.limit ≡ greatest edges + 1) }
         ensures past { MatchOption result (self.new.past ≡ self.old.past) (λ edges. self.new.past ≡ greatest edges + 1) }
         ensures within { IfSome result (λ edges. (self.old.limit ≤ greatest edges) × (greatest edges < limit)) }
-        ensures searched { (xs ys zs : List Bool) → ArePartsOf parts.entry xs ys zs → HasSearched self.old xs ys zs → HasSearched self.new xs ys zs }
-        ensures found { (xs ys zs : List Bool) → ArePartsOf parts.entry xs ys zs → HasSearched self.old xs ys zs
-            → MatchOption result (HasNoAlignment xs ys zs self.old.past limit) (λ edges. IsNextAlignment xs ys zs self.old.past edges) }
+        ensures searched { (blue green red : List Bool) → ArePartsOf parts.entry blue green red → HasSearched self.old blue green red → HasSearched self.new blue green red }
+        ensures found { (blue green red : List Bool) → ArePartsOf parts.entry blue green red → HasSearched self.old blue green red
+            → MatchOption result (HasNoAlignment blue green red self.old.past limit) (λ edges. IsNextAlignment blue green red self.old.past edges) }
     {
         let mut from = self.from.max(self.limit.saturating_sub(NEAR));
         self.find_locks(parts, limit);
@@ -98,8 +98,8 @@ impl AlignmentFinder {
         ensures from { self.new.from ≡ self.old.from }
         ensures past { self.new.past ≡ self.old.past }
         ensures limit { self.new.limit ≡ self.old.limit }
-        ensures reached { (xs ys zs : List Bool) (low : ℕ) → ArePartsOf parts.entry xs ys zs → HaveReached self.old xs ys zs low (self.old.limit - 119) self.old.limit
-            → HaveReached self.new xs ys zs low (limit - 119) self.old.limit }
+        ensures reached { (blue green red : List Bool) (low : ℕ) → ArePartsOf parts.entry blue green red → HaveReached self.old blue green red low (self.old.limit - 119) self.old.limit
+            → HaveReached self.new blue green red low (limit - 119) self.old.limit }
     {
         let base = parts.base;
         let from = self.limit.saturating_sub(RUN_SPAN);
@@ -115,13 +115,13 @@ impl AlignmentFinder {
         requires total { self.old.limit < 2 ^ 62 }
         requires order { from ≤ self.old.limit }
         requires base { parts.base ≤ self.old.limit }
-        requires reached { (xs ys zs : List Bool) × (low was : ℕ) × ArePartsOf parts xs ys zs × HaveReached self.old xs ys zs low (self.old.limit - 119) was × CanReach parts.base low was from self.old.limit }
+        requires reached { (blue green red : List Bool) × (low was : ℕ) × ArePartsOf parts blue green red × HaveReached self.old blue green red low (self.old.limit - 119) was × CanReach parts.base low was from self.old.limit }
         ensures from { self.new.from ≡ self.old.from }
         ensures past { self.new.past ≡ self.old.past }
         ensures limit { self.new.limit ≡ self.old.limit }
         ensures within { AreWithin from result self.old.limit }
-        ensures reached { (xs ys zs : List Bool) (low was : ℕ) → ArePartsOf parts.entry xs ys zs → HaveReached self.old xs ys zs low (self.old.limit - 119) was → CanReach parts.entry.base low was from self.old.limit
-            → HaveReached self.new xs ys zs from (self.old.limit - 119) self.old.limit × AreBounds xs ys zs from self.old.limit result }
+        ensures reached { (blue green red : List Bool) (low was : ℕ) → ArePartsOf parts.entry blue green red → HaveReached self.old blue green red low (self.old.limit - 119) was → CanReach parts.entry.base low was from self.old.limit
+            → HaveReached self.new blue green red from (self.old.limit - 119) self.old.limit × AreBounds blue green red from self.old.limit result }
     {
         let base = parts.base;
         let limit = self.limit;

@@ -1,6 +1,7 @@
 -- How far a capture was read into a sink, and how its reading ends. Of a sink's relations `heard` says which bits it was fed,
 -- and that since a first state its ear took what it reports of them; `so_far` says that of the ear alone; `stops` and
 -- `stops_last`, that the ear failed in what is reported of one block more, and of the end.
+use Rattle.capture_file.specs.declared.TheConstants.{BLOCK_BITS}
 use Rattle.std.specs.Prelude.{◌≡◌, ◌⊎◌, ◌*◌, ℕ, max, min, List, Option, Some, slice_index}
 use Rattle.std.specs.Io.KnownBytes.{Consumes, IsAtEnd}
 use Rattle.outside_io.specs.Causes.{Rose}
@@ -19,9 +20,9 @@ most_of bits = max (bits 0) (max (bits 1) (bits 2))
 
 -- lanes have the bits of the blocks below j
 pub record AreFed (bits : ℕ → ℕ) (counts : List ℕ) (j : ℕ) : Type 0 where
-  pub blue : bits 0 ≡ min (slice_index counts 0) (32768 * j)
-  pub green : bits 1 ≡ min (slice_index counts 1) (32768 * j)
-  pub red : bits 2 ≡ min (slice_index counts 2) (32768 * j)
+  pub blue : bits 0 ≡ min (slice_index counts 0) (BLOCK_BITS * j)
+  pub green : bits 1 ≡ min (slice_index counts 1) (BLOCK_BITS * j)
+  pub red : bits 2 ≡ min (slice_index counts 2) (BLOCK_BITS * j)
 
 -- the blocks below j were read since the source had some bytes left, and the sink has heard them
 pub record HasHeard {K A : Type 0} (heard : K → Fed → A → A → Type 0) (version : ℕ) (counts : List ℕ) (j : ℕ) (from left : Option (List ℕ)) (sink : K) (first now : A) : Type 0 where

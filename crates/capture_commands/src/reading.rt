@@ -2,6 +2,7 @@
 ghost use Rattle.std.specs.Prelude.{◌≡◌, ◌≤◌, ◌+◌, ◌*◌, ◌^◌, ◌<◌, ℕ, List, Bool, true, false, Option, IfOk, OnOk, IfErr, OnErr};
 ghost use Rattle.std.specs.Io.KnownBytes.{Consumes, IsAtEnd};
 ghost use Rattle.outside_io.specs.Causes.{HasCause};
+ghost use Rattle.capture_file.specs.declared.TheConstants.{BLOCK_BITS};
 ghost use Rattle.capture_file.specs.Captures.{CanSay};
 ghost use Rattle.link_sink.specs.Pieces.{no_bits};
 ghost use Rattle.link_sink.specs.Received.{AreFedMore, CanFeedLanes};
@@ -106,7 +107,7 @@ fn read_block<F: Feeds, S: Source, E, K: BlockSink<E>>(
     ensures bits { reader.new.bits ≡ reader.old.bits }
     ensures open { OnOk result (K.is_open sink.new ≡ true) }
     ensures more { IfOk result (λ more. reader.new.is_open ≡ more) }
-    ensures below { IfOk result (λ more. more ≡ true → 32768 * reader.old.block < 2 ^ 32) }
+    ensures below { IfOk result (λ more. more ≡ true → BLOCK_BITS * reader.old.block < 2 ^ 32) }
     ensures block { IfOk result (λ more. more ≡ true → reader.new.block ≡ reader.old.block + 1) }
     ensures fed { IfOk result (λ more. more ≡ true → AreFed (K.bits sink.new) reader.old.bits (reader.old.block + 1)) }
     ensures heard { (from : Option (List ℕ)) (first : E) → HasHeard K.heard reader.old.version reader.old.bits reader.old.block from (S.left reader.old.source.now) sink.old first ear.old

@@ -41,10 +41,10 @@ unfoldable pub layout : ℕ → List Bool → List Bool → List Bool → List �
 layout version x y z = header_of version (counts_of x y z) ++ lane_blocks x y z
 
 -- bytes are the capture of three lanes, in a version that holds them: a header and every block, and nothing more
-pub record IsCaptureOf (x y z : List Bool) (bytes : List ℕ) : Type 0 where
+pub record IsCaptureOf (blue green red : List Bool) (bytes : List ℕ) : Type 0 where
   pub head : List ℕ
-  pub headed : IsHeader head (counts_of x y z)
-  pub bytes_are : bytes ≡ head ++ lane_blocks x y z
+  pub headed : IsHeader head (counts_of blue green red)
+  pub bytes_are : bytes ≡ head ++ lane_blocks blue green red
 
 pub record IsCapture (bytes : List ℕ) : Type 0 where
   pub blue : List Bool
@@ -90,13 +90,13 @@ block_size j counts = (bits_in j (slice_index counts 0) + 7) / 8 + (bits_in j (s
 
 -- what was taken from the beginning of a capture as far as its block j: the header, and the blocks below j, which have the
 -- first bits of each lane. The next place is the number of these bytes.
-pub record HasRead (counts : List ℕ) (j place : ℕ) (taken : List ℕ) (x y z : List Bool) : Type 0 where
+pub record HasRead (counts : List ℕ) (j place : ℕ) (taken : List ℕ) (blue green red : List Bool) : Type 0 where
   pub head : List ℕ
   pub headed : IsHeader head counts
-  pub count_blue : length x ≡ min (slice_index counts 0) (BLOCK_BITS * j)
-  pub count_green : length y ≡ min (slice_index counts 1) (BLOCK_BITS * j)
-  pub count_red : length z ≡ min (slice_index counts 2) (BLOCK_BITS * j)
-  pub taken_is : taken ≡ head ++ blocks_below j (packed x) (packed y) (packed z)
+  pub count_blue : length blue ≡ min (slice_index counts 0) (BLOCK_BITS * j)
+  pub count_green : length green ≡ min (slice_index counts 1) (BLOCK_BITS * j)
+  pub count_red : length red ≡ min (slice_index counts 2) (BLOCK_BITS * j)
+  pub taken_is : taken ≡ head ++ blocks_below j (packed blue) (packed green) (packed red)
   pub place_is : place ≡ length taken
 
 -- a place at which or after which these bytes end, but before the end of the next block, where there is one
@@ -126,7 +126,7 @@ IsHeaderPart bytes = IsHeadless bytes × BeginsCapture bytes
 -- less than block j was read, or nothing: with the header and the blocks below j, whatever these are, it begins a capture
 pub record IsBlockPart (counts : List ℕ) (j : ℕ) (part : List ℕ) : Type 0 where
   pub short : (length part < block_size j counts) ⊎ (part ≡ [])
-  pub begins : (place : ℕ) (taken : List ℕ) (x y z : List Bool) → HasRead counts j place taken x y z → BeginsCapture (taken ++ part)
+  pub begins : (place : ℕ) (taken : List ℕ) (blue green red : List Bool) → HasRead counts j place taken blue green red → BeginsCapture (taken ++ part)
 
 -- a fault of bytes that have no whole header
 abbrev pub IsEarlyFault : List ℕ → CaptureFault → Type 0

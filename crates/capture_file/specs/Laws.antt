@@ -15,7 +15,7 @@ pub record AreSame (x y z u v w : List Bool) : Type 0 where
 
 -- bytes are the capture of one triple of lanes at most
 abbrev pub OneCapture : Type 0
-OneCapture = (x y z u v w : List Bool) (bytes : List ℕ) → IsCaptureOf x y z bytes → IsCaptureOf u v w bytes → AreSame x y z u v w
+OneCapture = (blue green red u v w : List Bool) (bytes : List ℕ) → IsCaptureOf blue green red bytes → IsCaptureOf u v w bytes → AreSame blue green red u v w
 
 -- a capture has no fault
 abbrev pub NoFault : Type 0
@@ -26,19 +26,19 @@ abbrev pub OneFault : Type 0
 OneFault = (bytes : List ℕ) (f g : CaptureFault) → IsFault bytes f → IsFault bytes g → f ≡ g
 
 -- the header and the whole blocks of bytes before a place, and the bits that each lane has in them
-pub record IsReadBefore (bytes : List ℕ) (place : ℕ) (taken : List ℕ) (x y z : List Bool) : Type 0 where
+pub record IsReadBefore (bytes : List ℕ) (place : ℕ) (taken : List ℕ) (blue green red : List Bool) : Type 0 where
   pub rest : List ℕ
   pub counts : List ℕ
   pub block : ℕ
   pub bytes_are : bytes ≡ taken ++ rest
-  pub read : HasRead counts block (length taken) taken x y z
+  pub read : HasRead counts block (length taken) taken blue green red
   pub stops : StopsIn counts block taken place
 
 -- they are one list of bytes, and one triple of lanes
 abbrev pub OneReading : Type 0
 OneReading =
-    (bytes : List ℕ) (place : ℕ) (taken took : List ℕ) (x y z u v w : List Bool)
-    → IsReadBefore bytes place taken x y z → IsReadBefore bytes place took u v w → (taken ≡ took) × AreSame x y z u v w
+    (bytes : List ℕ) (place : ℕ) (taken took : List ℕ) (blue green red u v w : List Bool)
+    → IsReadBefore bytes place taken blue green red → IsReadBefore bytes place took u v w → (taken ≡ took) × AreSame blue green red u v w
 
 -- the bits that a tap takes of columns are a tap of them, where each lane begins within them
 abbrev pub TapIsTap : Type 0

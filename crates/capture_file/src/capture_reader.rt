@@ -104,7 +104,7 @@ impl<'a, S: Source> CaptureReader<'a, S> {
         ensures some { IfOk result (λ more. more ≡ true → 0 < block_size self.old.block self.old.bits) }
         ensures ok { IfOk result (λ more. more ≡ true → Consumes (S.left self.old.source.now) (S.left self.new.source.now) ((packed self.new.lanes.blue ++ packed self.new.lanes.green) ++ packed self.new.lanes.red)) }
         ensures none { IfOk result (λ more. more ≡ false → (block_size self.old.block self.old.bits ≡ 0) × Consumes (S.left self.old.source.now) (S.left self.new.source.now) [] × IsAtEnd (S.left self.new.source.now)) }
-        ensures err { (bytes taken : List ℕ) (x y z : List Bool) → S.left self.old.source.now ≡ Some bytes → Stands self.old.version self.old.bits self.old.block taken x y z
+        ensures err { (bytes taken : List ℕ) (blue green red : List Bool) → S.left self.old.source.now ≡ Some bytes → Stands self.old.version self.old.bits self.old.block taken blue green red
             → IfErr result (λ e. SaysOf (λ fault. IsFault (taken ++ bytes) fault × StopsIn self.old.bits self.old.block taken (place_of fault)) e) }
         ensures part { IfErr result (λ e. SaysRead ((part : List ℕ) × IsBlockPart self.old.bits self.old.block part × Consumes (S.left self.old.source.now) (S.left self.new.source.now) part) e) }
         ensures taken { (taken : List ℕ) × Consumes (S.left self.old.source.now) (S.left self.new.source.now) taken }
@@ -143,12 +143,12 @@ impl<'a, S: Source> CaptureReader<'a, S> {
             × (length block.green.now ≡ (slice_index block.bits 1 + 7) / 8)
             × (length block.red.now ≡ (slice_index block.bits 2 + 7) / 8))) }
         ensures some { IfOk result (λ o. IfSome o (λ block. 0 < block_size self.old.block self.old.bits)) }
-        ensures stands { (taken : List ℕ) (x y z : List Bool) → Stands self.old.version self.old.bits self.old.block taken x y z
+        ensures stands { (taken : List ℕ) (blue green red : List Bool) → Stands self.old.version self.old.bits self.old.block taken blue green red
             → IfOk result (λ o. IfSome o (λ block. Stands self.old.version self.old.bits (self.old.block + 1) (taken ++ ((block.blue.now ++ block.green.now) ++ block.red.now))
-            (x ++ take (slice_index block.bits 0) (bytes_bits block.blue.now)) (y ++ take (slice_index block.bits 1) (bytes_bits block.green.now)) (z ++ take (slice_index block.bits 2) (bytes_bits block.red.now)))) }
-        ensures whole { (taken : List ℕ) (x y z : List Bool) → Stands self.old.version self.old.bits self.old.block taken x y z
-            → IfOk result (λ o. IfNone o (IsCaptureOf x y z taken)) }
-        ensures err { (bytes taken : List ℕ) (x y z : List Bool) → S.left self.old.source.now ≡ Some bytes → Stands self.old.version self.old.bits self.old.block taken x y z
+            (blue ++ take (slice_index block.bits 0) (bytes_bits block.blue.now)) (green ++ take (slice_index block.bits 1) (bytes_bits block.green.now)) (red ++ take (slice_index block.bits 2) (bytes_bits block.red.now)))) }
+        ensures whole { (taken : List ℕ) (blue green red : List Bool) → Stands self.old.version self.old.bits self.old.block taken blue green red
+            → IfOk result (λ o. IfNone o (IsCaptureOf blue green red taken)) }
+        ensures err { (bytes taken : List ℕ) (blue green red : List Bool) → S.left self.old.source.now ≡ Some bytes → Stands self.old.version self.old.bits self.old.block taken blue green red
             → IfErr result (λ e. SaysOf (λ fault. IsFault (taken ++ bytes) fault × StopsIn self.old.bits self.old.block taken (place_of fault)) e) }
         ensures* after { sem 𝓛 (follows_so (the_row (record { mir = named 1; lft = [] }) S.row) (the_row (record { mir = named 1; lft = [] }) S.row) self.entry.ghost_name none (λ _ _. ⊤) (λ v.
             (v.source.ghost_name ≡ self.old.source.ghost_name) × (v.version ≡ self.old.version) × (v.bits ≡ self.old.bits)

@@ -196,7 +196,7 @@ impl Chunks {
         ensures green { OnOk result (length self.new.green ≡ bits_in j (slice_index bits 1)) }
         ensures red { OnOk result (length self.new.red ≡ bits_in j (slice_index bits 2)) }
         ensures ok { OnOk result (Consumes (S.left source.old) (S.left source.new) ((packed self.new.blue ++ packed self.new.green) ++ packed self.new.red)) }
-        ensures err { (bytes taken : List ℕ) (x y z : List Bool) → S.left source.old ≡ Some bytes → HasRead bits j place taken x y z → IfErr result (λ e. SaysOf (λ fault. IsFault (taken ++ bytes) fault) e) }
+        ensures err { (bytes taken : List ℕ) (blue green red : List Bool) → S.left source.old ≡ Some bytes → HasRead bits j place taken blue green red → IfErr result (λ e. SaysOf (λ fault. IsFault (taken ++ bytes) fault) e) }
         ensures within { IfErr result (λ e. SaysOf (λ fault. IsWithin place (block_size j bits) (place_of fault)) e) }
         ensures part { IfErr result (λ e. SaysRead ((part : List ℕ) × IsBlockPart bits j part × Consumes (S.left source.old) (S.left source.new) part) e) }
         ensures taken { (taken : List ℕ) × Consumes (S.left source.old) (S.left source.new) taken }

@@ -27,7 +27,7 @@ impl Chunks {
         ensures some { IfOk result (λ more. more ≡ true → 0 < block_size j heading.bits) }
         ensures ok { IfOk result (λ more. more ≡ true → Consumes (S.left source.old) (S.left source.new) ((packed self.new.blue ++ packed self.new.green) ++ packed self.new.red)) }
         ensures none { IfOk result (λ more. more ≡ false → (block_size j heading.bits ≡ 0) × Consumes (S.left source.old) (S.left source.new) [] × IsAtEnd (S.left source.new)) }
-        ensures err { (bytes taken : List ℕ) (x y z : List Bool) → S.left source.old ≡ Some bytes → Stands heading.version heading.bits j taken x y z
+        ensures err { (bytes taken : List ℕ) (blue green red : List Bool) → S.left source.old ≡ Some bytes → Stands heading.version heading.bits j taken blue green red
             → IfErr result (λ e. SaysOf (λ fault. IsFault (taken ++ bytes) fault × StopsIn heading.bits j taken (place_of fault)) e) }
         ensures part { IfErr result (λ e. SaysRead ((part : List ℕ) × IsBlockPart heading.bits j part × Consumes (S.left source.old) (S.left source.new) part) e) }
         ensures taken { (taken : List ℕ) × Consumes (S.left source.old) (S.left source.new) taken }

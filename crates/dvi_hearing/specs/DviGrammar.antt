@@ -1,5 +1,6 @@
 -- What is reported of columns without guard columns is a grammar: reported whatever follows, and of the sizes that an
 -- ear is promised.
+use Rattle.island_pack.specs.declared.ranges.TheConstants.{PIXEL_LIMIT}
 use Rattle.std.proofs.Common.{◌≡◌, ℕ, ◌+◌, List, [], ◌∷◌, ◌++◌, length, map, take, refl, ap, sym, ◌∙◌, arith, append_assoc, All}
 use Rattle.std.specs.Prelude.{nat_le}
 use Rattle.std.proofs.lemmas.List.{append-nil, map-append}
@@ -24,10 +25,10 @@ dvi_line_sized : (b n : ℕ) (c : Column) (cs : List Column) → Sized (dvi_line
 unfolding dvi_line
 dvi_line_sized b n c cs =
     let most = take_at_most 4095 cs in
-    let long = length-line_bytes (take 4096 (c ∷ cs)) in
+    let long = length-line_bytes (take PIXEL_LIMIT (c ∷ cs)) in
     sized_append _ _ (if_not_sized (nat_le 12 n) (short b) tt) (
-      (whole_pixels (take 4096 (c ∷ cs)), omega (arith, long), omega (arith, long, most), bytes_below (take 4096 (c ∷ cs))),
-      sized_append _ _ (codes_of_sized b (take 4096 (c ∷ cs))) (if_not_sized (nat_le (length (c ∷ cs)) 4096) (long_line b) tt),
+      (whole_pixels (take PIXEL_LIMIT (c ∷ cs)), omega (arith, long), omega (arith, long, most), bytes_below (take PIXEL_LIMIT (c ∷ cs))),
+      sized_append _ _ (codes_of_sized b (take PIXEL_LIMIT (c ∷ cs))) (if_not_sized (nat_le (length (c ∷ cs)) PIXEL_LIMIT) (long_line b) tt),
     )
 
 closing_sized : (b : ℕ) (control gap : List Column) → Sized (dvi_closing b control gap)

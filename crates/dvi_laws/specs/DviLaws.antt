@@ -54,9 +54,9 @@ pub record IsDviAccounted (ps : List Period) (sent received aligned : List Colum
 abbrev pub DviTapAccounted : Type 0
 DviTapAccounted =
     (ps : List Period) (sent received : List Column) → IsDviConforming ps → HasThree ps → DviSpells ps sent → IsDviSparse ps sent received
-    → (offset : ℕ) (skews counts : List ℕ) (x y z : List Bool) → IsTap received offset skews counts x y z → HasSmallSkew skews
-    → (d e f : ℕ) → IsFirst x y z d e f
-    → (a : ℕ) × IsDviAccounted ps sent received (aligned_columns x y z d e f) a × BeginColumn offset skews (a + 12) d e f
+    → (offset : ℕ) (skews counts : List ℕ) (blue green red : List Bool) → IsTap received offset skews counts blue green red → HasSmallSkew skews
+    → (d e f : ℕ) → IsFirst blue green red d e f
+    → (a : ℕ) × IsDviAccounted ps sent received (aligned_columns blue green red d e f) a × BeginColumn offset skews (a + 12) d e f
 
 -- Examples.
 
@@ -65,19 +65,19 @@ abbrev pub HasDviUnlike : Kind → List Period → List Column → List Column �
 HasDviUnlike kind ps sent received = (i : ℕ) × (kind_at (dvi_kinds ps) i ≡ kind) × (column_at received i ≡ column_at sent i → ⊥)
 
 -- damage of a first pixel and of another one, and a tap with the greatest skew that has a first full alignment
-pub record IsDviExample (ps : List Period) (sent received : List Column) (counts : List ℕ) (x y z : List Bool) (d e f : ℕ) : Type 0 where
+pub record IsDviExample (ps : List Period) (sent received : List Column) (counts : List ℕ) (blue green red : List Bool) (d e f : ℕ) : Type 0 where
   pub conforming : IsDviConforming ps
   pub three : HasThree ps
   pub spelled : DviSpells ps sent
   pub sparse : IsDviSparse ps sent received
   pub first_pixel : HasDviUnlike first_guard ps sent received
   pub pixel : HasDviUnlike pixel_column ps sent received
-  pub tapped : IsTap received 7 (0 ∷ 70 ∷ 35 ∷ []) counts x y z
+  pub tapped : IsTap received 7 (0 ∷ 70 ∷ 35 ∷ []) counts blue green red
   pub small : HasSmallSkew (0 ∷ 70 ∷ 35 ∷ [])
-  pub first : IsFirst x y z d e f
+  pub first : IsFirst blue green red d e f
 
 -- there are such a stream and such a tap
 abbrev pub HasDviExample : Type 0
 HasDviExample =
-    (ps : List Period) × (sent received : List Column) × (counts : List ℕ) × (x y z : List Bool) × (d e f : ℕ)
-    × IsDviExample ps sent received counts x y z d e f
+    (ps : List Period) × (sent received : List Column) × (counts : List ℕ) × (blue green red : List Bool) × (d e f : ℕ)
+    × IsDviExample ps sent received counts blue green red d e f

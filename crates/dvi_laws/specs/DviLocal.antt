@@ -91,11 +91,11 @@ pub record DviAlignsUntil (received : List Column) (offset : ℕ) (skews counts 
 abbrev pub DviAlignedWhateverFollows : Type 0
 DviAlignedWhateverFollows =
     (ps : List Period) (sent received : List Column) (f : ℕ) → DviReceivedUntil ps sent received f
-    → (offset : ℕ) (skews counts : List ℕ) (x y z : List Bool) → IsTap received offset skews counts x y z → HasSmallSkew skews
+    → (offset : ℕ) (skews counts : List ℕ) (blue green red : List Bool) → IsTap received offset skews counts blue green red → HasSmallSkew skews
     → (p q r : ℕ) → DviAlignsUntil received offset skews counts f p q r
-    → IsFirst x y z p q r
+    → IsFirst blue green red p q r
     × ((a : ℕ) × EndsAt (dvi_kinds ps) (a + 11) × (a + 12 ≤ f) × BeginColumn offset skews (a + 12) p q r
-    × (aligned_columns x y z p q r ≡ take (length (aligned_columns x y z p q r)) (drop a received)))
+    × (aligned_columns blue green red p q r ≡ take (length (aligned_columns blue green red p q r)) (drop a received)))
 
 -- column f is the first one after a control period, and each lane of a tap has its bits and those of the twelve columns before it
 pub record DviHoldsUntil (ps : List Period) (offset : ℕ) (skews counts : List ℕ) (f : ℕ) : Type 0 where
@@ -106,7 +106,7 @@ pub record DviHoldsUntil (ps : List Period) (offset : ℕ) (skews counts : List 
 abbrev pub DviFirstUntil : Type 0
 DviFirstUntil =
     (ps : List Period) (sent received : List Column) (f : ℕ) → DviReceivedUntil ps sent received f
-    → (offset : ℕ) (skews counts : List ℕ) (x y z : List Bool) → IsTap received offset skews counts x y z → HasSmallSkew skews
+    → (offset : ℕ) (skews counts : List ℕ) (blue green red : List Bool) → IsTap received offset skews counts blue green red → HasSmallSkew skews
     → DviHoldsUntil ps offset skews counts f
     → (p q r : ℕ) × DviAlignsUntil received offset skews counts f p q r
 
@@ -114,9 +114,9 @@ DviFirstUntil =
 
 -- a line that stands alone, and a column before it, after the alignment, of which no word was received as it was sent; and the
 -- columns of the tap go on past that line, wherever in them the first full alignment is
-pub record IsDviLocalExample (front : List Period) (bytes : List ℕ) (back : List Period) (sent received : List Column) (counts : List ℕ) (until : ℕ) (x y z : List Bool) : Type 0 where
+pub record IsDviLocalExample (front : List Period) (bytes : List ℕ) (back : List Period) (sent received : List Column) (counts : List ℕ) (until : ℕ) (blue green red : List Bool) : Type 0 where
   pub reception : DviReceivedUntil (front ++ (video bytes ∷ back)) sent received until
-  pub tapped : IsTap received 7 (0 ∷ 70 ∷ 35 ∷ []) counts x y z
+  pub tapped : IsTap received 7 (0 ∷ 70 ∷ 35 ∷ []) counts blue green red
   pub small : HasSmallSkew (0 ∷ 70 ∷ 35 ∷ [])
   pub holds : DviHoldsUntil (front ++ (video bytes ∷ back)) 7 (0 ∷ 70 ∷ 35 ∷ []) counts until
   pub aligns : (d e f : ℕ) × DviAlignsUntil received 7 (0 ∷ 70 ∷ 35 ∷ []) counts until d e f
@@ -126,10 +126,10 @@ pub record IsDviLocalExample (front : List Period) (bytes : List ℕ) (back : Li
   pub later : until ≤ dvi_columns_of front
   pub within :
       (a d e f : ℕ) → BeginColumn 7 (0 ∷ 70 ∷ 35 ∷ []) (a + 12) d e f
-      → dvi_columns_of front + dvi_columns (video bytes) < a + length (aligned_columns x y z d e f)
+      → dvi_columns_of front + dvi_columns (video bytes) < a + length (aligned_columns blue green red d e f)
 
 -- there is such a stream and such a tap
 abbrev pub HasDviLocalExample : Type 0
 HasDviLocalExample =
-    (front : List Period) × (bytes : List ℕ) × (back : List Period) × (sent received : List Column) × (counts : List ℕ) × (until : ℕ) × (x y z : List Bool)
-    × IsDviLocalExample front bytes back sent received counts until x y z
+    (front : List Period) × (bytes : List ℕ) × (back : List Period) × (sent received : List Column) × (counts : List ℕ) × (until : ℕ) × (blue green red : List Bool)
+    × IsDviLocalExample front bytes back sent received counts until blue green red

@@ -11,8 +11,8 @@ mod taking;
 pub use laying::lay;
 pub use packet::{Packet, PacketRef, PacketVerdicts};
 pub use ranges::{
-    COLUMN_LIMIT, ISLAND_CTL, VIDEO_CTL, are_sync_values, has_room, is_control_in_range,
-    is_island_in_range, is_line_in_range, is_packet_in_range, is_run_in_range,
+    COLUMN_LIMIT, ISLAND_CTL, PIXEL_LIMIT, VIDEO_CTL, are_sync_values, has_room,
+    is_control_in_range, is_island_in_range, is_line_in_range, is_packet_in_range, is_run_in_range,
 };
 pub use taking::take;
 

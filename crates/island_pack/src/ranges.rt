@@ -17,6 +17,10 @@ pub const ISLAND_CTL: u8 = 5;
 /// until it is written; so it takes 25,000,000 bytes a lane, and each of its counts fits 32 bits.
 pub const COLUMN_LIMIT: u32 = 20_000_000;
 
+/// How many pixels a line may have: a limit of this project's own, above every video format's (CTA-861 has 4,096 at most). So the
+/// bytes of a line are held in one piece, and a pixel's number fits 16 bits.
+pub const PIXEL_LIMIT: u32 = 4_096;
+
 /// Whether control columns may have this value, and so many columns one value after another: a value below 64 in 1 to
 /// `COLUMN_LIMIT` columns.
 pub fn is_run_in_range(value: u8, count: u64) -> bool
@@ -32,11 +36,11 @@ pub fn is_control_in_range(columns: u32) -> bool
     columns >= RUN
 }
 
-/// Whether a video data period may have so many pixels: 1 to 4,096.
+/// Whether a video data period may have so many pixels: 1 to `PIXEL_LIMIT`.
 pub fn is_line_in_range(pixels: usize) -> bool
     ensures { result ≡ is_line_in_range pixels }
 {
-    pixels >= 1 && pixels <= 4096
+    pixels >= 1 && pixels <= PIXEL_LIMIT as usize
 }
 
 /// Whether the sync values of two guard columns, HSYNC plus twice VSYNC, are below 4.

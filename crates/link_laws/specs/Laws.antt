@@ -88,8 +88,8 @@ EdgesEnd =
 abbrev pub FirstEnds : Type 0
 FirstEnds =
     (ps : List Period) (sent received : List Column) → ReceivedFreely ps sent received → IsSparseInPayload ps sent received
-    → (offset : ℕ) (skews counts : List ℕ) (x y z : List Bool) → IsTap received offset skews counts x y z → HasSmallSkew skews
-    → (d e f : ℕ) → IsFirst x y z d e f → (i : ℕ) × EndsControl ps i × BeginColumn offset skews (i + 1) d e f
+    → (offset : ℕ) (skews counts : List ℕ) (blue green red : List Bool) → IsTap received offset skews counts blue green red → HasSmallSkew skews
+    → (d e f : ℕ) → IsFirst blue green red d e f → (i : ℕ) × EndsControl ps i × BeginColumn offset skews (i + 1) d e f
 
 -- each lane of a tap has the bits of column i and of the twelve columns before it
 pub record HoldsEnd (offset : ℕ) (skews counts : List ℕ) (i : ℕ) : Type 0 where
@@ -107,9 +107,9 @@ pub record AlignsUntil (ps : List Period) (sent received : List Column) (offset 
 abbrev pub FirstUntil : Type 0
 FirstUntil =
     (ps : List Period) (sent received : List Column) → ReceivedFreely ps sent received
-    → (offset : ℕ) (skews counts : List ℕ) (x y z : List Bool) → IsTap received offset skews counts x y z → HasSmallSkew skews
+    → (offset : ℕ) (skews counts : List ℕ) (blue green red : List Bool) → IsTap received offset skews counts blue green red → HasSmallSkew skews
     → (until : ℕ) → AlignsUntil ps sent received offset skews counts until
-    → (d e f : ℕ) × IsFirst x y z d e f × ((i : ℕ) × EndsControl ps i × (i + 1 ≤ until) × BeginColumn offset skews (i + 1) d e f)
+    → (d e f : ℕ) × IsFirst blue green red d e f × ((i : ℕ) × EndsControl ps i × (i + 1 ≤ until) × BeginColumn offset skews (i + 1) d e f)
 
 -- From the bits to the account.
 
@@ -123,18 +123,18 @@ pub record IsAccounted (ps : List Period) (sent received : List Column) (aligned
 abbrev pub TapAccounted : Type 0
 TapAccounted =
     (ps : List Period) (sent received : List Column) → ReceivedFreely ps sent received
-    → (offset : ℕ) (skews counts : List ℕ) (x y z : List Bool) → IsTap received offset skews counts x y z → HasSmallSkew skews
+    → (offset : ℕ) (skews counts : List ℕ) (blue green red : List Bool) → IsTap received offset skews counts blue green red → HasSmallSkew skews
     → (until : ℕ) → AlignsUntil ps sent received offset skews counts until
-    → (d e f : ℕ) × IsFirst x y z d e f
-    × ((a : ℕ) × (a + 12 ≤ until) × IsAccounted ps sent received (aligned_columns x y z d e f) a × BeginColumn offset skews (a + 12) d e f)
+    → (d e f : ℕ) × IsFirst blue green red d e f
+    × ((a : ℕ) × (a + 12 ≤ until) × IsAccounted ps sent received (aligned_columns blue green red d e f) a × BeginColumn offset skews (a + 12) d e f)
 
 -- where damage lies in pixels and packets alone, and there is a first full alignment
 abbrev pub PayloadAccounted : Type 0
 PayloadAccounted =
     (ps : List Period) (sent received : List Column) → ReceivedFreely ps sent received → IsSparseInPayload ps sent received
-    → (offset : ℕ) (skews counts : List ℕ) (x y z : List Bool) → IsTap received offset skews counts x y z → HasSmallSkew skews
-    → (d e f : ℕ) → IsFirst x y z d e f
-    → (a : ℕ) × IsAccounted ps sent received (aligned_columns x y z d e f) a × BeginColumn offset skews (a + 12) d e f
+    → (offset : ℕ) (skews counts : List ℕ) (blue green red : List Bool) → IsTap received offset skews counts blue green red → HasSmallSkew skews
+    → (d e f : ℕ) → IsFirst blue green red d e f
+    → (a : ℕ) × IsAccounted ps sent received (aligned_columns blue green red d e f) a × BeginColumn offset skews (a + 12) d e f
 
 -- Packets.
 
@@ -159,9 +159,9 @@ abbrev pub HasUnlike : Kind → List Period → List Column → List Column → 
 HasUnlike kind ps sent received = (i : ℕ) × (kind_at (kinds_of ps) i ≡ kind) × (column_at received i ≡ column_at sent i → ⊥)
 
 -- a tap of columns that has a first full alignment
-pub record IsAligned (received : List Column) (counts : List ℕ) (x y z : List Bool) (d e f : ℕ) : Type 0 where
-  pub tapped : IsTap received 7 (0 ∷ 70 ∷ 35 ∷ []) counts x y z
-  pub first : IsFirst x y z d e f
+pub record IsAligned (received : List Column) (counts : List ℕ) (blue green red : List Bool) (d e f : ℕ) : Type 0 where
+  pub tapped : IsTap received 7 (0 ∷ 70 ∷ 35 ∷ []) counts blue green red
+  pub first : IsFirst blue green red d e f
 
 -- damage of a pixel and of a packet alone
 pub record IsPayloadExample (ps : List Period) (sent received : List Column) : Type 0 where
@@ -184,10 +184,10 @@ pub record IsExample (ps : List Period) (sent received : List Column) (counts : 
 -- there is such damage of both sorts, and there are such taps
 abbrev pub HasPayloadExample : Type 0
 HasPayloadExample =
-    (ps : List Period) × (sent received : List Column) × (counts : List ℕ) × (x y z : List Bool) × (d e f : ℕ)
-    × IsPayloadExample ps sent received × IsAligned received counts x y z d e f
+    (ps : List Period) × (sent received : List Column) × (counts : List ℕ) × (blue green red : List Bool) × (d e f : ℕ)
+    × IsPayloadExample ps sent received × IsAligned received counts blue green red d e f
 
 abbrev pub HasExample : Type 0
 HasExample =
-    (ps : List Period) × (sent received : List Column) × (counts : List ℕ) × (until : ℕ) × (x y z : List Bool) × (d e f : ℕ)
-    × IsExample ps sent received counts until × IsAligned received counts x y z d e f
+    (ps : List Period) × (sent received : List Column) × (counts : List ℕ) × (until : ℕ) × (blue green red : List Bool) × (d e f : ℕ)
+    × IsExample ps sent received counts until × IsAligned received counts blue green red d e f

@@ -126,25 +126,25 @@ pub record ReceivedUntil (ps : List Period) (sent received : List Column) (f : �
 abbrev pub AlignedWhateverFollows : Type 0
 AlignedWhateverFollows =
     (ps : List Period) (sent received : List Column) (f : ℕ) → ReceivedUntil ps sent received f
-    → (offset : ℕ) (skews counts : List ℕ) (x y z : List Bool) → IsTap received offset skews counts x y z → HasSmallSkew skews
+    → (offset : ℕ) (skews counts : List ℕ) (blue green red : List Bool) → IsTap received offset skews counts blue green red → HasSmallSkew skews
     → AlignsUntil ps sent received offset skews counts f
-    → (p q r : ℕ) × IsFirst x y z p q r
+    → (p q r : ℕ) × IsFirst blue green red p q r
     × ((a : ℕ) × EndsControl ps (a + 11) × (a + 12 ≤ f) × BeginColumn offset skews (a + 12) p q r
-    × (aligned_columns x y z p q r ≡ take (length (aligned_columns x y z p q r)) (drop a received)))
+    × (aligned_columns blue green red p q r ≡ take (length (aligned_columns blue green red p q r)) (drop a received)))
 
 -- Examples.
 
 -- periods of which one stands alone, and a column before it, after the alignment, of which no word was received as it was
 -- sent; and the columns of the tap go on past that period, wherever in them the first full alignment is
-pub record IsLocalExample (front : List Period) (p : Period) (back : List Period) (sent received : List Column) (counts : List ℕ) (until : ℕ) (x y z : List Bool) : Type 0 where
+pub record IsLocalExample (front : List Period) (p : Period) (back : List Period) (sent received : List Column) (counts : List ℕ) (until : ℕ) (blue green red : List Bool) : Type 0 where
   pub reception : ReceivedUntil (front ++ (p ∷ back)) sent received until
-  pub tapped : IsTap received 7 (0 ∷ 70 ∷ 35 ∷ []) counts x y z
+  pub tapped : IsTap received 7 (0 ∷ 70 ∷ 35 ∷ []) counts blue green red
   pub aligns : AlignsUntil (front ++ (p ∷ back)) sent received 7 (0 ∷ 70 ∷ 35 ∷ []) counts until
   pub damaged : (i : ℕ) × (until < i) × (i < columns_of front) × (unlike_at sent received i ≡ 3)
   pub between : is_between p ≡ true
   pub alone : StandsAlone received p sent (columns_of front)
   pub later : until ≤ columns_of front
-  pub within : (a d e f : ℕ) → BeginColumn 7 (0 ∷ 70 ∷ 35 ∷ []) (a + 12) d e f → columns_of front + period_columns p < a + length (aligned_columns x y z d e f)
+  pub within : (a d e f : ℕ) → BeginColumn 7 (0 ∷ 70 ∷ 35 ∷ []) (a + 12) d e f → columns_of front + period_columns p < a + length (aligned_columns blue green red d e f)
 
 -- a packet that stands, and is not the first of its island; a control column comes after it, so that the island is broken off
 pub record IsPacketExample (received : List Column) (j k a m : ℕ) : Type 0 where
@@ -160,5 +160,5 @@ HasPacketExample = (received : List Column) × (j k a m : ℕ) × IsPacketExampl
 
 abbrev pub HasLocalExample : Type 0
 HasLocalExample =
-    (front : List Period) × (p : Period) × (back : List Period) × (sent received : List Column) × (counts : List ℕ) × (until : ℕ) × (x y z : List Bool)
-    × IsLocalExample front p back sent received counts until x y z
+    (front : List Period) × (p : Period) × (back : List Period) × (sent received : List Column) × (counts : List ℕ) × (until : ℕ) × (blue green red : List Bool)
+    × IsLocalExample front p back sent received counts until blue green red

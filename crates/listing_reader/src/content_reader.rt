@@ -18,7 +18,7 @@ use crate::content_form::{ContentForm, read_content_form};
 use crate::pixels::decode_row;
 use crate::teller::{Refusal, Taken, Teller};
 use audio_packets::{Sample, write_samples};
-use island_pack::Packet;
+use island_pack::{PIXEL_LIMIT, Packet};
 use outside_io::NoMemory;
 use source_end::{Content, Mode, RasterFault, mode_fault, next_fault};
 use std::alloc::Global;
@@ -485,9 +485,9 @@ fn is_raster_mode(mode: &Mode) -> bool
 
 /// Whether a number of a mode is in its range.
 fn is_in_range(least: u16, number: u16) -> bool
-    ensures { result ≡ (nat_le least number && nat_le number 4096) }
+    ensures { result ≡ (nat_le least number && nat_le number PIXEL_LIMIT) }
 {
-    number >= least && number <= 4096
+    number >= least && u32::from(number) <= PIXEL_LIMIT
 }
 
 /// Whether a row fits the mode after so many rows. In a mode without a raster any row does.

@@ -1,4 +1,5 @@
 -- How far a capture was read into a receiver, and what was listed and told of it.
+use Rattle.capture_file.specs.declared.TheConstants.{BLOCK_BITS}
 use Rattle.std.specs.Prelude.{◌≡◌, ◌<◌, ◌*◌, ⊤, [], ℕ, max, min, List, ◌++◌, Option, Some, map, slice_index}
 use Rattle.std.specs.Io.KnownBytes.{Consumes, Appends}
 use Rattle.tmds_word.specs.Column.{Column}
@@ -20,9 +21,9 @@ most_of bits = max (bits 0) (max (bits 1) (bits 2))
 
 -- lanes have the bits of the blocks below j
 pub record AreFed (bits : ℕ → ℕ) (counts : List ℕ) (j : ℕ) : Type 0 where
-  pub blue : bits 0 ≡ min (slice_index counts 0) (32768 * j)
-  pub green : bits 1 ≡ min (slice_index counts 1) (32768 * j)
-  pub red : bits 2 ≡ min (slice_index counts 2) (32768 * j)
+  pub blue : bits 0 ≡ min (slice_index counts 0) (BLOCK_BITS * j)
+  pub green : bits 1 ≡ min (slice_index counts 1) (BLOCK_BITS * j)
+  pub red : bits 2 ≡ min (slice_index counts 2) (BLOCK_BITS * j)
 
 -- what the output holds, how many fault lines were counted, and what was told
 pub record Said (T : Type 0) : Type 0 where

@@ -1,6 +1,7 @@
 //! Reads a capture block by block into a receiver: what each block decides is listed and told.
 ghost use Rattle.std.specs.Prelude.{◌≡◌, ◌≤◌, ◌+◌, ◌*◌, ◌^◌, ◌<◌, ◌⊎◌, ℕ, List, true, false, Option, Some, IfOk, OnOk};
 ghost use Rattle.std.specs.Io.KnownBytes.{Consumes, IsAtEnd};
+ghost use Rattle.capture_file.specs.declared.TheConstants.{BLOCK_BITS};
 ghost use Rattle.capture_file.specs.Captures.{CanSay};
 ghost use Rattle.link_sink.specs.Pieces.{no_bits};
 ghost use Rattle.link_sink.specs.Received.{AreFedMore, CanFeedLanes};
@@ -83,7 +84,7 @@ fn read_block<H: Hears, S: Source, K: Sink, T: Teller>(
     ensures open { OnOk result (receiver.new.is_open ≡ true) }
     ensures stands { OnOk result ((fed : Fed) × StandsBy H.goes_on receiver.new fed) }
     ensures more { IfOk result (λ more. reader.new.is_open ≡ more) }
-    ensures below { IfOk result (λ more. more ≡ true → 32768 * reader.old.block < 2 ^ 32) }
+    ensures below { IfOk result (λ more. more ≡ true → BLOCK_BITS * reader.old.block < 2 ^ 32) }
     ensures block { IfOk result (λ more. more ≡ true → reader.new.block ≡ reader.old.block + 1) }
     ensures fed { IfOk result (λ more. more ≡ true → AreFed (bits_fed receiver.new) reader.old.bits (reader.old.block + 1)) }
     ensures same_sink { ear.new.lister.sink.ghost_name ≡ ear.old.lister.sink.ghost_name }

@@ -1,6 +1,7 @@
 -- What is reported of a list of columns: control periods (HDMI 1.4, sections 5.1.2 and 5.2.1), their preambles
 -- (5.2.1.1), video periods (5.2.2) and data islands (5.2.3). What is reported of columns that are not right is this
 -- project's own.
+use Rattle.island_pack.specs.declared.ranges.TheConstants.{PIXEL_LIMIT}
 use Rattle.std.specs.Prelude.{ℕ, ◌+◌, Bool, true, false, List, [], ◌∷◌, ◌++◌, map, length, take, Option, Some, None, nat_le}
 use Rattle.tmds_word.specs.Column.{Column}
 use Rattle.terc4.specs.Tables.{is_control}
@@ -102,7 +103,7 @@ codes_of s pixels = code_fault 0 s (first_uncoded (map (λ c. c.blue) pixels)) +
 
 -- the pixels of a period that begins at column b, from column s on
 abbrev pub line_at : ℕ → ℕ → List Column → List Event
-line_at b s pixels = line (line_bytes (take 4096 pixels)) ∷ (codes_of s (take 4096 pixels) ++ if_not (nat_le (length pixels) 4096) (long_line b))
+line_at b s pixels = line (line_bytes (take PIXEL_LIMIT pixels)) ∷ (codes_of s (take PIXEL_LIMIT pixels) ++ if_not (nat_le (length pixels) PIXEL_LIMIT) (long_line b))
 
 unfoldable pub line_of : ℕ → List Column → List Event
 line_of b [] = empty b ∷ []

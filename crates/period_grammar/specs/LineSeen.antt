@@ -1,4 +1,5 @@
 -- What contracts see of a line.
+use Rattle.island_pack.specs.declared.ranges.TheConstants.{PIXEL_LIMIT}
 use Rattle.std.specs.Prelude.{◌≡◌, ℕ, ◌*◌, min, List, length, ◌<◌, Some}
 use Rattle.period_grammar.specs.declared.lane.Lane.{Lane}
 
@@ -15,7 +16,7 @@ pub record IsSized (lane : Lane) (n : ℕ) : Type 0 where
   pub first : (i : ℕ) → lane.first ≡ Some i → i < n
 
 pub record IsInRange (line : LineSeen) : Type 0 where
-  pub bytes : length line.bytes ≡ 3 * min line.count 4096
-  pub blue : IsSized line.blue (min line.count 4096)
-  pub green : IsSized line.green (min line.count 4096)
-  pub red : IsSized line.red (min line.count 4096)
+  pub bytes : length line.bytes ≡ 3 * min line.count PIXEL_LIMIT
+  pub blue : IsSized line.blue (min line.count PIXEL_LIMIT)
+  pub green : IsSized line.green (min line.count PIXEL_LIMIT)
+  pub red : IsSized line.red (min line.count PIXEL_LIMIT)

@@ -2,6 +2,7 @@
 ghost use Rattle.std.specs.Prelude.{◌≡◌, ◌<◌, ◌≤◌, ◌+◌, ◌++◌, ◌∷◌, [], All, List, ℕ, ℤ, Some, length};
 ghost use Rattle.tmds_code.specs.Coding.{decoded_byte};
 ghost use Rattle.tmds_code.specs.Balances.{disparity_at, followed_all};
+ghost use Rattle.island_pack.specs.declared.ranges.TheConstants.{PIXEL_LIMIT};
 ghost use Rattle.period_grammar.specs.Judged.{IsLaneAfter};
 ghost use Rattle.period_grammar.specs.LineSeen.{IsSized};
 
@@ -29,7 +30,7 @@ impl Lane {
 
     /// Hears the word of a pixel, and gives its byte.
     pub fn hear(&mut self, pixel: u32, word: Word) -> u8
-        requires few { pixel < 4096 }
+        requires few { pixel < PIXEL_LIMIT }
         requires sized { IsSized self.old pixel }
         ensures byte { result ≡ decoded_byte word }
         ensures sized { IsSized self.new (pixel + 1) }
@@ -44,7 +45,7 @@ impl Lane {
 
     /// Hears the words from a pixel on at once, which were followed to a balance.
     pub fn hear_followed(&mut self, pixel: u32, words: &[u16], balance: Balance)
-        requires few { pixel + length words.now ≤ 4096 }
+        requires few { pixel + length words.now ≤ PIXEL_LIMIT }
         requires sized { IsSized self.old pixel }
         requires words { All (λ w. w < 1024) words.now }
         requires followed { (d : ℤ) → disparity_at balance ≡ Some d → followed_all (Some self.old.judge.disparity) words.now ≡ Some d }
@@ -60,7 +61,7 @@ impl Lane {
 
     /// Hears the words from a pixel on, one by one.
     fn hear_each(&mut self, pixel: u32, words: &[u16])
-        requires few { pixel + length words.now ≤ 4096 }
+        requires few { pixel + length words.now ≤ PIXEL_LIMIT }
         requires sized { IsSized self.old pixel }
         requires words { All (λ w. w < 1024) words.now }
         ensures sized { IsSized self.new (pixel + length words.now) }

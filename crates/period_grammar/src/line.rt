@@ -15,6 +15,7 @@ use crate::event_queue::{EventQueue, QueuedEvent};
 use crate::followed::{Balances, GROUP};
 use crate::held::Bytes;
 use crate::lane::Lane;
+use island_pack::PIXEL_LIMIT;
 use std::marker::Model;
 use terc4::is_control_column;
 use tmds_word::{Columns, MOST_COLUMNS, Word};
@@ -70,7 +71,7 @@ impl Line {
         ensures count { self.new.count ≡ self.old.count + 1 }
         ensures heard { (pixels : List Column) → IsLineAfter self.old pixels → IsLineAfter self.new (pixels ++ column_of column.now ∷ []) }
     {
-        if self.count >= 4096 {
+        if self.count >= u64::from(PIXEL_LIMIT) {
             self.count += 1;
             return;
         }
@@ -116,10 +117,10 @@ impl Line {
             green: self.green.judge.balance(),
             red: self.red.judge.balance(),
         };
-        if pixel >= 4096 || !from.are_enough() {
+        if pixel >= u64::from(PIXEL_LIMIT) || !from.are_enough() {
             return 0;
         }
-        let fits = columns.len().min(4096 - pixel as usize);
+        let fits = columns.len().min(PIXEL_LIMIT as usize - pixel as usize);
         let (n, balances) = self.bytes.push_groups(columns.first(fits), &from);
         let heard = columns.first(n);
         let first = pixel as u32;
@@ -174,7 +175,7 @@ impl Line {
         tell_code(0, from, self.blue.first, notes);
         tell_code(1, from, self.green.first, notes);
         tell_code(2, from, self.red.first, notes);
-        if self.count > 4096 {
+        if self.count > u64::from(PIXEL_LIMIT) {
             notes.push(QueuedEvent::Fault(Fault::LongLine { column: start }));
         }
     }

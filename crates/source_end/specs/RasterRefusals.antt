@@ -1,4 +1,5 @@
 -- Why there is no raster: the first cause, over the whole content, decides.
+use Rattle.island_pack.specs.declared.ranges.TheConstants.{PIXEL_LIMIT}
 use Rattle.std.specs.Prelude.{◌≡◌, Result, Ok, Err, ℕ, suc, zero, ◌+◌, ◌*◌, Bool, ◌==◌, ◌&&◌, cond, List, [], ◌∷◌, length, nat_le, Option, Some, None}
 use Rattle.island_pack.specs.Ranges.{has_room}
 use Rattle.source_end.specs.declared.mode.Mode.{Mode}
@@ -12,9 +13,9 @@ abbrev pub or_else : Option RasterFault → Option RasterFault → Option Raster
 or_else (Some fault) other = Some fault
 or_else None other = other
 
--- each number is 1 to 4096, but the back porch across is at least 14
+-- each number is 1 to 4,096 (`PIXEL_LIMIT`), but the back porch across is at least 14
 abbrev pub is_in_range : ℕ → ℕ → Bool
-is_in_range i n = nat_le (cond (i == 3) 14 1) n && nat_le n 4096
+is_in_range i n = nat_le (cond (i == 3) 14 1) n && nat_le n PIXEL_LIMIT
 
 abbrev pub numbers_of : Mode → List ℕ
 numbers_of mode =

@@ -9,7 +9,7 @@ use crate::content::FrameContent;
 use crate::mode::{active, back, front, sync, total};
 use crate::rows::Rows;
 use crate::{Content, Mode};
-use island_pack::COLUMN_LIMIT;
+use island_pack::{COLUMN_LIMIT, PIXEL_LIMIT};
 use outside_io::NoMemory;
 use thiserror::Error;
 
@@ -104,7 +104,7 @@ fn is_in_range(i: u8, number: u16) -> bool
     ensures { result ≡ is_in_range i number }
 {
     let least = if i == 3 { 14 } else { 1 };
-    least <= number && number <= 4096
+    least <= number && u32::from(number) <= PIXEL_LIMIT
 }
 
 /// The first row that is missing, is one too many, or has not the mode's width.

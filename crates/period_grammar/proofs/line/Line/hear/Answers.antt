@@ -8,10 +8,10 @@ use Rattle.period_grammar.specs.Judged.{IsLaneAfter}
 use Rattle.period_grammar.proofs.Lined.{line_past, line_push}
 use Rattle.period_grammar.proofs.line.Line.hear.Goals as goal
 
-pub returns-then-self-ge4096-clause-heard : goal.returns-then-self-ge4096-clause-heard
-returns-then-self-ge4096-clause-heard c pixels was =
+pub returns-then-self-from-clause-heard : goal.returns-then-self-from-clause-heard
+returns-then-self-from-clause-heard c pixels was =
     line_past _ _ pixels (column_of c.args.column.now) (subst (λ (l : LineSeen). IsLineAfter l pixels) (sym c.self.view_is) was)
-    c.if-self-ge4096.true refl refl refl refl refl
+    (omega (arith, c.if-self-from.true, c.from.ensures)) refl refl refl refl refl
 
 three : (a b c x y z : ℕ) (xs ys : List ℕ) → ys ≡ xs ++ (a ∷ (b ∷ (c ∷ []))) → a ≡ x → b ≡ y → c ≡ z → ys ≡ xs ++ (x ∷ (y ∷ (z ∷ [])))
 three a b c x y z xs ys e p q r = cc
@@ -22,7 +22,7 @@ returns-clause-heard c pixels was =
     let g = c.green.ensures in
     let r = c.red.ensures in
     line_push _ _ pixels (column_of c.args.column.now) (subst (λ (l : LineSeen). IsLineAfter l pixels) (sym c.self.view_is) was)
-    c.if-self-ge4096.false refl
+    (omega (arith, c.if-self-from.false, c.from.ensures)) refl
     (three _ _ _ _ _ _ _ _ c.push_three.ensures (c.hear-red.ensures.byte ∙ ap decoded_byte r) (c.hear-green.ensures.byte ∙ ap decoded_byte g) (c.hear-blue.ensures.byte ∙ ap decoded_byte b))
     (λ ws h. subst (λ (w : ℕ). IsLaneAfter c.hear-blue.new.self (ws ++ w ∷ [])) b (c.hear-blue.ensures.heard ws h))
     (λ ws h. subst (λ (w : ℕ). IsLaneAfter c.hear-green.new.self (ws ++ w ∷ [])) g (c.hear-green.ensures.heard ws h))

@@ -32,7 +32,7 @@ hear_followed-requires-2-clause-followed c d f =
 
 pub hear_followed-requires-2-clause-sized : goal.hear_followed-requires-2-clause-sized
 hear_followed-requires-2-clause-sized c =
-    let same : min c.self.inside.count 4096 ≡ c.self.inside.count = omega (arith, c.if-pixel-ge4096.false) in
+    let same : min c.self.inside.count 4096 ≡ c.self.inside.count = omega (arith, c.if-pixel-from.false) in
     subst (λ (m : ℕ). IsSized c.self.inside.green m) same c.self.invariant.green
 
 pub hear_followed-requires-3-clause-followed : goal.hear_followed-requires-3-clause-followed
@@ -46,7 +46,7 @@ hear_followed-requires-3-clause-followed c d f =
 
 pub hear_followed-requires-3-clause-sized : goal.hear_followed-requires-3-clause-sized
 hear_followed-requires-3-clause-sized c =
-    let same : min c.self.inside.count 4096 ≡ c.self.inside.count = omega (arith, c.if-pixel-ge4096.false) in
+    let same : min c.self.inside.count 4096 ≡ c.self.inside.count = omega (arith, c.if-pixel-from.false) in
     subst (λ (m : ℕ). IsSized c.self.inside.red m) same c.self.invariant.red
 
 pub invariant_of-self : goal.invariant_of-self
@@ -59,8 +59,8 @@ invariant_of-self c =
     let heard = columns_in c.first-heard.result in
     let long : length heard ≡ n = ap (λ (cs : List Column). length cs) c.first-heard.ensures ∙ length-take-le n cols (omega (arith, le, c.min-fits.ensures)) in
     let put : c.push_groups-n.new.self ≡ c.self.inside.bytes ++ line_bytes heard = c.push_groups-n.ensures.put ∙ ap (λ (cs : List Column). c.self.inside.bytes ++ line_bytes cs) (same ∙ sym c.first-heard.ensures) in
-    let sum : c.self.inside.count + n ≡ min (c.self.inside.count + n) 4096 = omega (arith, le, c.min-fits.ensures, c.if-pixel-ge4096.false) in
-    let count : min c.self.inside.count 4096 ≡ c.self.inside.count = omega (arith, c.if-pixel-ge4096.false) in
+    let sum : c.self.inside.count + n ≡ min (c.self.inside.count + n) 4096 = omega (arith, le, c.min-fits.ensures, c.if-pixel-from.false) in
+    let count : min c.self.inside.count 4096 ≡ c.self.inside.count = omega (arith, c.if-pixel-from.false) in
     let blue : length c.blue.result.now ≡ n = ap (λ (xs : List ℕ). length xs) c.blue.ensures.lane ∙ length-map heard (λ (d : Column). d.blue) ∙ long in
     let green : length c.green.result.now ≡ n = ap (λ (xs : List ℕ). length xs) c.green.ensures.lane ∙ length-map heard (λ (d : Column). d.green) ∙ long in
     let red : length c.red.result.now ≡ n = ap (λ (xs : List ℕ). length xs) c.red.ensures.lane ∙ length-map heard (λ (d : Column). d.red) ∙ long in
@@ -91,7 +91,7 @@ returns c =
       heard = λ pixels was.
           subst (λ (cs : List Column). IsLineAfter now (pixels ++ cs)) c.first-heard.ensures
           (line_append old now pixels heard _ _ _ (subst (λ (l : LineSeen). IsLineAfter l pixels) (sym c.self.view_is) was)
-          (omega (arith, long, le, c.min-fits.ensures, c.if-pixel-ge4096.false)) (omega (arith, long)) put (sym c.blue.ensures.lane) (sym c.green.ensures.lane) (sym c.red.ensures.lane)
+          (omega (arith, long, le, c.min-fits.ensures, c.if-pixel-from.false)) (omega (arith, long)) put (sym c.blue.ensures.lane) (sym c.green.ensures.lane) (sym c.red.ensures.lane)
           c.hear_followed.ensures.heard c.hear_followed-2.ensures.heard c.hear_followed-3.ensures.heard);
     }
 
