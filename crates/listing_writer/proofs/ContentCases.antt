@@ -1,6 +1,6 @@
 -- Cases of what packets are read as.
-use Rattle.std.proofs.Common.{◌≡◌, ℕ, ◌<◌, Bool, false, List, Option, ◌∙◌, ap, sym, subst, arith}
-use Rattle.std.specs.Prelude.{Some, None, Ok, Err, Result, option_map, slice_index, if◌then◌else◌}
+use Rattle.std.proofs.Common.{◌≡◌, ℕ, ◌<◌, Bool, true, false, List, Option, ◌∙◌, ap, sym, subst, arith}
+use Rattle.std.specs.Prelude.{Some, None, Ok, Err, Result, option_map, is_some, slice_index}
 use Rattle.std.proofs.lemmas.Bool.{ne_eqb}
 use Rattle.period_grammar.specs.Lending.{fault_event}
 use Rattle.period_grammar.specs.declared.event.Fault.{Fault}
@@ -8,7 +8,7 @@ use Rattle.period_grammar.specs.declared.event.Fault.TheVariants.{Word}
 use Rattle.frame_build.specs.FrameEvent.{other}
 use Rattle.island_pack.specs.declared.packet.Packet.{Packet}
 use Rattle.island_pack.specs.declared.packet.PacketVerdicts.{PacketVerdicts}
-use Rattle.infoframe.specs.Frames.{Frame, frame_in, frame_of, answer, kind_of, avi_in, audio_in, spd_in}
+use Rattle.infoframe.specs.Frames.{Frame, first_lost, frame_in, frame_of, answer, kind_of, avi_in, audio_in, spd_in}
 use Rattle.infoframe.specs.declared.content.InfoKind.{InfoKind}
 use Rattle.infoframe.specs.declared.content.InfoFault.{InfoFault}
 use Rattle.infoframe.specs.declared.content.Avi.{Avi}
@@ -36,6 +36,15 @@ answer_low lost fits total frame h = grind arith
 pub avi_low : (p : Packet) (v : PacketVerdicts) → slice_index p.header 0 < 128 → avi_read (frame_of p v) ≡ None
 unfolding frame_of frame_in
 avi_low p v low = answer_low _ _ _ (frame_in p) (kind_low _ _ _ low)
+
+-- a packet of which a block is lost is read as no frame
+answer_lost : (lost : Option ℕ) (fits : Bool) (total : ℕ) (frame : Frame) → is_some lost ≡ true → avi_read (answer lost fits total frame) ≡ None
+unfolding answer avi_read
+answer_lost lost fits total frame some = grind arith
+
+pub avi_lost : (p : Packet) (v : PacketVerdicts) → is_some (first_lost v) ≡ true → avi_read (frame_of p v) ≡ None
+unfolding frame_of
+avi_lost p v some = answer_lost _ _ _ (frame_in p) some
 
 -- the frame that a packet is read as has the packet's type
 abbrev pub HasType : ℕ → Result Frame InfoFault → Type 0

@@ -5,7 +5,7 @@ ghost use Rattle.infoframe.specs.Frames.{is_lost, first_lost, frame_of};
 ghost use Rattle.island_pack.specs.Packets.{body_of};
 ghost use Rattle.audio_packets.specs.Clock.{IsClockPacket, acr_of};
 ghost use Rattle.audio_packets.specs.Samples.{IsSamplePacket, samples_of};
-ghost use Rattle.listing_writer.specs.ContentText.{value_digits, sample_words, side_lines, parity_words, note_lines, sample_lines, clock_lines, control_lines, control_words, depth_lines, is_usual_depth, info_lines, checksum_words, other_words, packet_lines, avi_read};
+ghost use Rattle.listing_writer.specs.ContentText.{avi_read, value_digits, sample_words, side_lines, parity_words, note_lines, sample_lines, clock_lines, control_lines, control_words, depth_lines, is_usual_depth, info_lines, checksum_words, other_words, packet_lines};
 ghost use Rattle.listing_writer.specs.ContentAdded.{Adds};
 
 use crate::content_info::info_line;
@@ -19,22 +19,24 @@ use infoframe::{Avi, InfoFault, InfoRef};
 use island_pack::PacketRef;
 
 impl Lines {
-    /// Adds what a packet carries, where none of its blocks is lost.
-    pub(crate) fn add_packet(&mut self, packet: PacketRef<'_>, column: u64)
+    /// Adds what a packet carries, where none of its blocks is lost, and answers the fields of an AVI InfoFrame.
+    pub(crate) fn add_packet(&mut self, packet: PacketRef<'_>, column: u64) -> Option<Avi>
         requires { self.old.text ≡ [] }
-        ensures { Adds self.old self.new (packet_lines packet.entry.packet.now packet.entry.verdicts.now column) }
+        ensures avi { result ≡ avi_read (frame_of packet.entry.packet.now packet.entry.verdicts.now) }
+        ensures added { Adds self.old self.new (packet_lines packet.entry.packet.now packet.entry.verdicts.now column) }
     {
         if has_lost(packet) {
-            return;
+            return None;
         }
         match packet.header()[0] {
             0 => {}
             1 => self.add_clock(packet, column),
             2 => self.add_samples(packet, column),
             3 => self.add_control(packet.bodies(), column),
-            128.. => self.add_info(packet, column),
+            128.. => return self.add_info(packet, column),
             _ => self.add(other_line(packet)),
         }
+        None
     }
 
     fn add_clock(&mut self, packet: PacketRef<'_>, column: u64)
@@ -105,14 +107,21 @@ impl Lines {
         }
     }
 
-    fn add_info(&mut self, packet: PacketRef<'_>, column: u64)
+    fn add_info(&mut self, packet: PacketRef<'_>, column: u64) -> Option<Avi>
         requires empty { self.old.text ≡ [] }
         requires info { 0x80 ≤ slice_index packet.packet.now.header 0 }
-        ensures { Adds self.old self.new (info_lines column (frame_of packet.entry.packet.now packet.entry.verdicts.now)) }
+        ensures avi { result ≡ avi_read (frame_of packet.entry.packet.now packet.entry.verdicts.now) }
+        ensures added { Adds self.old self.new (info_lines column (frame_of packet.entry.packet.now packet.entry.verdicts.now)) }
     {
         match InfoRef::read(packet) {
-            Ok(info) => self.add(info_line(packet.header()[0], &info)),
-            Err(fault) => self.add_info_fault(fault, column),
+            Ok(info) => {
+                self.add(info_line(packet.header()[0], &info));
+                info.avi()
+            }
+            Err(fault) => {
+                self.add_info_fault(fault, column);
+                None
+            }
         }
     }
 
@@ -125,19 +134,6 @@ impl Lines {
             InfoFault::Checksum(sum) => self.add_fault(checksum_line(column, sum)),
             InfoFault::Lost(_) => {}
         }
-    }
-}
-
-/// The fields of a packet that is read as an AVI InfoFrame.
-pub(crate) fn read_avi(packet: PacketRef<'_>) -> Option<Avi>
-    ensures { result ≡ avi_read (frame_of packet.entry.packet.now packet.entry.verdicts.now) }
-{
-    if packet.header()[0] < 128 {
-        return None;
-    }
-    match InfoRef::read(packet) {
-        Ok(info) => info.avi(),
-        Err(_) => None,
     }
 }
 

@@ -9,7 +9,6 @@ ghost use Rattle.listing_writer.specs.ContentText.{frame_event_of};
 ghost use Rattle.listing_writer.specs.ContentAdded.{Recalls, Hears};
 
 use crate::content_lines::Lines;
-use crate::content_packets::read_avi;
 use crate::line::{fault_line, long_line};
 use frame_build::Frames;
 use frame_build::laws::word_faults_change_nothing;
@@ -76,8 +75,7 @@ impl ContentState {
         ensures { (before : List Event) → Recalls self.old before → Hears before (packet_event packet.entry.packet.now packet.entry.verdicts.now column) self.new lines.old lines.new }
     {
         self.frames.other();
-        lines.add_packet(packet, column);
-        if let Some(avi) = read_avi(packet) {
+        if let Some(avi) = lines.add_packet(packet, column) {
             self.vic = Some(avi.vic);
         }
     }

@@ -10,8 +10,8 @@ unfolding frame_event_of avi_at lines_at
 returns-in-Some c before recalls = record {
   recalls =
       recalls_avi c.args.self.now _ before (packet c.args.packet.packet.now c.args.packet.verdicts.now c.args.column) c.in-Some.avi
-      (sym c.read_avi.ensures ∙ c.in-Some.is) refl (c.other.ensures (frame_events before) recalls.frames);
-  added = c.add_packet.ensures;
+      (sym c.add_packet.ensures.avi ∙ c.in-Some.is) refl (c.other.ensures (frame_events before) recalls.frames);
+  added = c.add_packet.ensures.added;
 }
 
 pub returns-in_default : goal.returns-in_default
@@ -19,6 +19,6 @@ unfolding frame_event_of avi_at lines_at
 returns-in_default c before recalls = record {
   recalls =
       recalls_plain c.args.self.now _ before (packet c.args.packet.packet.now c.args.packet.verdicts.now c.args.column)
-      (sym c.read_avi.ensures ∙ no_some c.read_avi.result c.in_default.not-Some) refl (c.other.ensures (frame_events before) recalls.frames) recalls;
-  added = c.add_packet.ensures;
+      (sym c.add_packet.ensures.avi ∙ no_some c.add_packet.result c.in_default.not-Some) refl (c.other.ensures (frame_events before) recalls.frames) recalls;
+  added = c.add_packet.ensures.added;
 }
