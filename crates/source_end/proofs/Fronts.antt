@@ -1,5 +1,5 @@
 -- The first columns of some that are as they were to be.
-use Rattle.std.proofs.Common.{◌≡◌, ℕ, ℤ, ◌+◌, ◌-◌, ◌*◌, ◌<◌, List, [], ◌∷◌, ◌++◌, take, drop, map, replicate, min, ap, sym, subst, ◌∙◌, arith, append_assoc}
+use Rattle.std.proofs.Common.{◌≡◌, ℕ, ℤ, ◌+◌, ◌-◌, ◌*◌, ◌<◌, ◌≤◌, List, [], ◌∷◌, ◌++◌, take, drop, map, replicate, min, ap, sym, subst, ◌∙◌, arith, append_assoc}
 use Rattle.std.proofs.lemmas.List.{take-append-drop, map-append}
 use Rattle.std.specs.Prelude.{Result, OnOk, OnErr}
 use Rattle.tmds_word.specs.Column.{Column, column_of}
@@ -8,7 +8,7 @@ use Rattle.island_pack.specs.Periods.{Pixel}
 use Rattle.source_end.specs.Fronts.{TookFront}
 use Rattle.source_end.specs.LineCoding.{AreCodersAfter, AreCoded}
 use Rattle.source_end.proofs.Spellings.{joined}
-use Rattle.source_end.proofs.LineCodings.{equal_block, replicate-add}
+use Rattle.source_end.proofs.LineCodings.{replicate-add}
 
 -- What holds after a refusal, and after none.
 pub on_err : {T E P : Type 0} (r : Result T E) → P → OnErr r P
@@ -35,26 +35,24 @@ pub front_of_map : {A : Type 0} (f : A → Column) (xs : List A) (i : ℕ) (old 
 front_of_map f xs i old mid new was same =
     (map f (take i xs), map f (drop i xs), same ∙ was, sym (map-append f (take i xs) (drop i xs)) ∙ ap (map f) (take-append-drop i xs))
 
--- a run of equal columns that ended within a block
-pub front_of_run : (old mid new : List Column) (count i n b g r x y z k : ℕ) → x ≡ b → y ≡ g → z ≡ r → mid ≡ old ++ replicate (min count (64 * i)) (column_of (b ∷ g ∷ r ∷ []))
-    → new ≡ mid ++ take k (columns_of (take n (replicate 64 x)) (take n (replicate 64 y)) (take n (replicate 64 z))) → n ≡ min (count - 64 * i) 64 → 64 * i < count
-    → TookFront old new (λ columns. columns ≡ replicate count (column_of (b ∷ g ∷ r ∷ [])))
-front_of_run old mid new count i n b g r x y z k ex ey ez was cut width begun =
-    let c = column_of (b ∷ g ∷ r ∷ []) in
-    let done = min count (64 * i) in
-    let block : columns_of (take n (replicate 64 x)) (take n (replicate 64 y)) (take n (replicate 64 z)) ≡ replicate n c =
-    (λ j. columns_of (take n (replicate 64 (ex j))) (take n (replicate 64 (ey j))) (take n (replicate 64 (ez j)))) ∙ equal_block n b g r (omega (arith, width)) in
-    let own = front_of mid new (replicate n c) k (cut ∙ ap (λ (cs : List Column). mid ++ take k cs) block) in
-    let left = count - (done + n) in
-    let all : done + (n + left) ≡ count = omega (arith, width, begun) in
-    front_after old mid new (replicate done c) (λ columns. columns ≡ replicate n c) (λ columns. columns ≡ replicate count c) was own
+-- a run of equal columns that ended within some of them
+pub run_within : (old mid new : List Column) (c : Column) (done n all : ℕ) → mid ≡ old ++ replicate done c → TookFront mid new (λ columns. columns ≡ replicate n c) → done + n ≤ all → TookFront old new (λ columns. columns ≡ replicate all c)
+run_within old mid new c done n all was front le =
+    let left = all - (done + n) in
+    let sum : done + (n + left) ≡ all = omega (arith, le) in
+    front_after old mid new (replicate done c) (λ columns. columns ≡ replicate n c) (λ columns. columns ≡ replicate all c) was front
     (λ cs e. (
       replicate left c,
       ap (λ (ds : List Column). replicate done c ++ (ds ++ replicate left c)) e
           ∙ ap (λ (ds : List Column). replicate done c ++ ds) (replicate-add n left c)
           ∙ replicate-add done (n + left) c
-          ∙ ap (λ m. replicate m c) all,
+          ∙ ap (λ m. replicate m c) sum,
     ))
+
+-- the same of the first of some
+pub run_cut : (old mid new own : List Column) (c : Column) (done n all k : ℕ) → mid ≡ old ++ replicate done c → new ≡ mid ++ take k own → own ≡ replicate n c → done + n ≤ all → TookFront old new (λ columns. columns ≡ replicate all c)
+run_cut old mid new own c done n all k was cut is le =
+    run_within old mid new c done n all was (front_of mid new (replicate n c) k (cut ∙ ap (λ (cs : List Column). mid ++ take k cs) is)) le
 
 -- the first columns of a block of pixels
 pub front_of_coded : (mid new whole : List Column) (blue green red : ℤ) (pixels : List Pixel) (blue_after green_after red_after : ℤ) (k : ℕ) → new ≡ mid ++ take k whole

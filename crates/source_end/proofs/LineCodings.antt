@@ -1,12 +1,12 @@
 -- Pixels coded block after block.
-use Rattle.std.proofs.Common.{◌≡◌, ℕ, suc, zero, ◌+◌, ◌-◌, ◌*◌, ◌/◌, ◌%◌, ◌≤◌, ◌<◌, List, [], ◌∷◌, ◌++◌, length, take, drop, set, map, slice_index, replicate, min, refl, ap, ap₂, sym, subst, ◌∙◌, arith, append_assoc, append-nil, take_all, length-take-le, get_or, ℤ}
+use Rattle.std.proofs.Common.{◌≡◌, ℕ, suc, zero, ◌+◌, ◌-◌, ◌*◌, ◌/◌, ◌%◌, ◌≤◌, ◌<◌, List, [], ◌∷◌, ◌++◌, length, take, drop, set, map, slice_index, replicate, min, refl, ap, ap₂, sym, subst, ◌∙◌, arith, append_assoc, append-nil, take_all, length-take-le, length-drop, get_or, ℤ}
 use Rattle.std.proofs.lemmas.List.{take_more_set, map-append, take-replicate}
-use Rattle.std.proofs.Math.Seq.{take-add}
+use Rattle.std.proofs.Math.Seq.{take-add, take-append_seam}
 use Rattle.tmds_word.specs.Column.{Column, column_of}
 use Rattle.tmds_word.specs.Bits.{row_bits, bytes_bits}
-use Rattle.tmds_word.specs.Words.{words_of, all_words, columns_of}
-use Rattle.tmds_word.proofs.Lists.{length-bytes_bits}
-use Rattle.tmds_word.proofs.Characters.{words_of-more}
+use Rattle.tmds_word.specs.Words.{words_of, all_words, columns_of, packed_columns}
+use Rattle.tmds_word.proofs.Lists.{length-bytes_bits, bytes_bits-append}
+use Rattle.tmds_word.proofs.Characters.{words_of-more, words_of-bytes}
 use Rattle.tmds_word.proofs.Eights.{count_in_bytes}
 use Rattle.tmds_code.specs.Coding.{Coded, sign_of}
 use Rattle.tmds_code.proofs.TableWords.{coded_below}
@@ -65,11 +65,32 @@ unfolding columns_of
 equal_columns zero b g r = refl
 equal_columns (suc n) b g r = ap (λ cs. column_of (b ∷ g ∷ r ∷ []) ∷ cs) (equal_columns n b g r)
 
-pub equal_block : (n b g r : ℕ) → n ≤ 64 → columns_of (take n (replicate 64 b)) (take n (replicate 64 g)) (take n (replicate 64 r)) ≡ replicate n (column_of (b ∷ g ∷ r ∷ []))
-equal_block n b g r le =
-    ap (λ xs. columns_of xs (take n (replicate 64 g)) (take n (replicate 64 r))) (take-replicate n 64 b le)
-    ∙ ap₂ (λ xs ys. columns_of (replicate n b) xs ys) (take-replicate n 64 g le) (take-replicate n 64 r le)
-    ∙ equal_columns n b g r
+-- the first of some equal characters that are packed
+pub equal_front : (bytes : List ℕ) (w m n : ℕ) → m ≤ n → 5 * n ≤ length bytes → all_words (bytes_bits (take (5 * n) bytes)) ≡ replicate (4 * n) w → all_words (bytes_bits (take (5 * m) bytes)) ≡ replicate (4 * m) w
+equal_front bytes w m n le room all =
+    let front = take (5 * m) bytes in
+    let more = take (5 * n - 5 * m) (drop (5 * m) bytes) in
+    let sum : 5 * m + (5 * n - 5 * m) ≡ 5 * n = omega arith in
+    let parted : take (5 * n) bytes ≡ front ++ more = ap (λ k. take k bytes) (sym sum) ∙ take-add (5 * m) (5 * n - 5 * m) bytes in
+    let size : length front ≡ 5 * m = length-take-le (5 * m) bytes (omega arith) in
+    let left : length more ≡ 5 * n - 5 * m = length-take-le (5 * n - 5 * m) (drop (5 * m) bytes) (omega (arith, length-drop (5 * m) bytes, room, le)) in
+    let both : all_words (bytes_bits front ++ bytes_bits more) ≡ all_words (bytes_bits front) ++ all_words (bytes_bits more) = words_of-bytes (bytes_bits front) more (omega (arith, length-bytes_bits front, size)) (omega (arith, left)) in
+    let count : length (all_words (bytes_bits front)) ≡ 4 * m = omega (arith, count_in_bytes front, size) in
+    let whole : all_words (bytes_bits front) ++ all_words (bytes_bits more) ≡ replicate (4 * n) w =
+    sym both ∙ ap all_words (sym (bytes_bits-append front more)) ∙ ap (λ bs. all_words (bytes_bits bs)) (sym parted) ∙ all in
+    sym (take-append_seam (all_words (bytes_bits front)) (all_words (bytes_bits more)))
+    ∙ ap (λ k. take k (all_words (bytes_bits front) ++ all_words (bytes_bits more))) count
+    ∙ ap (take (4 * m)) whole
+    ∙ take-replicate (4 * m) (4 * n) w (omega (arith, le))
+
+-- the columns of equal characters
+pub equal_packed : (bs gs rs : List ℕ) (size m b g r x y z : ℕ) → size ≡ 5 * m → x ≡ b → y ≡ g → z ≡ r → all_words (bytes_bits (take (5 * m) bs)) ≡ replicate (4 * m) x → all_words (bytes_bits (take (5 * m) gs)) ≡ replicate (4 * m) y
+    → all_words (bytes_bits (take (5 * m) rs)) ≡ replicate (4 * m) z → packed_columns (take size bs) (take size gs) (take size rs) ≡ replicate (4 * m) (column_of (b ∷ g ∷ r ∷ []))
+equal_packed bs gs rs size m b g r x y z is ex ey ez eb eg er =
+    ap (λ k. packed_columns (take k bs) (take k gs) (take k rs)) is
+    ∙ (λ i. columns_of (eb i) (eg i) (er i))
+    ∙ (λ i. columns_of (replicate (4 * m) (ex i)) (replicate (4 * m) (ey i)) (replicate (4 * m) (ez i)))
+    ∙ equal_columns (4 * m) b g r
 
 pub replicate-add : {A : Type 0} (m n : ℕ) (x : A) → replicate m x ++ replicate n x ≡ replicate (m + n) x
 replicate-add zero n x = let e : n ≡ 0 + n = omega arith in ap (λ k. replicate k x) e
@@ -128,22 +149,15 @@ block_coded blue green red ps blue_after green_after red_after bs gs rs xs ys zs
       as_many = lanes.count ∙ size;
     })
 
--- a run with one block more
-pub run_more : (old mid now : List Column) (count i n b g r x y z : ℕ) → x ≡ b → y ≡ g → z ≡ r → mid ≡ old ++ replicate (min count (64 * i)) (column_of (b ∷ g ∷ r ∷ []))
-    → now ≡ mid ++ columns_of (take n (replicate 64 x)) (take n (replicate 64 y)) (take n (replicate 64 z)) → n ≡ min (count - 64 * i) 64 → 64 * i < count
-    → now ≡ old ++ replicate (min count (64 * (i + 1))) (column_of (b ∷ g ∷ r ∷ []))
-run_more old mid now count i n b g r x y z ex ey ez was new width begun =
-    let own = column_of (b ∷ g ∷ r ∷ []) in
-    let done = min count (64 * i) in
-    let all : done + n ≡ min count (64 * (i + 1)) = omega (arith, width, begun) in
-    new
-    ∙ ap (λ v. mid ++ columns_of (take n (replicate 64 v)) (take n (replicate 64 y)) (take n (replicate 64 z))) ex
-    ∙ ap₂ (λ v w. mid ++ columns_of (take n (replicate 64 b)) (take n (replicate 64 v)) (take n (replicate 64 w))) ey ez
-    ∙ ap (λ cs. mid ++ cs) (equal_block n b g r (omega (arith, width)))
-    ∙ ap (λ cs. cs ++ replicate n own) was
-    ∙ append_assoc old (replicate done own) (replicate n own)
-    ∙ ap (λ cs. old ++ cs) (replicate-add done n own)
-    ∙ ap (λ k. old ++ replicate k own) all
+-- a run with more equal columns
+pub run_on : (old mid new own : List Column) (c : Column) (done n all : ℕ) → mid ≡ old ++ replicate done c → new ≡ mid ++ own → own ≡ replicate n c → done + n ≡ all → new ≡ old ++ replicate all c
+run_on old mid new own c done n all was more is sum =
+    more
+    ∙ ap (λ cs. mid ++ cs) is
+    ∙ ap (λ cs. cs ++ replicate n c) was
+    ∙ append_assoc old (replicate done c) (replicate n c)
+    ∙ ap (λ cs. old ++ cs) (replicate-add done n c)
+    ∙ ap (λ k. old ++ replicate k c) sum
 
 -- Four characters at a time.
 
@@ -191,6 +205,16 @@ pub packed_four : (into now : List ℕ) (i a b c d : ℕ) → 5 * i + 5 ≤ leng
     → bytes_bits (take (5 * i + 5) now) ≡ bytes_bits (take (5 * i) into) ++ row_bits (a ∷ b ∷ c ∷ d ∷ [])
     → all_words (bytes_bits (take (5 * (i + 1)) now)) ≡ all_words (bytes_bits (take (5 * i) into)) ++ a ∷ b ∷ c ∷ d ∷ []
 packed_four into now i a b c d room la lb lc ld e = grind (arith, length-bytes_bits, length-take-le, words_of-more)
+
+-- four equal characters more
+pub four_more : (into now : List ℕ) (i w : ℕ) → 5 * i + 5 ≤ length into → w < 1024 → all_words (bytes_bits (take (5 * i) into)) ≡ replicate (4 * i) w
+    → bytes_bits (take (5 * i + 5) now) ≡ bytes_bits (take (5 * i) into) ++ row_bits (w ∷ w ∷ w ∷ w ∷ []) → all_words (bytes_bits (take (5 * (i + 1)) now)) ≡ replicate (4 * (i + 1)) w
+four_more into now i w room lt was bits =
+    let sum : 4 * i + 4 ≡ 4 * (i + 1) = omega arith in
+    packed_four into now i w w w w room lt lt lt lt bits
+    ∙ ap (λ ws. ws ++ replicate 4 w) was
+    ∙ replicate-add (4 * i) 4 w
+    ∙ ap (λ k. replicate k w) sum
 
 pub none_packed : (into : List ℕ) → all_words (bytes_bits (take (5 * 0) into)) ≡ []
 unfolding all_words words_of bytes_bits

@@ -1,8 +1,10 @@
 //! The columns that spell one item.
-ghost use Rattle.std.specs.Prelude.{◌≡◌, ◌⊎◌, ◌<◌, ◌+◌, ◌*◌, ◌/◌, ◌%◌, ◌++◌, ◌∷◌, [], List, length, map, replicate, slice_index, OnOk, OnErr, IsTrue, true};
+ghost use Rattle.std.specs.Prelude.{◌≡◌, ◌⊎◌, ℕ, ◌≤◌, ◌<◌, ◌+◌, ◌*◌, ◌/◌, ◌%◌, ◌++◌, ◌∷◌, [], List, length, map, replicate, take, slice_index, OnOk, OnErr, IsTrue, true};
 ghost use Rattle.std.specs.List.{list_all};
 ghost use Rattle.outside_io.specs.Causes.{HasCause};
+ghost use Rattle.tmds_word.specs.Bits.{bytes_bits};
 ghost use Rattle.tmds_word.specs.Column.{Column, column_of};
+ghost use Rattle.tmds_word.specs.Words.{all_words};
 ghost use Rattle.terc4.specs.Tables.{video_guard};
 ghost use Rattle.island_pack.specs.Periods.{values_of, period_columns};
 ghost use Rattle.island_pack.specs.Conforming.{is_run, is_sync_pair, is_packet, is_data_island};
@@ -18,10 +20,13 @@ use crate::line_coding::pixels;
 use crate::{Island, Item, Run};
 use island_pack::{Packet, lay};
 use outside_io::NoMemory;
-use tmds_word::{ColumnSink, Word};
+use tmds_word::{ColumnSink, Word, pack_four};
 
-/// How many equal columns are given at a time.
-const BLOCK: usize = 64;
+/// How many groups of four equal columns are given at a time.
+const GROUPS: u32 = 16;
+
+/// How many bytes their characters take on a lane.
+const PACKED: usize = 80;
 
 /// Gives the columns of items. It is refused only where `out` refused a column.
 pub(crate) fn items<F: Framing, C: ColumnSink>(list: &[Item], out: &mut C) -> Result<(), NoMemory>
@@ -102,14 +107,51 @@ fn repeat<C: ColumnSink>(words: [Word; 3], count: u32, out: &mut C) -> Result<()
     ensures part { OnErr result (TookFront (C.taken out.old) (C.taken out.new) (λ columns. columns ≡ replicate count (column_of words))) }
     ensures cause { HasCause (C.refusals out.old) (C.refusals out.new) result }
 {
-    let [blue, green, red] = words;
-    let blues = [blue; BLOCK];
-    let greens = [green; BLOCK];
-    let reds = [red; BLOCK];
-    for i in 0..count.div_ceil(BLOCK as u32) {
-        let left = count - BLOCK as u32 * i;
-        let n = left.min(BLOCK as u32) as usize;
-        out.columns(&blues[..n], &greens[..n], &reds[..n])?;
+    fours(words, count / 4, out)?;
+    few(words, count % 4, out)
+}
+
+/// Gives a column four times as often as is asked for.
+fn fours<C: ColumnSink>(words: [Word; 3], count: u32, out: &mut C) -> Result<(), NoMemory>
+    requires { length (C.taken out.old) + 4 * count < 429496729 }
+    ensures ok { OnOk result (C.taken out.new ≡ C.taken out.old ++ replicate (4 * count) (column_of words)) }
+    ensures part { OnErr result (TookFront (C.taken out.old) (C.taken out.new) (λ columns. columns ≡ replicate (4 * count) (column_of words))) }
+    ensures cause { HasCause (C.refusals out.old) (C.refusals out.new) result }
+{
+    let most = count.min(GROUPS);
+    let blue = equal(words[0], most);
+    let green = equal(words[1], most);
+    let red = equal(words[2], most);
+    for i in 0..count.div_ceil(GROUPS) {
+        let left = count - GROUPS * i;
+        let size = 5 * left.min(GROUPS) as usize;
+        out.packed(&blue[..size], &green[..size], &red[..size])?;
+    }
+    Ok(())
+}
+
+/// Packs groups of four equal characters; the bytes after them are 0.
+fn equal(word: Word, groups: u32) -> [u8; PACKED]
+    requires { groups ≤ 16 }
+    ensures { (m : ℕ) → m ≤ groups → all_words (bytes_bits (take (5 * m) result)) ≡ replicate (4 * m) word }
+{
+    let mut bytes = [0; PACKED];
+    let _value = word.value();
+    for i in 0..groups {
+        pack_four([word, word, word, word], &mut bytes, 5 * i as usize);
+    }
+    bytes
+}
+
+/// Gives a column as often as is asked for, one by one.
+fn few<C: ColumnSink>(words: [Word; 3], count: u32, out: &mut C) -> Result<(), NoMemory>
+    requires { length (C.taken out.old) + count < 429496729 }
+    ensures ok { OnOk result (C.taken out.new ≡ C.taken out.old ++ replicate count (column_of words)) }
+    ensures part { OnErr result (TookFront (C.taken out.old) (C.taken out.new) (λ columns. columns ≡ replicate count (column_of words))) }
+    ensures cause { HasCause (C.refusals out.old) (C.refusals out.new) result }
+{
+    for _ in 0..count {
+        out.column(words)?;
     }
     Ok(())
 }
