@@ -1,15 +1,17 @@
 //! Writes what is reported as pictures and sound.
-ghost use Rattle.std.specs.Prelude.{◌≡◌, ℕ, ◌<◌, List, [], take, codes, OnOk, OnErr, map};
+ghost use Rattle.std.specs.Prelude.{◌≡◌, ℕ, ◌<◌, List, [], length, take, codes, OnOk, OnErr, map};
 ghost use Rattle.std.specs.Io.KnownBytes.{Appends};
 ghost use Rattle.outside_io.specs.Causes.{HasCause};
 ghost use Rattle.period_grammar.specs.Events.{Event, event_of};
 ghost use Rattle.link_sink.specs.Ears.{both_alone};
 ghost use Rattle.listing_writer.specs.ContentAdded.{Recalls};
 ghost use Rattle.listing_writer.specs.ContentTaken.{Lists, Breaks};
+ghost use Rattle.listing_writer.specs.Texts.{counted, slip_text};
 
 use crate::content_lines::Lines;
 use crate::content_state::ContentState;
-use crate::lister::write_line;
+use crate::line::slip_line;
+use crate::lister::{write_line, write_short};
 use link_sink::Ear;
 use outside_io::{Failed, Sink};
 use period_grammar::EventRef;
@@ -46,6 +48,23 @@ impl<'a, K: Sink> ContentLister<'a, K> {
         ensures { result ≡ self.now.faults }
     {
         self.faults
+    }
+
+    /// Writes the line of a slip, which is a fault line: the lane, and the place of the capture from which on its
+    /// characters are searched anew. What is kept of events stays: those reported later are listed after all that was reported.
+    /// Where the sink fails, a part of the line is written, and nothing is counted.
+    pub fn slip(&mut self, lane: u8, place: u64) -> Result<(), Failed>
+        ensures same { self.new.sink.ghost_name ≡ self.old.sink.ghost_name }
+        ensures past { self.new.past ≡ self.old.past }
+        ensures counted { OnOk result (self.new.faults ≡ counted self.old.faults 1) }
+        ensures uncounted { OnErr result (self.new.faults ≡ self.old.faults) }
+        ensures whole { OnOk result (Appends (K.held self.old.sink.now) (K.held self.new.sink.now) (slip_text lane place)) }
+        ensures part { OnErr result ((n : ℕ) × (n < length (slip_text lane place)) × Appends (K.held self.old.sink.now) (K.held self.new.sink.now) (take n (slip_text lane place))) }
+        ensures cause { HasCause (K.faults self.old.sink.now) (K.faults self.new.sink.now) result }
+    {
+        write_short(self.sink, slip_line(lane, place))?;
+        self.faults = self.faults.saturating_add(1);
+        Ok(())
     }
 
     /// Writes the last line.
