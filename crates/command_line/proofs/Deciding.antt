@@ -20,7 +20,7 @@ use Rattle.command_line.specs.declared.options.OptionName.TheVariants.{Offset, S
 use Rattle.command_line.specs.declared.damage.DamageWord.{DamageWord}
 use Rattle.command_line.specs.declared.tap.TapWords.{TapWords}
 use Rattle.command_line.specs.declared.command.Command.{Command}
-use Rattle.command_line.specs.declared.command.Command.TheVariants.{MakeLink, MakeContent, MakeDvi, RecoverLink, RecoverContent, RecoverTrack, RecoverRelock, RecoverBiphase, RecoverDvi, Check, Damage, Slip, ReadBiphase, Relay, Sample}
+use Rattle.command_line.specs.declared.command.Command.TheVariants.{MakeLink, MakeContent, MakeDvi, RecoverLink, RecoverContent, RecoverTrack, RecoverRelock, RecoverContentRelock, RecoverBiphase, RecoverDvi, Check, Damage, Slip, ReadBiphase, Relay, Sample}
 use Rattle.command_line.proofs.Triples.{digits_are}
 use Rattle.command_line.proofs.FoundRows.{option_built, is_itself, nothing_found}
 use Rattle.command_line.proofs.Turns.{IsForm, leaf, walk_at, place}
@@ -225,6 +225,8 @@ reads_by words name after options operands RecoverTrack is a m =
     reads to_recover words name after options operands is m.0 (operands_found to_recover true after options operands several_form a (front_operand operands (codes "track") [] m.1) m.2) (inr m.2)
 reads_by words name after options operands RecoverRelock is a m =
     reads to_recover words name after options operands is m.0 (operands_found to_recover true after options operands several_form a (front_operand operands (codes "relock") [] m.1) m.2) (inr m.2)
+reads_by words name after options operands RecoverContentRelock is a m =
+    reads to_recover words name after options operands is m.0 (operands_found to_recover true after options operands several_form a (front_operand operands (codes "content") (codes "relock" ∷ []) m.1) m.2) (inr m.2)
 reads_by words name after options operands (RecoverBiphase k) is a m =
     reads to_recover words name after options operands is m.0 (operands_found to_recover true after options operands several_form a (front_operand operands (codes "biphase") (digit_text k ∷ []) m.1.0) m.2) (inr m.2)
 reads_by words name after options operands RecoverDvi is a m =
@@ -333,6 +335,7 @@ means_plain RecoverLink name options operands m = (no_values_plain options m.2, 
 means_plain RecoverContent name options operands m = (no_values_plain options m.2, one_text_plain operands (codes "content") m.1 refl)
 means_plain RecoverTrack name options operands m = (no_values_plain options m.2, one_text_plain operands (codes "track") m.1 refl)
 means_plain RecoverRelock name options operands m = (no_values_plain options m.2, one_text_plain operands (codes "relock") m.1 refl)
+means_plain RecoverContentRelock name options operands m = (no_values_plain options m.2, subst TextsPlain (sym m.1) (refl, (refl, tt)))
 means_plain (RecoverBiphase k) name options operands m = (no_values_plain options m.2, subst TextsPlain (sym m.1.0) (refl, (digit_first_plain k [], tt)))
 means_plain RecoverDvi name options operands m = (no_values_plain options m.2, one_text_plain operands (codes "dvi") m.1 refl)
 means_plain Check name options operands m = (no_values_plain options m.2, subst TextsPlain (sym m.1) tt)

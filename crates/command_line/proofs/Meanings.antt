@@ -11,7 +11,7 @@ use Rattle.command_line.specs.Commands.{IsTap, Means}
 use Rattle.command_line.specs.declared.options.OptionName.{OptionName}
 use Rattle.command_line.specs.declared.tap.TapWords.{TapWords}
 use Rattle.command_line.specs.declared.command.Command.{Command}
-use Rattle.command_line.specs.declared.command.Command.TheVariants.{MakeLink, MakeContent, MakeDvi, RecoverLink, RecoverContent, RecoverTrack, RecoverRelock, RecoverBiphase, RecoverDvi, Check, Damage, Slip, ReadBiphase, Relay, Sample}
+use Rattle.command_line.specs.declared.command.Command.TheVariants.{MakeLink, MakeContent, MakeDvi, RecoverLink, RecoverContent, RecoverTrack, RecoverRelock, RecoverContentRelock, RecoverBiphase, RecoverDvi, Check, Damage, Slip, ReadBiphase, Relay, Sample}
 use Rattle.command_line.proofs.Triples.{number_found}
 use Rattle.command_line.proofs.SlipTexts.{digit_found, slip_found}
 
@@ -34,6 +34,7 @@ name_of RecoverLink = codes "recover"
 name_of RecoverContent = codes "recover"
 name_of RecoverTrack = codes "recover"
 name_of RecoverRelock = codes "recover"
+name_of RecoverContentRelock = codes "recover"
 name_of (RecoverBiphase k) = codes "recover"
 name_of RecoverDvi = codes "recover"
 name_of Check = codes "check"
@@ -92,6 +93,6 @@ no_slip operands t is none (Slip slip) m =
 no_slip operands t is none c m = other_name c (codes "slip") [] operands refl m
 
 -- no digit of a pair, no `recover` of two operands
-pub no_pair : (kind t : Text) → digit_within 0 3 t ≡ None → (c : Command) → Means c (codes "recover") [] (kind ∷ t ∷ []) → ⊥
+pub no_pair : (kind t : Text) → (kind ≡ codes "content" → ⊥) → digit_within 0 3 t ≡ None → (c : Command) → Means c (codes "recover") [] (kind ∷ t ∷ []) → ⊥
 unfolding name_of
-no_pair kind t h k l = grind (arith, same_second, none-some, digit_found)
+no_pair kind t h k l m = grind (arith, same_head, same_second, none-some, digit_found)

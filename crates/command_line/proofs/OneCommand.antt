@@ -14,7 +14,7 @@ use Rattle.command_line.specs.declared.tap.TapWords.{TapWords}
 use Rattle.command_line.specs.declared.damage.DamageWord.{DamageWord}
 use Rattle.command_line.specs.declared.slip.SlipWord.{SlipWord}
 use Rattle.command_line.specs.declared.command.Command.{Command}
-use Rattle.command_line.specs.declared.command.Command.TheVariants.{MakeLink, MakeContent, MakeDvi, RecoverLink, RecoverContent, RecoverTrack, RecoverRelock, RecoverBiphase, RecoverDvi, Check, Damage, Slip, ReadBiphase, Relay, Sample}
+use Rattle.command_line.specs.declared.command.Command.TheVariants.{MakeLink, MakeContent, MakeDvi, RecoverLink, RecoverContent, RecoverTrack, RecoverRelock, RecoverContentRelock, RecoverBiphase, RecoverDvi, Check, Damage, Slip, ReadBiphase, Relay, Sample}
 use Rattle.command_line.proofs.Triples.{number_found, three_found}
 use Rattle.command_line.proofs.DamageTexts.{damage_found}
 use Rattle.command_line.proofs.SlipTexts.{digit_found, slip_found}
@@ -73,15 +73,20 @@ form (Slip slip) = 11
 form ReadBiphase = 12
 form Relay = 13
 form (Sample n) = 14
+form RecoverContentRelock = 15
 
--- and the place that a name and a first operand give
+-- and the place that a name and operands give
 abbrev make_form_of : Text → ℕ
 make_form_of first = if bytes_eq first (codes "link") then 0 else if bytes_eq first (codes "content") then 1 else 2
 
-abbrev recover_form_of : Text → ℕ
-recover_form_of first =
+abbrev content_form_of : List Text → ℕ
+content_form_of (first ∷ second ∷ more) = 15
+content_form_of _ = 4
+
+abbrev recover_form_of : Text → List Text → ℕ
+recover_form_of first operands =
     if bytes_eq first (codes "link") then 3
-    else if bytes_eq first (codes "content") then 4
+    else if bytes_eq first (codes "content") then content_form_of operands
     else if bytes_eq first (codes "track") then 5
     else if bytes_eq first (codes "relock") then 6
     else if bytes_eq first (codes "biphase") then 7
@@ -90,7 +95,7 @@ recover_form_of first =
 abbrev form_of : Text → List Text → ℕ
 form_of name operands =
     if bytes_eq name (codes "make") then make_form_of (head_of operands)
-    else if bytes_eq name (codes "recover") then recover_form_of (head_of operands)
+    else if bytes_eq name (codes "recover") then recover_form_of (head_of operands) operands
     else if bytes_eq name (codes "check") then 9
     else if bytes_eq name (codes "damage") then 10
     else if bytes_eq name (codes "slip") then 11
@@ -114,6 +119,7 @@ form_once name options operands RecoverLink RecoverLink e a b = refl
 form_once name options operands RecoverContent RecoverContent e a b = refl
 form_once name options operands RecoverTrack RecoverTrack e a b = refl
 form_once name options operands RecoverRelock RecoverRelock e a b = refl
+form_once name options operands RecoverContentRelock RecoverContentRelock e a b = refl
 form_once name options operands (RecoverBiphase k) (RecoverBiphase l) e a b = grind (arith, same_second, same_Some, digit_found)
 form_once name options operands RecoverDvi RecoverDvi e a b = refl
 form_once name options operands Check Check e a b = refl

@@ -8,7 +8,7 @@ use Rattle.command_line.specs.declared.options.OptionName.{OptionName}
 use Rattle.command_line.specs.declared.options.OptionName.TheVariants.{Offset, Skew, Bits, Version}
 use Rattle.command_line.specs.declared.tap.TapWords.{TapWords}
 use Rattle.command_line.specs.declared.command.Command.{Command}
-use Rattle.command_line.specs.declared.command.Command.TheVariants.{MakeLink, MakeContent, MakeDvi, RecoverLink, RecoverContent, RecoverTrack, RecoverRelock, RecoverBiphase, RecoverDvi, Check, Damage, Slip, ReadBiphase, Relay, Sample}
+use Rattle.command_line.specs.declared.command.Command.TheVariants.{MakeLink, MakeContent, MakeDvi, RecoverLink, RecoverContent, RecoverTrack, RecoverRelock, RecoverContentRelock, RecoverBiphase, RecoverDvi, Check, Damage, Slip, ReadBiphase, Relay, Sample}
 
 -- what the value of an option says, or that it is left out
 
@@ -44,8 +44,8 @@ pub record IsTap (options : List (OptionName × Text)) (tap : TapWords) : Type 0
   pub version : IsVersion version_text tap.version
 
 -- what a command's name, its options and its operands ask for: `make link`, `make content` and `make dvi` with options,
--- `recover link`, `recover content`, `recover track`, `recover relock`, `recover biphase K`, `recover dvi`, `check`, `damage`
--- with one operand or more, `slip L:P:D`, `read biphase`, `relay` and `sample N`
+-- `recover link`, `recover content`, `recover track`, `recover relock`, `recover content relock`, `recover biphase K`,
+-- `recover dvi`, `check`, `damage` with one operand or more, `slip L:P:D`, `read biphase`, `relay` and `sample N`
 abbrev pub Means : Command → Text → List (OptionName × Text) → List Text → Type 0
 Means (MakeLink tap) name options operands = (name ≡ codes "make") × (operands ≡ codes "link" ∷ []) × IsTap options tap
 Means (MakeContent tap) name options operands = (name ≡ codes "make") × (operands ≡ codes "content" ∷ []) × IsTap options tap
@@ -54,6 +54,7 @@ Means RecoverLink name options operands = (name ≡ codes "recover") × (operand
 Means RecoverContent name options operands = (name ≡ codes "recover") × (operands ≡ codes "content" ∷ []) × (options ≡ [])
 Means RecoverTrack name options operands = (name ≡ codes "recover") × (operands ≡ codes "track" ∷ []) × (options ≡ [])
 Means RecoverRelock name options operands = (name ≡ codes "recover") × (operands ≡ codes "relock" ∷ []) × (options ≡ [])
+Means RecoverContentRelock name options operands = (name ≡ codes "recover") × (operands ≡ codes "content" ∷ codes "relock" ∷ []) × (options ≡ [])
 Means (RecoverBiphase k) name options operands = (name ≡ codes "recover") × ((operands ≡ codes "biphase" ∷ digit_text k ∷ []) × (k ≤ 3)) × (options ≡ [])
 Means RecoverDvi name options operands = (name ≡ codes "recover") × (operands ≡ codes "dvi" ∷ []) × (options ≡ [])
 Means Check name options operands = (name ≡ codes "check") × (operands ≡ []) × (options ≡ [])

@@ -41,6 +41,8 @@ pub enum Command {
     RecoverTrack,
     /// `recover relock`: recover the listing of a capture whose lanes may lack bits and whose alignment is confirmed.
     RecoverRelock,
+    /// `recover content relock`: recover the content listing of such a capture.
+    RecoverContentRelock,
     /// `recover biphase K`: recover the line code of the pair of audio channels K of a capture, from 0 to 3.
     RecoverBiphase(u8),
     /// `recover dvi`: recover the listing of a capture of a stream without guard bands.
@@ -201,8 +203,30 @@ fn recover_kind(kind: &str) -> Option<Command>
     }
 }
 
+/// `recover content relock` or `recover biphase K`.
+fn recover_pair(kind: &str, word: &str) -> Option<Command>
+    ensures { MatchOption result ((c : Command) → Means c (codes "recover") [] (kind.now ∷ word.now ∷ []) → ⊥) (λ c. Means c (codes "recover") [] (kind.now ∷ word.now ∷ [])) }
+{
+    if kind == "content" {
+        recover_content(word)
+    } else {
+        recover_biphase(kind, word)
+    }
+}
+
+/// `recover content relock`.
+fn recover_content(word: &str) -> Option<Command>
+    ensures { MatchOption result ((c : Command) → Means c (codes "recover") [] (codes "content" ∷ word.now ∷ []) → ⊥) (λ c. Means c (codes "recover") [] (codes "content" ∷ word.now ∷ [])) }
+{
+    match word {
+        "relock" => Some(Command::RecoverContentRelock),
+        _ => None,
+    }
+}
+
 /// `recover biphase K`.
-fn recover_pair(kind: &str, pair: &str) -> Option<Command>
+fn recover_biphase(kind: &str, pair: &str) -> Option<Command>
+    requires { kind.now ≡ codes "content" → ⊥ }
     ensures { MatchOption result ((c : Command) → Means c (codes "recover") [] (kind.now ∷ pair.now ∷ []) → ⊥) (λ c. Means c (codes "recover") [] (kind.now ∷ pair.now ∷ [])) }
 {
     let number = read_digit(pair, 0, LAST_PAIR)?;

@@ -1,6 +1,6 @@
 //! Words of the command line, and what they name.
 
-/// 384 rows: the command that the words name, then the words, with a bar before each.
+/// 401 rows: the command that the words name, then the words, with a bar before each.
 pub(crate) static ROWS: &str = "
 none
 none|make
@@ -281,6 +281,23 @@ none|make|biphase
 recover track|recover|track|--
 recover relock|recover|relock
 none|recover|relock|track
+recover content relock|recover|content|relock
+recover content relock|recover|--|content|relock
+recover content relock|recover|content|--|relock
+recover content relock|recover|content|relock|--
+none|recover|content|relocks
+none|recover|content|Relock
+none|recover|content|--relock
+none|recover|--relock|content
+none|recover|content|
+none|recover|content|0
+none|recover|content|track
+none|recover|content|content
+none|recover|content|relock|relock
+none|recover|relock|content
+none|recover|link|relock
+none|recover|biphase|relock
+none|make|content|relock
 recover track|recover|--|track
 none|recover|track|link
 none|recover|track|track

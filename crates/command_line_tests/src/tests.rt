@@ -24,6 +24,7 @@ fn named(alloc: Global, command: &Option<Command>) -> Result<String, Fail> {
         Some(Command::RecoverContent) => String::from_str(alloc, "recover content")?,
         Some(Command::RecoverTrack) => String::from_str(alloc, "recover track")?,
         Some(Command::RecoverRelock) => String::from_str(alloc, "recover relock")?,
+        Some(Command::RecoverContentRelock) => String::from_str(alloc, "recover content relock")?,
         Some(Command::RecoverBiphase(pair)) => format!(in alloc; "recover biphase {pair}")?,
         Some(Command::RecoverDvi) => String::from_str(alloc, "recover dvi")?,
         Some(Command::Check) => String::from_str(alloc, "check")?,
