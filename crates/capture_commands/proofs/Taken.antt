@@ -26,7 +26,7 @@ use Rattle.relay.proofs.Growing.{columns_grow}
 use Rattle.command_line.specs.Commands.{IsCommand}
 use Rattle.command_line.proofs.OneCommand.{command_once}
 use Rattle.command_line.specs.declared.command.Command.{Command}
-use Rattle.command_line.specs.declared.command.Command.TheVariants.{MakeLink, MakeContent, MakeDvi, RecoverLink, RecoverContent, RecoverTrack, RecoverRelock, RecoverBiphase, RecoverDvi, Check, Damage, Slip, ReadBiphase, Relay, Sample}
+use Rattle.command_line.specs.declared.command.Command.TheVariants.{MakeLink, MakeContent, MakeDvi, RecoverLink, RecoverContent, RecoverTrack, RecoverRelock, RecoverContentRelock, RecoverBiphase, RecoverDvi, Check, Damage, Slip, ReadBiphase, Relay, Sample}
 use Rattle.capture_commands.specs.Blocks.{AreBefore, AreNext}
 use Rattle.capture_commands.specs.Endings.{Devices, RunEnds, RelayEnds, frames_ending, relay_ending, status_of}
 use Rattle.capture_commands.specs.Relays.{PassesLimit}
@@ -237,6 +237,7 @@ refused_of RecoverLink e from left held holds is stops = tt
 refused_of RecoverContent e from left held holds is stops = tt
 refused_of RecoverTrack e from left held holds is stops = tt
 refused_of RecoverRelock e from left held holds is stops = tt
+refused_of RecoverContentRelock e from left held holds is stops = tt
 refused_of (RecoverBiphase pair) e from left held holds is stops = tt
 refused_of RecoverDvi e from left held holds is stops = tt
 refused_of Check e from left held holds is stops = tt

@@ -22,7 +22,7 @@ use Rattle.relock_sink.specs.Relocks.{relock_rule}
 use Rattle.track_sink.specs.Epochs.{EpochRule, stray_rule, IsTrackBy}
 use Rattle.track_sink.specs.TrackEvents.{TrackEvent}
 use Rattle.track_sink.specs.Tracks.{HasTrackedBy}
-use Rattle.capture_commands.specs.TrackText.{track_lines, track_text}
+use Rattle.capture_commands.specs.TrackListings.{TrackListing, link_track_listing, content_track_listing}
 use Rattle.capture_commands.specs.Relays.{whole_tap}
 use Rattle.source_end.specs.declared.refusal.RasterFault.{RasterFault}
 use Rattle.source_end.specs.declared.refusal.RasterFault.TheVariants as raster_faults
@@ -46,7 +46,7 @@ use Rattle.capture_commands.specs.Samples.{IsSampleCut, SampleEnds}
 use Rattle.capture_commands.specs.Taken.{StopsOf}
 use Rattle.command_line.specs.Commands.{IsCommand}
 use Rattle.command_line.specs.declared.command.Command.{Command}
-use Rattle.command_line.specs.declared.command.Command.TheVariants.{MakeLink, MakeContent, MakeDvi, RecoverLink, RecoverContent, RecoverTrack, RecoverRelock, RecoverBiphase, RecoverDvi, Check, Damage, Slip, ReadBiphase, Relay, Sample}
+use Rattle.command_line.specs.declared.command.Command.TheVariants.{MakeLink, MakeContent, MakeDvi, RecoverLink, RecoverContent, RecoverTrack, RecoverRelock, RecoverContentRelock, RecoverBiphase, RecoverDvi, Check, Damage, Slip, ReadBiphase, Relay, Sample}
 use Rattle.capture_commands.specs.declared.reading.HearError.{HearError}
 use Rattle.capture_commands.specs.declared.reading.HearError.TheVariants as heards
 use Rattle.capture_commands.specs.declared.ending.Ending.{Ending}
@@ -151,27 +151,27 @@ pub record ListsPart (g : Grammar) (listing : ListingOf) (before after : Devices
       × IsAlignedBy g fed.blue fed.green fed.red columns events × IsWrittenPast (listing.lines first) (listing.text events) before.held after.held)
 
 -- a read failed: what was reported so far of the whole blocks that were read was listed
-pub record TracksRead (r : EpochRule) (before after : Devices) : Type 0 where
+pub record TracksRead (r : EpochRule) (listing : TrackListing) (before after : Devices) : Type 0 where
   pub read : List ℕ
   pub consumed : Consumes before.left after.left read
   pub fed : Fed
   pub are : AreRead read fed
   pub track_events : List TrackEvent
   pub reported : HasTrackedBy r fed track_events
-  pub written : Appends before.held after.held (track_lines track_events)
+  pub written : Appends before.held after.held (listing.lines track_events)
 
 -- a write failed: a part was written of the lines of what was reported so far of the blocks that were read, or at the end
 -- of the whole text, and at least the lines of what was reported before the last block that was read
-pub record TracksPart (r : EpochRule) (before after : Devices) : Type 0 where
+pub record TracksPart (r : EpochRule) (listing : TrackListing) (before after : Devices) : Type 0 where
   pub fed : Fed
   pub first : List TrackEvent
   pub reported : HasTrackedBy r fed first
   pub track_events : List TrackEvent
   pub some :
       ((now : Fed) × (read : List ℕ) × Consumes before.left after.left read × AreNext fed now read × HasTrackedBy r now track_events
-      × IsWrittenPast (track_lines first) (track_lines track_events) before.held after.held)
+      × IsWrittenPast (listing.lines first) (listing.lines track_events) before.held after.held)
       ⊎ ((epochs aligned : ℕ) × IsAtEnd after.left × ((bytes : List ℕ) → before.left ≡ Some bytes → IsCaptureOf fed.blue fed.green fed.red bytes)
-      × IsTrackBy r fed epochs aligned track_events × IsWrittenPast (track_lines first) (track_text track_events) before.held after.held)
+      × IsTrackBy r fed epochs aligned track_events × IsWrittenPast (listing.lines first) (listing.text track_events) before.held after.held)
 
 -- how a command ends whose listing was not read
 abbrev pub list_ending : ListError → Ending
@@ -284,8 +284,9 @@ EndsReadFailed (MakeContent tap) before after = Keeps before.held after.held
 EndsReadFailed (MakeDvi tap) before after = Keeps before.held after.held
 EndsReadFailed RecoverLink before after = ListsRead link_grammar link_listing before after
 EndsReadFailed RecoverContent before after = ListsRead link_grammar content_listing before after
-EndsReadFailed RecoverTrack before after = TracksRead stray_rule before after
-EndsReadFailed RecoverRelock before after = TracksRead relock_rule before after
+EndsReadFailed RecoverTrack before after = TracksRead stray_rule link_track_listing before after
+EndsReadFailed RecoverRelock before after = TracksRead relock_rule link_track_listing before after
+EndsReadFailed RecoverContentRelock before after = TracksRead relock_rule content_track_listing before after
 EndsReadFailed (RecoverBiphase pair) before after = ListsRead link_grammar (biphase_listing pair) before after
 EndsReadFailed RecoverDvi before after = ListsRead dvi_grammar link_listing before after
 EndsReadFailed Check before after = ListsRead link_grammar check_listing before after
@@ -302,8 +303,9 @@ EndsWriteFailed (MakeContent tap) before after = Parts (MakeContent tap) before 
 EndsWriteFailed (MakeDvi tap) before after = Parts (MakeDvi tap) before after
 EndsWriteFailed RecoverLink before after = ListsPart link_grammar link_listing before after
 EndsWriteFailed RecoverContent before after = ListsPart link_grammar content_listing before after
-EndsWriteFailed RecoverTrack before after = TracksPart stray_rule before after
-EndsWriteFailed RecoverRelock before after = TracksPart relock_rule before after
+EndsWriteFailed RecoverTrack before after = TracksPart stray_rule link_track_listing before after
+EndsWriteFailed RecoverRelock before after = TracksPart relock_rule link_track_listing before after
+EndsWriteFailed RecoverContentRelock before after = TracksPart relock_rule content_track_listing before after
 EndsWriteFailed (RecoverBiphase pair) before after = ListsPart link_grammar (biphase_listing pair) before after
 EndsWriteFailed RecoverDvi before after = ListsPart dvi_grammar link_listing before after
 EndsWriteFailed Check before after = ListsPart link_grammar check_listing before after

@@ -8,6 +8,9 @@ pub mod Reading
 pub mod Hearings
 pub mod Tracking
 pub mod TrackText
+pub mod ContentTrackText
+pub mod TrackListings
+pub mod TrackListers
 pub mod Samples
 pub mod Relays
 pub mod Outcome

@@ -6,6 +6,7 @@ use Rattle.command_line.specs.declared.command.Command.{Command}
 use Rattle.capture_commands.specs.Endings.{Devices, ListsRead, ListsPart, TracksRead, TracksPart, EndsReadFailed, EndsWriteFailed}
 use Rattle.capture_commands.specs.Manners.{WritesOn}
 use Rattle.capture_commands.specs.Listings.{Listing}
+use Rattle.capture_commands.specs.TrackListings.{TrackListing}
 use Rattle.capture_commands.specs.Outcome.{RunOutcome, ListsCapture, TracksCapture, Does}
 
 -- a command that lists captures so
@@ -15,9 +16,9 @@ pub record IsLists (g : Grammar) (listing : Listing) (command : Command) : Type 
   pub read_failed : (before after : Devices) → ListsRead g listing before after → EndsReadFailed command before after
   pub write_failed : (before after : Devices) → ListsPart g listing before after → EndsWriteFailed command before after
 
--- a command that lists captures epoch after epoch, which end by a rule
-pub record IsTracks (r : EpochRule) (command : Command) : Type 0 where
-  pub does : (bytes : List ℕ) (o : RunOutcome) → TracksCapture r bytes o → Does command bytes o
+-- a command that lists captures so, epoch after epoch, which end by a rule
+pub record IsTracks (r : EpochRule) (listing : TrackListing) (command : Command) : Type 0 where
+  pub does : (bytes : List ℕ) (o : RunOutcome) → TracksCapture r listing bytes o → Does command bytes o
   pub on : WritesOn command
-  pub read_failed : (before after : Devices) → TracksRead r before after → EndsReadFailed command before after
-  pub write_failed : (before after : Devices) → TracksPart r before after → EndsWriteFailed command before after
+  pub read_failed : (before after : Devices) → TracksRead r listing before after → EndsReadFailed command before after
+  pub write_failed : (before after : Devices) → TracksPart r listing before after → EndsWriteFailed command before after

@@ -1,6 +1,6 @@
 -- When each command reads its input and writes its output: one row for each.
 use Rattle.command_line.specs.declared.command.Command.{Command}
-use Rattle.command_line.specs.declared.command.Command.TheVariants.{MakeLink, MakeContent, MakeDvi, RecoverLink, RecoverContent, RecoverTrack, RecoverRelock, RecoverBiphase, RecoverDvi, Check, Damage, Slip, ReadBiphase, Relay, Sample}
+use Rattle.command_line.specs.declared.command.Command.TheVariants.{MakeLink, MakeContent, MakeDvi, RecoverLink, RecoverContent, RecoverTrack, RecoverRelock, RecoverContentRelock, RecoverBiphase, RecoverDvi, Check, Damage, Slip, ReadBiphase, Relay, Sample}
 
 pub data Manner : Type 0 where
   -- it reads its input to the end before it writes
@@ -18,6 +18,7 @@ manner RecoverLink = writes_on
 manner RecoverContent = writes_on
 manner RecoverTrack = writes_on
 manner RecoverRelock = writes_on
+manner RecoverContentRelock = writes_on
 manner (RecoverBiphase pair) = writes_on
 manner RecoverDvi = writes_on
 manner Check = writes_on

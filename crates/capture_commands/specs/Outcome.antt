@@ -45,11 +45,11 @@ use Rattle.relock_sink.specs.Relocks.{relock_rule}
 use Rattle.track_sink.specs.Epochs.{EpochRule, stray_rule, IsTrackBy}
 use Rattle.track_sink.specs.TrackEvents.{TrackEvent}
 use Rattle.track_sink.specs.Tracks.{HasTrackedBy}
-use Rattle.capture_commands.specs.TrackText.{track_faults, track_lines, track_text}
+use Rattle.capture_commands.specs.TrackListings.{TrackListing, link_track_listing, content_track_listing}
 use Rattle.capture_commands.specs.Relays.{IsRelayed, PassesLimit, RelaysBefore, relay_status}
 use Rattle.command_line.specs.Commands.{IsCommand}
 use Rattle.command_line.specs.declared.command.Command.{Command}
-use Rattle.command_line.specs.declared.command.Command.TheVariants.{MakeLink, MakeContent, MakeDvi, RecoverLink, RecoverContent, RecoverTrack, RecoverRelock, RecoverBiphase, RecoverDvi, Check, Damage, Slip, ReadBiphase, Relay, Sample}
+use Rattle.command_line.specs.declared.command.Command.TheVariants.{MakeLink, MakeContent, MakeDvi, RecoverLink, RecoverContent, RecoverTrack, RecoverRelock, RecoverContentRelock, RecoverBiphase, RecoverDvi, Check, Damage, Slip, ReadBiphase, Relay, Sample}
 
 pub record RunOutcome : Type 0 where
   pub status : ℕ
@@ -118,19 +118,19 @@ abbrev pub Samples : ℕ → RunOutcome → Type 0
 Samples frames outcome = (counts : Counts) × IsSampled frames counts × (outcome ≡ record { status = 0; output = counts_text counts; note = [] })
 
 -- the events of lanes are listed, or nothing is where no epoch has a full alignment
-abbrev pub TracksLanes : EpochRule → Fed → RunOutcome → Type 0
-TracksLanes r fed outcome =
+abbrev pub TracksLanes : EpochRule → TrackListing → Fed → RunOutcome → Type 0
+TracksLanes r listing fed outcome =
     ((epochs aligned : ℕ) × (track_events : List TrackEvent) × IsTrackBy r fed epochs aligned track_events
-    × (((0 < aligned) × (outcome ≡ record { status = status_with (track_faults track_events); output = track_text track_events; note = [] }))
+    × (((0 < aligned) × (outcome ≡ record { status = status_with (listing.faults track_events); output = listing.text track_events; note = [] }))
     ⊎ ((aligned ≡ 0) × (outcome ≡ record { status = 7; output = []; note = alignment_note }))))
 
 -- bytes are a capture whose lanes are followed from epoch to epoch, or are refused: what was reported so far of the whole
 -- blocks before is listed
-abbrev pub TracksCapture : EpochRule → List ℕ → RunOutcome → Type 0
-TracksCapture r bytes outcome =
-    ((fed : Fed) × IsCaptureOf fed.blue fed.green fed.red bytes × TracksLanes r fed outcome)
+abbrev pub TracksCapture : EpochRule → TrackListing → List ℕ → RunOutcome → Type 0
+TracksCapture r listing bytes outcome =
+    ((fed : Fed) × IsCaptureOf fed.blue fed.green fed.red bytes × TracksLanes r listing fed outcome)
     ⊎ ((fault : CaptureFault) × (fed : Fed) × (track_events : List TrackEvent) × IsFault bytes fault × AreBefore bytes (place_of fault) fed × HasTrackedBy r fed track_events
-    × (outcome ≡ record { status = 3; output = track_lines track_events; note = capture_note fault }))
+    × (outcome ≡ record { status = 3; output = listing.lines track_events; note = capture_note fault }))
 
 -- the bits of a slip pass the end of their lane, as a header says it
 abbrev pub IsPastEnd : SlipWord → List ℕ → Type 0
@@ -167,8 +167,9 @@ Does (MakeContent tap) input outcome = MakesContent (tap_asked tap) (content_rea
 Does RecoverLink input outcome = ListsCapture link_grammar link_listing input outcome
 Does (MakeDvi tap) input outcome = MakesLink DviSpells (tap_asked tap) (dvi_reads_as input) outcome
 Does RecoverContent input outcome = ListsCapture link_grammar content_listing input outcome
-Does RecoverTrack input outcome = TracksCapture stray_rule input outcome
-Does RecoverRelock input outcome = TracksCapture relock_rule input outcome
+Does RecoverTrack input outcome = TracksCapture stray_rule link_track_listing input outcome
+Does RecoverRelock input outcome = TracksCapture relock_rule link_track_listing input outcome
+Does RecoverContentRelock input outcome = TracksCapture relock_rule content_track_listing input outcome
 Does (RecoverBiphase pair) input outcome = ListsCapture link_grammar (biphase_listing pair) input outcome
 Does RecoverDvi input outcome = ListsCapture dvi_grammar link_listing input outcome
 Does Check input outcome = ListsCapture link_grammar check_listing input outcome

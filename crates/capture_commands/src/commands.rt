@@ -7,6 +7,7 @@ pub(crate) mod make_link;
 pub(crate) mod read_biphase;
 pub(crate) mod recover_biphase;
 pub(crate) mod recover_content;
+pub(crate) mod recover_content_relock;
 pub(crate) mod recover_dvi;
 pub(crate) mod recover_link;
 pub(crate) mod recover_relock;

@@ -24,6 +24,7 @@ pub use commands::make_link::make_link;
 pub use commands::read_biphase::read_biphase;
 pub use commands::recover_biphase::recover_biphase;
 pub use commands::recover_content::recover_content;
+pub use commands::recover_content_relock::recover_content_relock;
 pub use commands::recover_dvi::recover_dvi;
 pub use commands::recover_link::recover_link;
 pub use commands::recover_relock::recover_relock;

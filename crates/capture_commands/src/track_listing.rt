@@ -12,54 +12,57 @@ use crate::feeding::Feeds;
 use crate::listing::{judged, unheard};
 use crate::track_lister::TrackLister;
 use crate::tracking::follow_capture;
-use listing_writer::LinkLister;
-use outside_io::{Sink, Source};
+use outside_io::Source;
 use std::alloc::Global;
 use track_sink::{EpochSink, Watch};
 
-/// Writes the link listing of a capture while it is read: where an epoch of its lanes ends, the lanes are searched anew.
+/// Writes what a lister lists of a capture, while it is read: where an epoch of its lanes ends, the lanes are searched anew.
 #[tactic(auto, using(crate::proofs::Consumed::takes_none))]
-pub(crate) fn list_epochs<F: Feeds, S: Source, K: Sink, W: Watch>(
+pub(crate) fn list_epochs<F: Feeds, S: Source, W: Watch, L: TrackLister>(
     feeding: &F,
     alloc: Global,
     input: &mut S,
-    output: &mut K,
+    lister: &mut L,
 ) -> Ending
-    ensures ends { (command : CommandValue) → IsTracks W.rule command → Ends command result
-        (seen (S.left input.old) (S.faults input.old) (K.held output.old) (K.faults output.old))
-        (seen (S.left input.new) (S.faults input.new) (K.held output.new) (K.faults output.new)) }
+    requires { L.fresh lister.old }
+    ensures ends { (command : CommandValue) → IsTracks W.rule L.listing command → Ends command result
+        (seen (S.left input.old) (S.faults input.old) (L.held lister.old) (L.faults lister.old))
+        (seen (S.left input.new) (S.faults input.new) (L.held lister.new) (L.faults lister.new)) }
+    ensures same { L.name lister.new ≡ L.name lister.old }
     ensures taken { (taken : List ℕ) × Consumes (S.left input.old) (S.left input.new) taken }
     ensures input_later { S.faults input.old ≤ S.faults input.new }
-    ensures output_later { K.faults output.old ≤ K.faults output.new }
+    ensures output_later { L.faults lister.old ≤ L.faults lister.new }
 {
     match EpochSink::open(alloc) {
-        Ok(mut sink) => list_track::<F, S, K, W>(feeding, &mut sink, input, output),
+        Ok(mut sink) => list_track::<F, S, W, L>(feeding, &mut sink, input, lister),
         Err(_) => Ending::NoMemory,
     }
 }
 
 /// The same with a sink that was fed nothing.
-fn list_track<F: Feeds, S: Source, K: Sink, W: Watch>(
+fn list_track<F: Feeds, S: Source, W: Watch, L: TrackLister>(
     feeding: &F,
     sink: &mut EpochSink<W>,
     input: &mut S,
-    output: &mut K,
+    lister: &mut L,
 ) -> Ending
     requires open { sink.old.is_open ≡ true }
     requires fresh { EpochSinkRepresents W.rule W.looked W.passed sink.old no_bits [] }
     requires unfed { most_bits sink.old ≡ 0 }
-    ensures ends { (command : CommandValue) → IsTracks W.rule command → Ends command result
-        (seen (S.left input.old) (S.faults input.old) (K.held output.old) (K.faults output.old))
-        (seen (S.left input.new) (S.faults input.new) (K.held output.new) (K.faults output.new)) }
+    requires reported { L.fresh lister.old }
+    ensures ends { (command : CommandValue) → IsTracks W.rule L.listing command → Ends command result
+        (seen (S.left input.old) (S.faults input.old) (L.held lister.old) (L.faults lister.old))
+        (seen (S.left input.new) (S.faults input.new) (L.held lister.new) (L.faults lister.new)) }
+    ensures same { L.name lister.new ≡ L.name lister.old }
     ensures taken { (taken : List ℕ) × Consumes (S.left input.old) (S.left input.new) taken }
     ensures input_later { S.faults input.old ≤ S.faults input.new }
-    ensures output_later { K.faults output.old ≤ K.faults output.new }
+    ensures output_later { L.faults lister.old ≤ L.faults lister.new }
 {
-    let mut lister = TrackLister {
-        lister: LinkLister::open(output),
-    };
-    match follow_capture(feeding, sink, input, &mut lister) {
-        Ok(outcome) if outcome.aligned > 0 => judged(lister.end(), lister.faults()),
+    match follow_capture(feeding, sink, input, lister) {
+        Ok(outcome) if outcome.aligned > 0 => {
+            let faults = lister.fault_lines();
+            judged(lister.end(), faults)
+        }
         Ok(_) => Ending::Unaligned,
         Err(error) => unheard(error),
     }

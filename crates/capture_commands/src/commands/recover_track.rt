@@ -6,7 +6,9 @@ ghost use Rattle.command_line.specs.declared.command.Command.TheVariants.{Recove
 
 use crate::ending::Ending;
 use crate::feeding::Feeds;
+use crate::track_lister::LinkTrackLister;
 use crate::track_listing::list_epochs;
+use listing_writer::LinkLister;
 use outside_io::{Sink, Source};
 use std::alloc::Global;
 use track_sink::Strays;
@@ -26,5 +28,12 @@ pub fn recover_track<F: Feeds, S: Source, K: Sink>(
     ensures input_later { S.faults input.old ≤ S.faults input.new }
     ensures output_later { K.faults output.old ≤ K.faults output.new }
 {
-    list_epochs::<F, S, K, Strays>(feeding, alloc, input, output)
+    list_epochs::<F, S, Strays, LinkTrackLister<'_, K>>(
+        feeding,
+        alloc,
+        input,
+        &mut LinkTrackLister {
+            lister: LinkLister::open(output),
+        },
+    )
 }

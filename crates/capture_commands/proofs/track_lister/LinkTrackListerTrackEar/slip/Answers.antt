@@ -1,6 +1,6 @@
 use Rattle.std.proofs.Common.{arith}
 use Rattle.capture_commands.specs.TrackText.{slip_tracked}
-use Rattle.capture_commands.proofs.track_lister.TrackListerTrackEar.slip.Goals as goal
+use Rattle.capture_commands.proofs.track_lister.LinkTrackListerTrackEar.slip.Goals as goal
 
 pub returns-clause-ok : goal.returns-clause-ok
 returns-clause-ok g c =
