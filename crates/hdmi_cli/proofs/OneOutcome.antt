@@ -14,11 +14,12 @@ use Rattle.relock_sink.specs.Relocks.{relock_rule}
 use Rattle.relock_sink.specs.RelockRule.{relock_is_rule}
 use Rattle.command_line.specs.Commands.{IsCommand}
 use Rattle.command_line.specs.declared.command.Command.{Command}
-use Rattle.command_line.specs.declared.command.Command.TheVariants.{MakeLink, MakeContent, MakeDvi, RecoverLink, RecoverContent, RecoverTrack, RecoverRelock, RecoverBiphase, RecoverDvi, Check, Damage, Slip, ReadBiphase, Relay, Sample}
+use Rattle.command_line.specs.declared.command.Command.TheVariants.{MakeLink, MakeContent, MakeDvi, RecoverLink, RecoverContent, RecoverTrack, RecoverRelock, RecoverContentRelock, RecoverBiphase, RecoverDvi, Check, Damage, Slip, ReadBiphase, Relay, Sample}
 use Rattle.command_line.proofs.OneCommand.{command_once}
 use Rattle.relay_laws.proofs.OneSpelling.{one_spelling}
 use Rattle.capture_commands.specs.Commands.{hit_asked, tap_asked}
 use Rattle.capture_commands.specs.Listings.{link_listing, check_listing, content_listing, biphase_listing}
+use Rattle.capture_commands.specs.TrackListings.{link_track_listing, content_track_listing}
 use Rattle.hdmi_cli.specs.OneOutcome.{Decides, OneOutcome}
 use Rattle.capture_commands.specs.Outcome.{RunOutcome, Does}
 use Rattle.hdmi_cli.proofs.OneOutcomeCopies.{damages_once, lanes_asked, slips_once, frames_once}
@@ -34,8 +35,9 @@ does_once words (MakeContent tap) bytes o p named decides a b = content_once (ta
 does_once words (MakeDvi tap) bytes o p named decides a b = makes_once DviSpells one_dvi_spelling (tap_asked tap) (dvi_reads_as bytes) o p a b
 does_once words RecoverLink bytes o p named decides a b = lists_once link_grammar link_listing bytes o p a b
 does_once words RecoverContent bytes o p named decides a b = lists_once link_grammar content_listing bytes o p a b
-does_once words RecoverTrack bytes o p named decides a b = tracks_once stray_rule stray_is_rule bytes o p decides a b
-does_once words RecoverRelock bytes o p named decides a b = tracks_once relock_rule relock_is_rule bytes o p decides a b
+does_once words RecoverTrack bytes o p named decides a b = tracks_once stray_rule stray_is_rule link_track_listing bytes o p decides a b
+does_once words RecoverRelock bytes o p named decides a b = tracks_once relock_rule relock_is_rule link_track_listing bytes o p decides a b
+does_once words RecoverContentRelock bytes o p named decides a b = tracks_once relock_rule relock_is_rule content_track_listing bytes o p decides a b
 does_once words (RecoverBiphase pair) bytes o p named decides a b = lists_once link_grammar (biphase_listing pair) bytes o p a b
 does_once words RecoverDvi bytes o p named decides a b = lists_once dvi_grammar link_listing bytes o p a b
 does_once words Check bytes o p named decides a b = lists_once link_grammar check_listing bytes o p a b

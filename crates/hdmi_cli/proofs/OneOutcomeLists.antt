@@ -16,7 +16,7 @@ use Rattle.track_laws.proofs.One.{one_track_by}
 use Rattle.capture_commands.specs.Blocks.{AreBefore, HasBlocks}
 use Rattle.capture_commands.specs.Listings.{Listing}
 use Rattle.capture_commands.specs.Notes.{capture_note}
-use Rattle.capture_commands.specs.TrackText.{track_faults, track_text}
+use Rattle.capture_commands.specs.TrackListings.{TrackListing}
 use Rattle.capture_commands.specs.Outcome.{RunOutcome, status_with, ListsLanes, ListsBefore, ListsCapture, TracksLanes, TracksCapture}
 use Rattle.hdmi_cli.proofs.Headline.{aligned_same, same_lanes}
 
@@ -74,17 +74,17 @@ lists_once g listing bytes o p (inr (fault, refused)) (inr (other, again)) = one
 
 -- ---- tracks
 
-one_tracking : (r : EpochRule) → IsRule r → (fed : Fed) (o p : RunOutcome) → TracksLanes r fed o → TracksLanes r fed p → o ≡ p
-one_tracking r rule fed o p (n, m, us, a, inl (some, is)) (k, j, vs, b, inl (more, are)) =
+one_tracking : (r : EpochRule) → IsRule r → (listing : TrackListing) (fed : Fed) (o p : RunOutcome) → TracksLanes r listing fed o → TracksLanes r listing fed p → o ≡ p
+one_tracking r rule listing fed o p (n, m, us, a, inl (some, is)) (k, j, vs, b, inl (more, are)) =
     let one = one_track_by rule _ _ fed n m k j us vs a b in
-    is ∙ ap (λ ts. record { status = status_with (track_faults ts); output = track_text ts; note = [] }) one.2 ∙ sym are
-one_tracking r rule fed o p (n, m, us, a, inl (some, is)) (k, j, vs, b, inr (none, are)) = let one = one_track_by rule _ _ fed n m k j us vs a b in absurd (omega (arith, one.1, some, none))
-one_tracking r rule fed o p (n, m, us, a, inr (none, is)) (k, j, vs, b, inl (some, are)) = let one = one_track_by rule _ _ fed n m k j us vs a b in absurd (omega (arith, one.1, some, none))
-one_tracking r rule fed o p (n, m, us, a, inr (none, is)) (k, j, vs, b, inr (still, are)) = is ∙ sym are
+    is ∙ ap (λ ts. record { status = status_with (listing.faults ts); output = listing.text ts; note = [] }) one.2 ∙ sym are
+one_tracking r rule listing fed o p (n, m, us, a, inl (some, is)) (k, j, vs, b, inr (none, are)) = let one = one_track_by rule _ _ fed n m k j us vs a b in absurd (omega (arith, one.1, some, none))
+one_tracking r rule listing fed o p (n, m, us, a, inr (none, is)) (k, j, vs, b, inl (some, are)) = let one = one_track_by rule _ _ fed n m k j us vs a b in absurd (omega (arith, one.1, some, none))
+one_tracking r rule listing fed o p (n, m, us, a, inr (none, is)) (k, j, vs, b, inr (still, are)) = is ∙ sym are
 
-pub tracks_once : (r : EpochRule) → IsRule r → (bytes : List ℕ) (o p : RunOutcome) → IsCapture bytes → TracksCapture r bytes o → TracksCapture r bytes p → o ≡ p
-tracks_once r rule bytes o p capture (inl (f, is, tracks)) (inl (g, are, others)) =
+pub tracks_once : (r : EpochRule) → IsRule r → (listing : TrackListing) (bytes : List ℕ) (o p : RunOutcome) → IsCapture bytes → TracksCapture r listing bytes o → TracksCapture r listing bytes p → o ≡ p
+tracks_once r rule listing bytes o p capture (inl (f, is, tracks)) (inl (g, are, others)) =
     let same = one_capture g.blue g.green g.red f.blue f.green f.red bytes are is in
-    one_tracking r rule f o p tracks (subst (λ x. TracksLanes r x p) (same_fed g f same) others)
-tracks_once r rule bytes o p capture (inl a) (inr (fault, g, events, is, before, tracked, are)) = absurd (no_fault bytes fault capture is)
-tracks_once r rule bytes o p capture (inr (fault, g, events, is, before, tracked, are)) b = absurd (no_fault bytes fault capture is)
+    one_tracking r rule listing f o p tracks (subst (λ x. TracksLanes r listing x p) (same_fed g f same) others)
+tracks_once r rule listing bytes o p capture (inl a) (inr (fault, g, events, is, before, tracked, are)) = absurd (no_fault bytes fault capture is)
+tracks_once r rule listing bytes o p capture (inr (fault, g, events, is, before, tracked, are)) b = absurd (no_fault bytes fault capture is)

@@ -1,4 +1,5 @@
--- The rows and frames that `recover content` lists of a raster, and the packets that it lists of any stream, are those that were received.
+-- The rows and frames that `recover content` and `recover content relock` list of a raster, and the packets that they list of any
+-- stream, are those that were received.
 use Rattle.std.proofs.Common.{◌≡◌, ◌≤◌, ℕ, ◌+◌, List, length, map, ap, ◌∙◌, arith}
 use Rattle.std.specs.Prelude.{Option, Some, None}
 use Rattle.std.specs.List.{flat_map}
@@ -21,13 +22,15 @@ use Rattle.listing_laws.proofs.Contents.{raster_packets}
 use Rattle.listing_laws.proofs.PacketLines.{packet_lines_come_back}
 use Rattle.listing_laws.proofs.PacketsListed.{packet_lines_are_listed}
 use Rattle.listing_laws.proofs.Reported.{packets_come_back}
-use Rattle.command_line.specs.declared.command.Command.TheVariants.{RecoverContent}
+use Rattle.command_line.specs.declared.command.Command.{Command}
 use Rattle.capture_commands.specs.Listings.{content_listing}
 use Rattle.command_line.specs.Commands.{IsCommand}
 use Rattle.link_laws.specs.Account.{account}
 use Rattle.hdmi_cli.specs.Headline.{TappedStream, IsTapped, IsRecovered, Aligns, FromFirst, aligned_of}
 use Rattle.hdmi_cli.specs.Pictures.{ArePackets, ArePictures}
 use Rattle.capture_commands.specs.Endings.{Devices, RunEnds, Unless, status_of}
+use Rattle.capture_commands.specs.Outcome.{Does, ListsCapture, RunOutcome}
+use Rattle.link_sink.specs.Grammar.{link_grammar}
 use Rattle.capture_commands.specs.declared.ending.Ending.{Ending}
 use Rattle.hdmi_cli.proofs.Headline.{recovered, unless_so}
 
@@ -42,16 +45,17 @@ pub pictures_are : (mode : Mode) (frames : List Frame) → raster_fault mode fra
 unfolding content_text
 pictures_are mode frames none t is d e f a status old new reception h = grind (arith, frame_lines_come_back, within_received)
 
-pub pictured : (words : List (List ℕ)) (ending : Ending) (before after : Devices) (status : ℕ) → RunEnds words ending before after → status ≡ status_of ending → IsCommand words RecoverContent
+pub pictured : (this : Command) → ((t : TappedStream) → IsTapped t → Aligns t → (o : RunOutcome) → Does this t.bytes o → ListsCapture link_grammar content_listing t.bytes o)
+    → (words : List (List ℕ)) (ending : Ending) (before after : Devices) (status : ℕ) → RunEnds words ending before after → status ≡ status_of ending → IsCommand words this
     → (mode : Mode) (frames : List Frame) → raster_fault mode frames ≡ None → (t : TappedStream) → t.periods ≡ raster_of mode frames → IsTapped t → Aligns t → before.left ≡ Some t.bytes
     → Unless (λ s old new. FromFirst t (λ d e f a. ArePictures mode frames t d e f a old new)) status before after
-pictured words ending before after status ends is named mode frames none t raster tapped aligns left =
+pictured this lists words ending before after status ends is named mode frames none t raster tapped aligns left =
     unless_so
     (λ s old new. FromFirst t (λ d e f a. IsRecovered content_listing t d e f a s old new))
     (λ s old new. FromFirst t (λ d e f a. ArePictures mode frames t d e f a old new))
     status before after
     (λ h. (h.0, h.1, h.2, h.3, (h.4.0, h.4.1, pictures_are mode frames none t raster h.0 h.1 h.2 h.4.0 status before.held after.held tapped.reception h.4.2)))
-    (recovered content_listing RecoverContent (λ t tapped aligns o does. does) words ending before after status ends is named t tapped aligns left)
+    (recovered content_listing this lists words ending before after status ends is named t tapped aligns left)
 
 -- the packets of a raster are those of its content
 packets_of_content : (t : TappedStream) (mode : Mode) (frames : List Frame) → raster_fault mode frames ≡ None → t.periods ≡ raster_of mode frames
@@ -74,13 +78,14 @@ packets_are t d e f a status old new reception h =
       content = packets_of_content t;
     }
 
-pub packeted : (words : List (List ℕ)) (ending : Ending) (before after : Devices) (status : ℕ) → RunEnds words ending before after → status ≡ status_of ending → IsCommand words RecoverContent
+pub packeted : (this : Command) → ((t : TappedStream) → IsTapped t → Aligns t → (o : RunOutcome) → Does this t.bytes o → ListsCapture link_grammar content_listing t.bytes o)
+    → (words : List (List ℕ)) (ending : Ending) (before after : Devices) (status : ℕ) → RunEnds words ending before after → status ≡ status_of ending → IsCommand words this
     → (t : TappedStream) → IsTapped t → Aligns t → before.left ≡ Some t.bytes
     → Unless (λ s old new. FromFirst t (λ d e f a. ArePackets t d e f a old new)) status before after
-packeted words ending before after status ends is named t tapped aligns left =
+packeted this lists words ending before after status ends is named t tapped aligns left =
     unless_so
     (λ s old new. FromFirst t (λ d e f a. IsRecovered content_listing t d e f a s old new))
     (λ s old new. FromFirst t (λ d e f a. ArePackets t d e f a old new))
     status before after
     (λ h. (h.0, h.1, h.2, h.3, (h.4.0, h.4.1, packets_are t h.0 h.1 h.2 h.4.0 status before.held after.held tapped.reception h.4.2)))
-    (recovered content_listing RecoverContent (λ t tapped aligns o does. does) words ending before after status ends is named t tapped aligns left)
+    (recovered content_listing this lists words ending before after status ends is named t tapped aligns left)

@@ -1,4 +1,4 @@
--- `recover relock` of a stream that comes after any bits: the epochs before its last one are passed, and what is reported of that one is the account.
+-- `recover relock` and `recover content relock` of a stream that comes after any bits: the epochs before its last one are passed, and what is reported of that one is the account.
 use Rattle.std.proofs.Common.{◌≡◌, ◌⊎◌, ℕ, zero, suc, ◌+◌, ◌<◌, Bool, true, false, ◌||◌, List, [], ◌++◌, refl, ap, ap₂, sym, ◌∙◌, subst, inl, inr, arith, append_assoc}
 use Rattle.std.specs.Prelude.{Option, Some}
 use Rattle.std.specs.Io.KnownBytes.{Appends}
@@ -12,7 +12,8 @@ use Rattle.link_sink.specs.Alignment.{reported_by}
 use Rattle.link_sink.specs.Sinks.{Fed}
 use Rattle.capture_file.proofs.OneCapture.{one_capture, no_fault}
 use Rattle.command_line.specs.Commands.{IsCommand}
-use Rattle.command_line.specs.declared.command.Command.TheVariants.{RecoverRelock}
+use Rattle.command_line.specs.declared.command.Command.{Command}
+use Rattle.command_line.specs.declared.command.Command.TheVariants.{RecoverRelock, RecoverContentRelock}
 use Rattle.track_sink.specs.Epochs.{EpochRule, rest_of, IsTrackBy, IsTrackedBy, last_epoch, more_epochs}
 use Rattle.track_sink.specs.Feds.{rest_of_rest, same_fed}
 use Rattle.track_sink.specs.Rules.{IsRule}
@@ -24,9 +25,9 @@ use Rattle.relock_laws.specs.Settled.{IsStart, first_start, next_start}
 use Rattle.relock_laws.proofs.Again.{recovers_again}
 use Rattle.capture_commands.specs.Endings.{Devices, RunEnds, Unless, status_of}
 use Rattle.capture_commands.specs.Notes.{alignment_note}
-use Rattle.capture_commands.specs.Outcome.{RunOutcome, TracksLanes, TracksCapture, status_with}
+use Rattle.capture_commands.specs.Outcome.{Does, RunOutcome, TracksLanes, TracksCapture, status_with}
 use Rattle.hdmi_cli.specs.RelockAgain.{AgainStream, ComesAgain, IsRelockedAgain}
-use Rattle.capture_commands.specs.TrackText.{track_faults, track_text}
+use Rattle.capture_commands.specs.TrackListings.{TrackListing, content_track_listing, link_track_listing}
 use Rattle.capture_commands.specs.declared.ending.Ending.{Ending}
 use Rattle.hdmi_cli.proofs.Headline.{run_ended}
 use Rattle.hdmi_cli.proofs.TrackHeadline.{epoch_reported}
@@ -94,15 +95,15 @@ is_aligned true xs ys zs columns events d e f reported first = refl
 is_aligned false xs ys zs columns events d e f reported first = absurd (reported.nowhere d e f first.triple)
 
 -- what is written of lanes of which an epoch is aligned
-text_is : (o : RunOutcome) (aligned : ℕ) (track_events : List TrackEvent)
-    → ((0 < aligned) × (o ≡ record { status = status_with (track_faults track_events); output = track_text track_events; note = [] }))
+text_is : (listing : TrackListing) (o : RunOutcome) (aligned : ℕ) (track_events : List TrackEvent)
+    → ((0 < aligned) × (o ≡ record { status = status_with (listing.faults track_events); output = listing.text track_events; note = [] }))
     ⊎ ((aligned ≡ 0) × (o ≡ record { status = 7; output = []; note = alignment_note }))
-    → 0 < aligned → o.output ≡ track_text track_events
-text_is o aligned track_events (inl (some, is)) more = ap (λ (x : RunOutcome). x.output) is
-text_is o aligned track_events (inr (none, is)) more = absurd (omega (arith, none, more))
+    → 0 < aligned → o.output ≡ listing.text track_events
+text_is listing o aligned track_events (inl (some, is)) more = ap (λ (x : RunOutcome). x.output) is
+text_is listing o aligned track_events (inr (none, is)) more = absurd (omega (arith, none, more))
 
-again : (t : AgainStream) → ComesAgain t → (o : RunOutcome) (old new : Option (List ℕ)) → TracksLanes relock_rule t.lanes o → Appends old new o.output → IsRelockedAgain t old new
-again t comes o old new (epochs, aligned, track_events, track, outcome) written =
+again : (listing : TrackListing) (t : AgainStream) → ComesAgain t → (o : RunOutcome) (old new : Option (List ℕ)) → TracksLanes relock_rule listing t.lanes o → Appends old new o.output → IsRelockedAgain listing t old new
+again listing t comes o old new (epochs, aligned, track_events, track, outcome) written =
     let law = recovers_again t.periods t.sent t.received t.offset t.skews t.counts t.tapped t.lanes t.before t.a t.blue t.green t.red comes.again in
     let start = law.0 in
     let p = law.2.0 in
@@ -128,21 +129,32 @@ again t comes o old new (epochs, aligned, track_events, track, outcome) written 
           let events_are = here ∙ is.reported in
           let count = from.count in
           let aligned_is = epoch.aligned_is in
-          let text = text_is o aligned track_events outcome (omega (arith, count, aligned_is, some)) in
+          let text = text_is listing o aligned track_events outcome (omega (arith, count, aligned_is, some)) in
           let all = from.are ∙ ap (λ us. from.first ++ us) (epoch.track_events_are ∙ ap track_events_of events_are) in
-          (from.first, subst (λ (bytes : List ℕ). Appends old new bytes) (text ∙ ap track_text all) written);
+          (from.first, subst (λ (bytes : List ℕ). Appends old new bytes) (text ∙ ap listing.text all) written);
     }
 
-of_bytes : (t : AgainStream) → ComesAgain t → (o : RunOutcome) (old new : Option (List ℕ)) → TracksCapture relock_rule t.bytes o → Appends old new o.output → IsRelockedAgain t old new
-of_bytes t comes o old new (inl (fed, captured, lanes)) written =
+of_bytes : (listing : TrackListing) (t : AgainStream) → ComesAgain t → (o : RunOutcome) (old new : Option (List ℕ)) → TracksCapture relock_rule listing t.bytes o → Appends old new o.output → IsRelockedAgain listing t old new
+of_bytes listing t comes o old new (inl (fed, captured, lanes)) written =
     let same = one_capture t.lanes.blue t.lanes.green t.lanes.red fed.blue fed.green fed.red t.bytes comes.captured captured in
-    again t comes o old new (subst (λ x. TracksLanes relock_rule x o) (sym (same_fed t.lanes fed same.blue same.green same.red)) lanes) written
-of_bytes t comes o old new (inr (fault, fed, track_events, faulty, before, reported, is)) written =
+    again listing t comes o old new (subst (λ x. TracksLanes relock_rule listing x o) (sym (same_fed t.lanes fed same.blue same.green same.red)) lanes) written
+of_bytes listing t comes o old new (inr (fault, fed, track_events, faulty, before, reported, is)) written =
     absurd (no_fault t.bytes fault (record { blue = t.lanes.blue; green = t.lanes.green; red = t.lanes.red; holds = comes.captured }) faulty)
 
-pub relocked_again : (words : List (List ℕ)) (ending : Ending) (before after : Devices) (status : ℕ) → RunEnds words ending before after → status ≡ status_of ending → IsCommand words RecoverRelock
-    → (t : AgainStream) → ComesAgain t → before.left ≡ Some t.bytes → Unless (λ _ old new. IsRelockedAgain t old new) status before after
-relocked_again words ending before after status ends is named t comes left =
-    run_ended (λ _ old new. IsRelockedAgain t old new) RecoverRelock words ending before after status ends is named (λ answers.
+again_of : (listing : TrackListing) (this : Command) → ((bytes : List ℕ) (o : RunOutcome) → Does this bytes o → TracksCapture relock_rule listing bytes o)
+    → (words : List (List ℕ)) (ending : Ending) (before after : Devices) (status : ℕ) → RunEnds words ending before after → status ≡ status_of ending → IsCommand words this
+    → (t : AgainStream) → ComesAgain t → before.left ≡ Some t.bytes → Unless (λ _ old new. IsRelockedAgain listing t old new) status before after
+again_of listing this tracks words ending before after status ends is named t comes left =
+    run_ended (λ _ old new. IsRelockedAgain listing t old new) this words ending before after status ends is named (λ answers.
     let answer = answers t.bytes left in
-    of_bytes t comes answer.outcome before.held after.held answer.does answer.written)
+    of_bytes listing t comes answer.outcome before.held after.held (tracks t.bytes answer.outcome answer.does) answer.written)
+
+pub relocked_again : (words : List (List ℕ)) (ending : Ending) (before after : Devices) (status : ℕ) → RunEnds words ending before after → status ≡ status_of ending → IsCommand words RecoverRelock
+    → (t : AgainStream) → ComesAgain t → before.left ≡ Some t.bytes → Unless (λ _ old new. IsRelockedAgain link_track_listing t old new) status before after
+relocked_again words ending before after status ends is named t comes left =
+    again_of link_track_listing RecoverRelock (λ bytes o does. does) words ending before after status ends is named t comes left
+
+pub content_relocked_again : (words : List (List ℕ)) (ending : Ending) (before after : Devices) (status : ℕ) → RunEnds words ending before after → status ≡ status_of ending → IsCommand words RecoverContentRelock
+    → (t : AgainStream) → ComesAgain t → before.left ≡ Some t.bytes → Unless (λ _ old new. IsRelockedAgain content_track_listing t old new) status before after
+content_relocked_again words ending before after status ends is named t comes left =
+    again_of content_track_listing RecoverContentRelock (λ bytes o does. does) words ending before after status ends is named t comes left

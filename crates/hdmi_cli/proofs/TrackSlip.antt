@@ -14,7 +14,7 @@ use Rattle.link_sink.specs.declared.hear.Outcome.{Outcome}
 use Rattle.capture_file.proofs.OneCapture.{one_capture, no_fault}
 use Rattle.command_line.specs.Commands.{IsCommand}
 use Rattle.command_line.specs.declared.command.Command.{Command}
-use Rattle.command_line.specs.declared.command.Command.TheVariants.{RecoverTrack, RecoverRelock}
+use Rattle.command_line.specs.declared.command.Command.TheVariants.{RecoverTrack, RecoverRelock, RecoverContentRelock}
 use Rattle.track_sink.specs.Epochs.{EpochRule, stray_rule, rest_of, IsEnd, HasNoEnd, IsTrackedBy, last_epoch, more_epochs}
 use Rattle.track_sink.specs.Rules.{IsRule}
 use Rattle.track_sink.specs.StrayRule.{stray_is_rule}
@@ -29,6 +29,7 @@ use Rattle.track_laws.proofs.Before.{first_epoch}
 use Rattle.capture_commands.specs.Endings.{Devices, RunEnds, Unless, status_of}
 use Rattle.hdmi_cli.specs.Headline.{TappedStream}
 use Rattle.capture_commands.specs.Outcome.{Does, RunOutcome, TracksLanes, TracksCapture}
+use Rattle.capture_commands.specs.TrackListings.{TrackListing, content_track_listing, link_track_listing}
 use Rattle.hdmi_cli.specs.TrackSlip.{LineSlip, lanes_of, IsSlippedTap, IsNoticed, track_events_across, IsTrackedAcross}
 use Rattle.capture_commands.specs.declared.ending.Ending.{Ending}
 use Rattle.hdmi_cli.proofs.Headline.{aligned_same, run_ended}
@@ -88,9 +89,9 @@ neither a b h k = grind arith
 abbrev AlsoEnds : EpochRule → LineSlip → Fed → Type 0
 AlsoEnds r s y = (start : ℕ) → IsEnd y s.lane start → HasNoEnd (rest_of start y) → r.ends y (Slip s.lane) start × r.none (rest_of start y)
 
-across : (r : EpochRule) → IsRule r → (t : TappedStream) (s : LineSlip) (y : Fed) → AlsoEnds r s y → IsSlippedTap t s y → IsNoticed t s → (o : RunOutcome) (status : ℕ) (old new : Option (List ℕ))
-    → TracksLanes r y o → o.status ≡ status → Appends old new o.output → IsTrackedAcross t s y status old new
-across r rule t s y also tapped noticed o status old new (epochs, aligned, track_events, track, outcome) status_is written =
+across : (r : EpochRule) → IsRule r → (listing : TrackListing) (t : TappedStream) (s : LineSlip) (y : Fed) → AlsoEnds r s y → IsSlippedTap t s y → IsNoticed t s → (o : RunOutcome) (status : ℕ) (old new : Option (List ℕ))
+    → TracksLanes r listing y o → o.status ≡ status → Appends old new o.output → IsTrackedAcross listing t s y status old new
+across r rule listing t s y also tapped noticed o status old new (epochs, aligned, track_events, track, outcome) status_is written =
     let reception : Received t.periods t.sent t.received t.offset t.skews t.counts (lanes_of t) = record { reception = tapped.reception; tapped = tapped.tap } in
     let found = slip_noticed t.periods t.sent t.received t.offset t.skews t.counts (lanes_of t) y s.lane s.place s.dropped s.first s.next reception tapped.slips tapped.in_line
     noticed.lock noticed.is_lock noticed.before noticed.early noticed.few noticed.control noticed.whole in
@@ -118,32 +119,43 @@ across r rule t s y also tapped noticed o status old new (epochs, aligned, track
       unaligned = grind (arith, neither);
     }
 
-of_capture : (r : EpochRule) → IsRule r → (t : TappedStream) (s : LineSlip) (y : Fed) → AlsoEnds r s y → IsSlippedTap t s y → IsNoticed t s → (o : RunOutcome) (status : ℕ) (old new : Option (List ℕ))
-    → TracksCapture r t.bytes o → o.status ≡ status → Appends old new o.output → IsTrackedAcross t s y status old new
-of_capture r rule t s y also tapped noticed o status old new (inl (fed, captured, lanes)) status_is written =
+of_capture : (r : EpochRule) → IsRule r → (listing : TrackListing) (t : TappedStream) (s : LineSlip) (y : Fed) → AlsoEnds r s y → IsSlippedTap t s y → IsNoticed t s → (o : RunOutcome) (status : ℕ) (old new : Option (List ℕ))
+    → TracksCapture r listing t.bytes o → o.status ≡ status → Appends old new o.output → IsTrackedAcross listing t s y status old new
+of_capture r rule listing t s y also tapped noticed o status old new (inl (fed, captured, lanes)) status_is written =
     let same = one_capture y.blue y.green y.red fed.blue fed.green fed.red t.bytes tapped.captured captured in
     let fed_is : fed ≡ y = λ i. record { blue = sym same.blue i; green = sym same.green i; red = sym same.red i } in
-    across r rule t s y also tapped noticed o status old new (subst (λ x. TracksLanes r x o) fed_is lanes) status_is written
-of_capture r rule t s y also tapped noticed o status old new (inr (fault, fed, track_events, faulty, before, reported, is)) status_is written =
+    across r rule listing t s y also tapped noticed o status old new (subst (λ x. TracksLanes r listing x o) fed_is lanes) status_is written
+of_capture r rule listing t s y also tapped noticed o status old new (inr (fault, fed, track_events, faulty, before, reported, is)) status_is written =
     absurd (no_fault t.bytes fault (record { blue = y.blue; green = y.green; red = y.red; holds = tapped.captured }) faulty)
 
-pub across_of : (r : EpochRule) → IsRule r → (this : Command) → ((bytes : List ℕ) (o : RunOutcome) → Does this bytes o → TracksCapture r bytes o)
+pub across_of : (r : EpochRule) → IsRule r → (listing : TrackListing) (this : Command) → ((bytes : List ℕ) (o : RunOutcome) → Does this bytes o → TracksCapture r listing bytes o)
     → (words : List (List ℕ)) (ending : Ending) (before after : Devices) (status : ℕ) → RunEnds words ending before after → status ≡ status_of ending → IsCommand words this
-    → (t : TappedStream) (s : LineSlip) (y : Fed) → AlsoEnds r s y → IsSlippedTap t s y → IsNoticed t s → before.left ≡ Some t.bytes → Unless (IsTrackedAcross t s y) status before after
-across_of r rule this tracks words ending before after status ends is named t s y also tapped noticed left =
-    run_ended (IsTrackedAcross t s y) this words ending before after status ends is named (λ answers.
+    → (t : TappedStream) (s : LineSlip) (y : Fed) → AlsoEnds r s y → IsSlippedTap t s y → IsNoticed t s → before.left ≡ Some t.bytes → Unless (IsTrackedAcross listing t s y) status before after
+across_of r rule listing this tracks words ending before after status ends is named t s y also tapped noticed left =
+    run_ended (IsTrackedAcross listing t s y) this words ending before after status ends is named (λ answers.
     let answer = answers t.bytes left in
-    of_capture r rule t s y also tapped noticed answer.outcome (status_of ending) before.held after.held (tracks t.bytes answer.outcome answer.does) answer.status answer.written)
+    of_capture r rule listing t s y also tapped noticed answer.outcome (status_of ending) before.held after.held (tracks t.bytes answer.outcome answer.does) answer.status answer.written)
 
 pub tracked_across : (words : List (List ℕ)) (ending : Ending) (before after : Devices) (status : ℕ) → RunEnds words ending before after → status ≡ status_of ending → IsCommand words RecoverTrack
-    → (t : TappedStream) (s : LineSlip) (y : Fed) → IsSlippedTap t s y → IsNoticed t s → before.left ≡ Some t.bytes → Unless (IsTrackedAcross t s y) status before after
+    → (t : TappedStream) (s : LineSlip) (y : Fed) → IsSlippedTap t s y → IsNoticed t s → before.left ≡ Some t.bytes → Unless (IsTrackedAcross link_track_listing t s y) status before after
 tracked_across words ending before after status ends is named t s y tapped noticed left =
-    across_of stray_rule stray_is_rule RecoverTrack (λ bytes o does. does) words ending before after status ends is named t s y (λ start end none. (end, none)) tapped noticed left
+    across_of stray_rule stray_is_rule link_track_listing RecoverTrack (λ bytes o does. does) words ending before after status ends is named t s y (λ start end none. (end, none)) tapped noticed left
 
-pub relocked_across : (words : List (List ℕ)) (ending : Ending) (before after : Devices) (status : ℕ) → RunEnds words ending before after → status ≡ status_of ending → IsCommand words RecoverRelock
-    → (t : TappedStream) (s : LineSlip) (y : Fed) → IsSlippedTap t s y → IsNoticed t s → before.left ≡ Some t.bytes → Unless (IsTrackedAcross t s y) status before after
-relocked_across words ending before after status ends is named t s y tapped noticed left =
+relocked_of : (listing : TrackListing) (this : Command) → ((bytes : List ℕ) (o : RunOutcome) → Does this bytes o → TracksCapture relock_rule listing bytes o)
+    → (words : List (List ℕ)) (ending : Ending) (before after : Devices) (status : ℕ) → RunEnds words ending before after → status ≡ status_of ending → IsCommand words this
+    → (t : TappedStream) (s : LineSlip) (y : Fed) → IsSlippedTap t s y → IsNoticed t s → before.left ≡ Some t.bytes → Unless (IsTrackedAcross listing t s y) status before after
+relocked_of listing this tracks words ending before after status ends is named t s y tapped noticed left =
     let reception : Received t.periods t.sent t.received t.offset t.skews t.counts (lanes_of t) = record { reception = tapped.reception; tapped = tapped.tap } in
     let law = slip_ends t.periods t.sent t.received t.offset t.skews t.counts (lanes_of t) y s.lane s.place s.dropped s.first s.next reception tapped.slips tapped.in_line in
-    across_of relock_rule relock_is_rule RecoverRelock (λ bytes o does. does) words ending before after status ends is named t s y
+    across_of relock_rule relock_is_rule listing this tracks words ending before after status ends is named t s y
     (λ start end none. let slip = law.ends s.lane start end in (slip, law.then s.lane start slip)) tapped noticed left
+
+pub relocked_across : (words : List (List ℕ)) (ending : Ending) (before after : Devices) (status : ℕ) → RunEnds words ending before after → status ≡ status_of ending → IsCommand words RecoverRelock
+    → (t : TappedStream) (s : LineSlip) (y : Fed) → IsSlippedTap t s y → IsNoticed t s → before.left ≡ Some t.bytes → Unless (IsTrackedAcross link_track_listing t s y) status before after
+relocked_across words ending before after status ends is named t s y tapped noticed left =
+    relocked_of link_track_listing RecoverRelock (λ bytes o does. does) words ending before after status ends is named t s y tapped noticed left
+
+pub content_relocked_across : (words : List (List ℕ)) (ending : Ending) (before after : Devices) (status : ℕ) → RunEnds words ending before after → status ≡ status_of ending → IsCommand words RecoverContentRelock
+    → (t : TappedStream) (s : LineSlip) (y : Fed) → IsSlippedTap t s y → IsNoticed t s → before.left ≡ Some t.bytes → Unless (IsTrackedAcross content_track_listing t s y) status before after
+content_relocked_across words ending before after status ends is named t s y tapped noticed left =
+    relocked_of content_track_listing RecoverContentRelock (λ bytes o does. does) words ending before after status ends is named t s y tapped noticed left

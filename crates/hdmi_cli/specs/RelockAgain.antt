@@ -1,4 +1,4 @@
--- What `recover relock` makes of a capture whose lanes have any bits first, and then those of a tapped stream.
+-- What `recover relock` and `recover content relock` make of a capture whose lanes have any bits first, and then those of a tapped stream.
 use Rattle.std.specs.Prelude.{◌≡◌, ◌+◌, ℕ, List, ◌++◌, length, Option}
 use Rattle.std.specs.Io.KnownBytes.{Appends}
 use Rattle.tmds_word.specs.Column.{Column}
@@ -11,7 +11,7 @@ use Rattle.track_sink.specs.Epochs.{rest_of}
 use Rattle.track_sink.specs.TrackEvents.{TrackEvent, track_events_of}
 use Rattle.relock_sink.specs.Relocks.{IsLastEpoch}
 use Rattle.relock_laws.specs.Settled.{IsAgain, IsSettled, IsStart}
-use Rattle.capture_commands.specs.TrackText.{track_text}
+use Rattle.capture_commands.specs.TrackListings.{TrackListing}
 
 -- a stream that comes again: the periods that are sent, the columns as they are sent and as they are received, where in them each
 -- lane begins and how many bits it has of them, how many bits each lane has before, and all its bits; the edges of a control
@@ -40,7 +40,7 @@ pub record ComesAgain (t : AgainStream) : Type 0 where
 
 -- An epoch that has the last twelve of these characters is the last; it is aligned at that control period, or before it where a
 -- guard band confirmed it. Where it is aligned there, the output grew by a text that ends with the account from column a on.
-pub record IsRelockedAgain (t : AgainStream) (old new : Option (List ℕ)) : Type 0 where
+pub record IsRelockedAgain (listing : TrackListing) (t : AgainStream) (old new : Option (List ℕ)) : Type 0 where
   pub start : ℕ
   pub begins : IsStart t.lanes start
   pub edge_blue : ℕ
@@ -51,5 +51,5 @@ pub record IsRelockedAgain (t : AgainStream) (old new : Option (List ℕ)) : Typ
   pub written :
       start + edge_blue ≡ t.blue
       → (first : List TrackEvent)
-      × Appends old new (track_text (first ++ track_events_of (account t.periods t.sent t.received t.a
+      × Appends old new (listing.text (first ++ track_events_of (account t.periods t.sent t.received t.a
       (length (aligned_columns (rest_of start t.lanes).blue (rest_of start t.lanes).green (rest_of start t.lanes).red edge_blue edge_green edge_red)))))

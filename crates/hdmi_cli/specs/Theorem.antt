@@ -25,10 +25,11 @@ use Rattle.hdmi_cli.specs.Pictures.{ArePackets, ArePictures}
 use Rattle.hdmi_cli.specs.Sounds.{AreSamples}
 use Rattle.hdmi_cli.specs.Exact.{IsAlignedCapture, IsJudged}
 use Rattle.capture_commands.specs.Listings.{link_listing, content_listing, check_listing}
+use Rattle.capture_commands.specs.TrackListings.{link_track_listing, content_track_listing}
 use Rattle.capture_commands.specs.Outcome.{RunOutcome, Relays}
 use Rattle.capture_commands.specs.Endings.{Devices, Unless}
 use Rattle.command_line.specs.Commands.{IsCommand}
-use Rattle.command_line.specs.declared.command.Command.TheVariants.{RecoverLink, RecoverContent, RecoverTrack, RecoverRelock, RecoverBiphase, RecoverDvi, Check, Relay}
+use Rattle.command_line.specs.declared.command.Command.TheVariants.{RecoverLink, RecoverContent, RecoverTrack, RecoverRelock, RecoverContentRelock, RecoverBiphase, RecoverDvi, Check, Relay}
 
 -- Each theorem holds but where a device failed or memory was wanting (`Unless`). Where it begins with `Aligns t`, it holds of damage of
 -- pixels and packets alone and of damage anywhere after an alignment.
@@ -118,25 +119,41 @@ pub record Promises (words : List (List ℕ)) (status : ℕ) (before after : Dev
   -- on, and what is reported in the first, of columns that end before the slip, is the account. The lines of both are
   -- written, and the slip's.
   pub track_slip : IsCommand words RecoverTrack → (t : TappedStream) → (s : LineSlip) → (y : Fed) → IsSlippedTap t s y → IsNoticed t s
-      → before.left ≡ Some t.bytes → Unless (IsTrackedAcross t s y) status before after
+      → before.left ≡ Some t.bytes → Unless (IsTrackedAcross link_track_listing t s y) status before after
   -- Where such a slip is not noticed, there is one epoch, and the text and the status are those of `recover link`. It is not
   -- where the lane had no lock before it, and then all is reported as it was sent, from the first full alignment on;
   -- nor where the lane ends before it has twelve characters of the control period after the line.
   pub track_slip_passes : IsCommand words RecoverTrack → (t : TappedStream) → (s : LineSlip) → (y : Fed) → IsSlippedTap t s y → IsUnnoticed t s
-      → before.left ≡ Some t.bytes → Unless (IsTrackedAsOne t s y) status before after
+      → before.left ≡ Some t.bytes → Unless (IsTrackedAsOne RecoverLink link_listing t s y) status before after
   -- `recover relock` writes the text of `recover link`, and across a slip what `recover track` writes: the alignment of a stream that was
   -- received with sparse damage is confirmed by the guard band after it.
   pub relock_headline : IsCommand words RecoverRelock → (t : TappedStream) → IsTapped t → Aligns t → before.left ≡ Some t.bytes
       → Unless (λ status held holds. FromFirst t (λ d e f a. IsRecovered link_listing t d e f a status held holds)) status before after
   pub relock_slip : IsCommand words RecoverRelock → (t : TappedStream) → (s : LineSlip) → (y : Fed) → IsSlippedTap t s y → IsNoticed t s
-      → before.left ≡ Some t.bytes → Unless (IsTrackedAcross t s y) status before after
+      → before.left ≡ Some t.bytes → Unless (IsTrackedAcross link_track_listing t s y) status before after
   pub relock_slip_passes : IsCommand words RecoverRelock → (t : TappedStream) → (s : LineSlip) → (y : Fed) → IsSlippedTap t s y → IsUnnoticed t s
-      → before.left ≡ Some t.bytes → Unless (IsTrackedAsOne t s y) status before after
+      → before.left ≡ Some t.bytes → Unless (IsTrackedAsOne RecoverLink link_listing t s y) status before after
   -- Whatever bits came before: from a control period on of which nineteen characters were received on each lane, and a guard band
   -- after it, the stream is listed as it was sent, where its alignment is at that control period. It is at that one, or at one before
   -- that a guard band confirmed.
   pub relock_again : IsCommand words RecoverRelock → (t : AgainStream) → ComesAgain t → before.left ≡ Some t.bytes
-      → Unless (λ _ held holds. IsRelockedAgain t held holds) status before after
+      → Unless (λ _ held holds. IsRelockedAgain link_track_listing t held holds) status before after
+  -- `recover content relock` writes the text of `recover content`, and so the rows, frames and packets that were received.
+  pub content_relock_headline : IsCommand words RecoverContentRelock → (t : TappedStream) → IsTapped t → Aligns t → before.left ≡ Some t.bytes
+      → Unless (λ status held holds. FromFirst t (λ d e f a. IsRecovered content_listing t d e f a status held holds)) status before after
+  pub content_relock_pictures : IsCommand words RecoverContentRelock
+      → (mode : Mode) (frames : List Frame) → raster_fault mode frames ≡ None → (t : TappedStream) → t.periods ≡ raster_of mode frames → IsTapped t → Aligns t
+      → before.left ≡ Some t.bytes
+      → Unless (λ status held holds. FromFirst t (λ d e f a. ArePictures mode frames t d e f a held holds)) status before after
+  pub content_relock_packets : IsCommand words RecoverContentRelock → (t : TappedStream) → IsTapped t → Aligns t → before.left ≡ Some t.bytes
+      → Unless (λ status held holds. FromFirst t (λ d e f a. ArePackets t d e f a held holds)) status before after
+  -- Across a slip and after any bits it writes the content of the events and slips that `recover relock` writes.
+  pub content_relock_slip : IsCommand words RecoverContentRelock → (t : TappedStream) → (s : LineSlip) → (y : Fed) → IsSlippedTap t s y → IsNoticed t s
+      → before.left ≡ Some t.bytes → Unless (IsTrackedAcross content_track_listing t s y) status before after
+  pub content_relock_slip_passes : IsCommand words RecoverContentRelock → (t : TappedStream) → (s : LineSlip) → (y : Fed) → IsSlippedTap t s y → IsUnnoticed t s
+      → before.left ≡ Some t.bytes → Unless (IsTrackedAsOne RecoverContent content_listing t s y) status before after
+  pub content_relock_again : IsCommand words RecoverContentRelock → (t : AgainStream) → ComesAgain t → before.left ≡ Some t.bytes
+      → Unless (λ _ held holds. IsRelockedAgain content_track_listing t held holds) status before after
   -- `relay` sends on what was received of the periods that were sent, from the first full alignment on; or it ends with 3 and
   -- writes nothing, where that has more than 20,000,000 columns.
   pub relay_headline : IsCommand words Relay → (t : TappedStream) → IsTapped t → Aligns t → before.left ≡ Some t.bytes

@@ -18,7 +18,7 @@ use Rattle.track_sink.specs.TrackEvents.{TrackEvent, track_events_of, slip_if}
 use Rattle.track_laws.specs.Laws.{Slipped, SlipsInVideo, BeginsAgain, FirstAccounted, later_skews, words_at}
 use Rattle.hdmi_cli.specs.Headline.{TappedStream}
 use Rattle.capture_commands.specs.Outcome.{status_with}
-use Rattle.capture_commands.specs.TrackText.{track_faults, track_text}
+use Rattle.capture_commands.specs.TrackListings.{TrackListing}
 
 -- a lane lost so many bits from a place on, within pixels of a line, of which the first one named is column `first`; column
 -- `next` is the first of the control period after that line
@@ -71,7 +71,7 @@ track_events_across aligned first lane start second = track_events_of first ++ (
 -- What is reported of the first is the account as far as columns end before the slip, what is reported of the second is
 -- the account from its first full alignment on. The output grew by the lines of both with the slip's between them, or
 -- by nothing where none has a full alignment.
-pub record IsTrackedAcross (t : TappedStream) (s : LineSlip) (y : Fed) (status : ℕ) (old new : Option (List ℕ)) : Type 0 where
+pub record IsTrackedAcross (listing : TrackListing) (t : TappedStream) (s : LineSlip) (y : Fed) (status : ℕ) (old new : Option (List ℕ)) : Type 0 where
   pub start : ℕ
   pub begins : BeginsAgain t.received t.offset t.skews s.lane s.dropped s.next start
   pub one : Outcome
@@ -89,6 +89,6 @@ pub record IsTrackedAcross (t : TappedStream) (s : LineSlip) (y : Fed) (status :
       × (after ≡ account t.periods t.sent t.received a (columns_in (rest_of start y) d e f))
   pub aligned :
       (one.aligned || two.aligned) ≡ true
-      → (status ≡ status_with (track_faults (track_events_across one.aligned before s.lane start after)))
-      × Appends old new (track_text (track_events_across one.aligned before s.lane start after))
+      → (status ≡ status_with (listing.faults (track_events_across one.aligned before s.lane start after)))
+      × Appends old new (listing.text (track_events_across one.aligned before s.lane start after))
   pub unaligned : (one.aligned || two.aligned) ≡ false → (status ≡ 7) × Appends old new []

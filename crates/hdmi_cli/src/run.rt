@@ -17,8 +17,8 @@ use crate::Words;
 use crate::note::write_note;
 use capture_commands::{
     BlockGate, ByWorkers, Ending, Feeds, check, count_sample, damage, make_content, make_dvi,
-    make_link, read_biphase, recover_biphase, recover_content, recover_dvi, recover_link,
-    recover_relock, recover_track, relay_capture, slip,
+    make_link, read_biphase, recover_biphase, recover_content, recover_content_relock, recover_dvi,
+    recover_link, recover_relock, recover_track, relay_capture, slip,
 };
 use command_line::Command;
 use outside_io::{Sink, Source};
@@ -29,7 +29,7 @@ use std::thread::Threads;
 /// refused, 4 read failed, 5 write failed, 6 out of memory, 7 no alignment. `make link` reads a link listing and writes
 /// the capture of a tap of it, `make dvi` that of the same without guard bands, and `make content` that of the raster of a
 /// content listing; `recover link` reads a capture and writes its link listing while it reads, `recover track` with the
-/// slips of its lanes, `recover relock` the same from an alignment that is confirmed, `recover dvi` that of a stream without guard bands, `recover content` its pictures and sound,
+/// slips of its lanes, `recover relock` the same from an alignment that is confirmed, `recover dvi` that of a stream without guard bands, `recover content` its pictures and sound, `recover content relock` those of what `recover relock` lists,
 /// `recover biphase` the frames of one pair of channels, and `check` only the lines of its faults and of a cut and whether
 /// there was a fault; `read biphase` lists such frames; `relay` writes the capture of what was heard, sent anew; `damage`
 /// copies a capture, block by block, with the ten bits of each hit replaced, and `slip` without some bits of a lane;
@@ -138,6 +138,7 @@ fn carry_out<F: Feeds, S: Source, K: Sink>(
         Command::RecoverContent => recover_content(feeding, alloc, input, output),
         Command::RecoverTrack => recover_track(feeding, alloc, input, output),
         Command::RecoverRelock => recover_relock(feeding, alloc, input, output),
+        Command::RecoverContentRelock => recover_content_relock(feeding, alloc, input, output),
         Command::RecoverBiphase(pair) => recover_biphase(feeding, alloc, pair, input, output),
         Command::RecoverDvi => recover_dvi(feeding, alloc, input, output),
         Command::Check => check(feeding, alloc, input, output),

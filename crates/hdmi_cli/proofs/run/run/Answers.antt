@@ -1,6 +1,6 @@
 use Rattle.std.proofs.Common.{rules}
 use Rattle.capture_commands.specs.Endings.{note_of, seen}
-use Rattle.command_line.specs.declared.command.Command.TheVariants.{RecoverLink, RecoverContent, RecoverTrack, RecoverRelock, Check}
+use Rattle.command_line.specs.declared.command.Command.TheVariants.{RecoverLink, RecoverContent, RecoverTrack, RecoverRelock, RecoverContentRelock, Check}
 use Rattle.capture_commands.specs.Listings.{link_listing, content_listing, check_listing}
 use Rattle.capture_commands.specs.Listers.{after_link, last_link, link_is_text, after_content, content_is_text, after_check, last_check, check_is_text}
 use Rattle.hdmi_cli.proofs.Ends.{says}
@@ -17,11 +17,11 @@ use Rattle.hdmi_cli.proofs.RelayHeadline.{relay_headlined}
 use Rattle.hdmi_cli.proofs.RelayLocal.{relayed_locally}
 use Rattle.hdmi_cli.proofs.RelaySettles.{relay_agrees, relay_settles}
 use Rattle.capture_commands.proofs.Taken.{run_refused, run_wants}
-use Rattle.hdmi_cli.proofs.TrackHeadline.{tracks_as_link, relocks_as_link}
+use Rattle.hdmi_cli.proofs.TrackHeadline.{tracks_as_link, relocks_as_link, relocks_as_content}
 use Rattle.hdmi_cli.proofs.TrackLocal.{tracked_locally}
-use Rattle.hdmi_cli.proofs.TrackSlip.{tracked_across, relocked_across}
-use Rattle.hdmi_cli.proofs.TrackPasses.{tracked_as_one, relocked_as_one}
-use Rattle.hdmi_cli.proofs.RelockAgain.{relocked_again}
+use Rattle.hdmi_cli.proofs.TrackSlip.{tracked_across, relocked_across, content_relocked_across}
+use Rattle.hdmi_cli.proofs.TrackPasses.{tracked_as_one, relocked_as_one, content_relocked_as_one}
+use Rattle.hdmi_cli.proofs.RelockAgain.{relocked_again, content_relocked_again}
 use Rattle.hdmi_cli.proofs.Pictures.{packeted, pictured}
 use Rattle.hdmi_cli.proofs.Sounds.{sounded}
 use Rattle.relay_laws.proofs.Accounting.{relayed_account}
@@ -65,8 +65,8 @@ returns g c =
         headline_local = headlined_locally link_listing after_link last_link link_is_text RecoverLink (λ bytes o does. does) words ending before after status ends known;
         check_exact = check_is_exact words before after status (note_of ending) s;
         content_headline = recovered content_listing RecoverContent (λ t tapped aligns o does. does) words ending before after status ends known;
-        pictures = pictured words ending before after status ends known;
-        packets = packeted words ending before after status ends known;
+        pictures = pictured RecoverContent (λ t tapped aligns o does. does) words ending before after status ends known;
+        packets = packeted RecoverContent (λ t tapped aligns o does. does) words ending before after status ends known;
         content_local = headlined_locally content_listing after_content last_link content_is_text RecoverContent (λ bytes o does. does) words ending before after status ends known;
         check_local = headlined_locally check_listing after_check last_check check_is_text Check (λ bytes o does. does) words ending before after status ends known;
         pictures_local = pictured_locally words ending before after status ends known;
@@ -83,6 +83,12 @@ returns g c =
         relock_slip = relocked_across words ending before after status ends known;
         relock_slip_passes = relocked_as_one words ending before after status ends known;
         relock_again = relocked_again words ending before after status ends known;
+        content_relock_headline = recovered content_listing RecoverContentRelock relocks_as_content words ending before after status ends known;
+        content_relock_pictures = pictured RecoverContentRelock relocks_as_content words ending before after status ends known;
+        content_relock_packets = packeted RecoverContentRelock relocks_as_content words ending before after status ends known;
+        content_relock_slip = content_relocked_across words ending before after status ends known;
+        content_relock_slip_passes = content_relocked_as_one words ending before after status ends known;
+        content_relock_again = content_relocked_again words ending before after status ends known;
         relay_headline = relay_headlined (relayed_account facts) words ending before after status ends known;
         relay_local = relayed_locally (line_relayed facts) (island_relayed facts) words ending before after status ends known;
         relay_clean = relay_passes (whole_relayed facts) words ending before after status ends known;
