@@ -54,6 +54,7 @@ REFUSED = {
     "make dvi": LINE,
     "recover track": CAPTURE,
     "recover relock": CAPTURE,
+    "recover content relock": CAPTURE,
     "recover dvi": CAPTURE,
     "recover biphase": CAPTURE,
     "slip": CAPTURE + rb"|place 0",
@@ -567,6 +568,8 @@ def modelled(words, data):
         return model.tracked(lanes, hearing.link_of)
     if words == ["recover", "relock"]:
         return relocking.relocked(lanes, hearing.link_of)
+    if words == ["recover", "content", "relock"]:
+        return relocking.relocked_content(lanes)
     columns = model.aligned(lanes)
     if columns is None:
         return 7, b""
@@ -587,7 +590,7 @@ def modelled(words, data):
 HIT = r"[0-2]:\d{1,10}:[0-3][0-9a-f]{2}"
 TAP = r"(?: --(?:offset|skew|bits|version)[ =][\d,]+)*"
 MODELLED = re.compile(rf"check|relay|read biphase|slip [0-2]:\d{{1,10}}:[1-9]|damage {HIT}(?: {HIT})*|make (?:link|content|dvi){TAP}|"
-                      r"recover (?:link|content|track|relock|dvi|biphase [0-3])")
+                      r"recover (?:link|content(?: relock)?|track|relock|dvi|biphase [0-3])")
 
 
 def unlike_models(words, data, answer):

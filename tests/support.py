@@ -11,6 +11,7 @@ HANGS = 1200  # the seconds after which something hangs, also on a slow machine 
 LISTING = b"c 00 4\nc 04 8\nv ff0000\nc 00 12\nend\n"
 READERS = (["recover", "link"], ["recover", "content"], ["check"], ["damage", "0:0:354"])
 FURTHER = (["recover", "track"], ["recover", "dvi"], ["recover", "biphase", "0"], ["relay"], ["recover", "relock"])
+FURTHER += (["recover", "content", "relock"],)
 SLIP = ["slip", "0:0:1"]
 USAGE = b"usage: make, recover, check, damage or sample\n"
 

@@ -358,6 +358,7 @@ def captures(program: str, seed: int, count: int) -> Iterator[Case]:
         for words, answer in zip((*READERS[:3], FURTHER[3]), wanted):
             yield f"{words} of {name}", run(program, words, data)[:2], answer
         yield f"recover relock of {name}", run(program, FURTHER[4], data)[:2], relocking.relocked(lanes, hearing.link_of)
+        yield f"recover content relock of {name}", run(program, FURTHER[5], data)[:2], relocking.relocked_content(lanes)
         if not any(end for _, end, _ in model.epochs(lanes)):  # no lane has a stray
             counted["one epoch"] += 1
             yield f"recover track of {name}", run(program, FURTHER[0], data)[:2], listing

@@ -85,6 +85,8 @@ def marginal(program: str, seed: int, count: int) -> Iterator[Case]:
         counted[kind.__name__] += sum(lane is None for _, _, lane in epochs[:-1])
         came = run(program, FURTHER[4], model.capture_of(2, lanes))[:2]
         yield f"recover relock of {name}", came, relocking.relocked(lanes, hearing.link_of)
+        came = run(program, FURTHER[5], model.capture_of(2, lanes))[:2]
+        yield f"recover content relock of {name}", came, relocking.relocked_content(lanes)
     print(f"alignments that are not confirmed: {dict(counted)}")
 
 

@@ -127,6 +127,7 @@ def answers(lanes):
     yield READERS[2], hearing.check_text(listing) if columns else (7, b"")
     yield FURTHER[0], model.tracked(lanes, hearing.link_of)
     yield FURTHER[4], relocking.relocked(lanes, hearing.link_of)
+    yield FURTHER[5], relocking.relocked_content(lanes)
     yield FURTHER[1], model.dvi_text(columns) if columns else (7, b"")
     for pair in range(4):
         yield ["recover", "biphase", str(pair)], model.biphase_of(listing, pair) if columns else (7, b"")

@@ -308,23 +308,29 @@ class Frames:
             yield line
 
 
-def content_text(columns):
-    """The status and the output of `recover content` of columns that begin with the first aligned one."""
-    frames, lines, events = Frames(), [], list(told(columns))
-    packet = 0
+def contents(events):
+    """The lines of the content of what is told, each with its first column; the line of a slip stands where it is, and changes nothing."""
+    frames, packet = Frames(), 0
     for at, (first, line) in enumerate(events):
+        if line.startswith(b"! slip "):
+            yield line
+            continue
         if line.startswith(b"c "):
-            lines += frames.hear_run(line)
+            yield from frames.hear_run(line)
             continue
         if not line.startswith(b"! word "):
             frames.alike = 0
         if line.startswith(b"v "):
-            lines += frames.hear_line(line)
+            yield from frames.hear_line(line)
             continue
         packet = packet + 32 if line.startswith(b"p ") else first - 30 if line.startswith(b"i ") else packet
         faults = itertools.takewhile(lambda it: it[1].startswith(PACKET_FAULTS), events[at + 1 :])
-        lines += frames.hear(line, packet, any(it.startswith(b"! lost ") for _, it in faults))
-    return with_status(lines)
+        yield from frames.hear(line, packet, any(it.startswith(b"! lost ") for _, it in faults))
+
+
+def content_text(columns):
+    """The status and the output of `recover content` of columns that begin with the first aligned one."""
+    return with_status(contents(list(told(columns))))
 
 
 # ---- what is sent

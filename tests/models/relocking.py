@@ -1,8 +1,9 @@
-"""A small model of `recover relock`: the epochs of lanes whose first alignment is used only where a period opens at its edges."""
+"""A small model of `recover relock` and `recover content relock`: the epochs of lanes whose first alignment is used only where a period
+opens at its edges."""
 import bisect
 import itertools
 
-from tests.models import model
+from tests.models import hearing, model
 from tests.models.tables import ISLAND_GUARD, TERC4, VIDEO_GUARD
 
 GUARDS = (tuple({word} for word in VIDEO_GUARD), (set(TERC4[12:]), {ISLAND_GUARD}, {ISLAND_GUARD}))
@@ -76,3 +77,17 @@ def relocked(lanes, link):
             text += listing.removesuffix(b"end\n")
         slip = None if lane is None else (lane, end)
     return ((1 if faults else 0), text + b"end\n") if aligned else (7, b"")
+
+
+def relocked_content(lanes):
+    """The status and the output of `recover content relock`: the content of what is told in each epoch, as one stream."""
+    events, aligned, slip = [], False, None
+    for start, end, lane in epochs(lanes):
+        if aligned and slip:
+            events.append((0, b"! slip %d %d" % slip))
+        columns = model.aligned([bits[start:end] for bits in lanes])
+        if columns:
+            aligned = True
+            events += hearing.told(columns)
+        slip = None if lane is None else (lane, end)
+    return hearing.with_status(hearing.contents(events)) if aligned else (7, b"")

@@ -4,7 +4,7 @@ standard error, with real files and devices. Expected values are those of docs/g
 import os
 
 from tests.models.model import replaced
-from tests.support import LISTING, TOP, USAGE, run
+from tests.support import FURTHER, LISTING, TOP, USAGE, run
 
 SAMPLE = (
     b"columns 1231895\nframes 2\nrows 960\npackets 406\nsamples 1600\nsymbols 406\nmended 800\ncode 1440\nother 0\ndiffer 956\n"
@@ -57,7 +57,22 @@ def marginal(program):
     yield "recover link of the same", run(program, ["recover", "link"], worn)[0], 1
     clean = run(program, ["recover", "link"], made)
     yield "recover relock of a clean capture", run(program, ["recover", "relock"], made), clean
+    content = run(program, ["recover", "content"], made)
+    yield "recover content relock of a clean capture", run(program, FURTHER[5], made), content
+    yield "recover content relock of nothing to align", run(program, FURTHER[5], b"TMC1\0\0\0\0"), (7, b"", b"no alignment\n")
     yield "recover relock of nothing to align", run(program, ["recover", "relock"], b"TMC1\0\0\0\0"), (7, b"", b"no alignment\n")
+
+
+def torn(program):
+    """A lane loses three bits in the second row of a frame: the frame goes on after the slip."""
+    before = b"c 00 4\nc 04 8\nv 0102030405ff\nc 02 12\nc 00 4\nc 04 8\nv a0b0c0d0e0f0\nc 00 4\nc 04 8\n"
+    after = b"c 00 4\nc 04 8\nv 111111222222333333\nc 00 4\nc 02 8\nc 00 4\nend\n"
+    made = run(program, ["make", "link"], before + b"v " + b"102030" * 30 + b"\nc 00 20\n" + after)[1]
+    hurt = run(program, ["slip", "1:700:3"], made)[1]
+    yield "recover relock over a slip", run(program, ["recover", "relock"], hurt), (1, before + b"cut 58\n! slip 1 877\n" + after, b"")
+    wanted = b"row a0b0c0d0e0f0\ncut 58\n! slip 1 877\nrow 111111222222333333\n! ragged 1\nframe 2 2\nend\n"
+    yield "recover content relock over a slip", run(program, FURTHER[5], hurt), (1, wanted, b"")
+    yield "the other words", [run(program, ["recover", *it], hurt)[0] for it in (["content", "--relock"], ["relock", "content"])], [2, 2]
 
 
 def sound(program):
@@ -193,4 +208,4 @@ def usual(program):
     yield "no alignment", run(program, ["recover", "link"], b"TMC1\0\0\0\0"), (7, b"", b"no alignment\n")
 
 
-TABLES = (usual, wide, slipped, marginal, sound, relayed, dvi)
+TABLES = (usual, wide, slipped, marginal, torn, sound, relayed, dvi)
