@@ -35,7 +35,7 @@ module _ (before now : Fed) (grows : Grows before now) where
   edge_kept : (l e : ℕ) → l < 3 → IsEdge (lane_of before l) e → IsEdge (lane_of now l) e
   edge_kept l e lt edge = let mine = grows l lt in edge_stays (lane_of before l) (lane_of now l) mine.0 mine.1 e edge
 
-  triple_stays : (d e f : ℕ) → IsTriple before.blue before.green before.red d e f → IsTriple now.blue now.green now.red d e f
+  pub triple_stays : (d e f : ℕ) → IsTriple before.blue before.green before.red d e f → IsTriple now.blue now.green now.red d e f
   triple_stays d e f t = record {
     blue = edge_kept 0 d (omega arith) t.blue;
     green = edge_kept 1 e (omega arith) t.green;
@@ -45,7 +45,7 @@ module _ (before now : Fed) (grows : Grows before now) where
     blue_red = t.blue_red;
   }
 
-  triple_was : (limit d e f : ℕ) → limit + 9 ≤ most_of before → max d (max e f) < limit → IsTriple now.blue now.green now.red d e f → IsTriple before.blue before.green before.red d e f
+  pub triple_was : (limit d e f : ℕ) → limit + 9 ≤ most_of before → max d (max e f) < limit → IsTriple now.blue now.green now.red d e f → IsTriple before.blue before.green before.red d e f
   triple_was limit d e f long less t = record {
     blue = edge_was_there limit before.blue now.blue d (lane_grows_from before now limit grows long 0 (omega arith)) (omega arith) t.blue;
     green = edge_was_there limit before.green now.green e (lane_grows_from before now limit grows long 1 (omega arith)) (omega arith) t.green;
@@ -95,13 +95,13 @@ whole : (a b r u v w : Option ℕ) (c : Column) → ((n : ℕ) → a ≡ Some n 
 whole a b r u v w c h k l m = grind arith
 
 module _ (before now : Fed) (grows : Grows before now) (d e f j : ℕ) (c : Column) where
-  column_kept : aligned_column before.blue before.green before.red d e f j ≡ Some c → aligned_column now.blue now.green now.red d e f j ≡ Some c
+  pub column_kept : aligned_column before.blue before.green before.red d e f j ≡ Some c → aligned_column now.blue now.green now.red d e f j ≡ Some c
   unfolding aligned_column
   column_kept h =
       whole _ _ _ _ _ _ c (λ n. window_kept before now grows 0 (place d j) n (omega arith)) (λ n. window_kept before now grows 1 (place e j) n (omega arith))
       (λ n. window_kept before now grows 2 (place f j) n (omega arith)) h
 
-  column_had : place (max d (max e f)) j + 10 ≤ most_of before → aligned_column now.blue now.green now.red d e f j ≡ Some c → aligned_column before.blue before.green before.red d e f j ≡ Some c
+  pub column_had : place (max d (max e f)) j + 10 ≤ most_of before → aligned_column now.blue now.green now.red d e f j ≡ Some c → aligned_column before.blue before.green before.red d e f j ≡ Some c
   unfolding aligned_column
   column_had long h =
       whole _ _ _ _ _ _ c (λ n. window_had before now grows 0 (place d j) n (omega arith) (omega arith)) (λ n. window_had before now grows 1 (place e j) n (omega arith) (omega arith))

@@ -6,3 +6,8 @@ pub mod Growing
 pub mod Ends
 pub mod Watching
 pub mod RelockRule
+pub mod Refuting
+pub mod RefutedGrowing
+pub mod RefutedDecided
+pub mod RefutingEnds
+pub mod RefutingRule

@@ -1,0 +1,284 @@
+-- Whether an alignment is refuted by bits that have arrived, and by which edges first.
+use Rattle.std.proofs.Common.{◌≡◌, ◌⊎◌, ℕ, suc, ◌+◌, ◌-◌, ◌%◌, ◌<◌, ◌≤◌, max, Bool, true, false, List, Option, Some, None, refl, ◌∙◌, subst, arith, inl, inr}
+use mathlib.Core.Logic.Dec.{and as both}
+use native.Mathlib.Decide.{map_dec, ℕ_discrete, dec_le}
+use Rattle.std.proofs.Math.Decide.{dec_lt}
+use Rattle.std.proofs.Math.Bool.{Bool-discrete}
+use Rattle.std.proofs.lemmas.Bool.{cases_lt}
+use Rattle.tmds_word.specs.Bits.{window}
+use Rattle.tmds_word.specs.Column.{Column}
+use Rattle.tmds_word.specs.Taps.{AreNear}
+use Rattle.terc4.specs.Tables.{is_control}
+use Rattle.terc4.specs.Columns.{is_control_column}
+use Rattle.period_grammar.specs.Heard.{Kind, video, island, neither, opened}
+use Rattle.lane_align.specs.Lanes.{IsLock, IsEdge}
+use Rattle.lane_align.proofs.Controls.{one_lock}
+use Rattle.lane_deskew.specs.Triples.{IsTriple}
+use Rattle.lane_deskew.specs.Aligned.{aligned_column}
+use Rattle.lane_deskew.proofs.First.{one_first}
+use Rattle.link_sink.specs.Sinks.{Fed}
+use Rattle.link_sink.proofs.Decided.{IsLeast, least_or_none, lock_of_run, first_decided}
+use Rattle.track_sink.specs.Epochs.{most_of}
+use Rattle.track_sink.specs.Ends.{run_decided}
+use Rattle.relock_sink.specs.Relocks.{is_announced}
+use Rattle.relock_sink.specs.Rivals.{is_guard_band, columns_before, HaveSameSkew, IsConfirmed, IsRival, IsRefuted, OpensNothing}
+use Rattle.relock_sink.specs.Refuting.{refuted_at}
+
+-- one below a bound, or none
+some_below : (P : ℕ → Type 0) (n : ℕ) → ((k : ℕ) → Dec (P k)) → Dec ((k : ℕ) × (k < n) × P k)
+some_below P n decided = elim (least_or_none P n decided) [
+  | inl l ↦ yes (l.0, l.1.below, l.1.here)
+  | inr none ↦ no (λ h. none h.0 h.1 h.2)
+]
+
+not_so : {P : Type 0} → Dec P → Dec (P → ⊥)
+not_so (yes p) = no (λ none. none p)
+not_so (no none) = yes none
+
+-- Edges of lanes.
+
+-- a whole window that is no control word
+record HasOther (xs : List Bool) (p : ℕ) : Type 0 where
+  word : ℕ
+  here : window xs p ≡ Some word
+  no_control : is_control word ≡ false
+
+other_decided : (xs : List Bool) (p : ℕ) → Dec (HasOther xs p)
+other_decided xs p = by (window xs p) refl
+  where
+    by_test : (w : ℕ) (b : Bool) → window xs p ≡ Some w → is_control w ≡ b → Dec (HasOther xs p)
+    by_test w false here is = yes (record { word = w; here = here; no_control = is })
+    by_test w true here is = no (λ h. let k = h.here in let l = h.no_control in cc)
+
+    by : (w : Option ℕ) → window xs p ≡ w → Dec (HasOther xs p)
+    by None here = no (λ h. let k = h.here in absurd cc)
+    by (Some w) here = by_test w (is_control w) here refl
+
+edge_decided : (xs : List Bool) (e : ℕ) → Dec (IsEdge xs e)
+edge_decided xs e = elim (run_decided xs (e - 120)) [
+  | no none ↦ no (λ h. none h.run)
+  | yes run ↦
+      let l = lock_of_run xs (e - 120) run in
+      let lock : IsLock xs l.0 = l.1 in
+      map_dec
+      (λ h. record { lock = l.0; is_lock = lock; past = h.0; aligned = h.1.0; run = run; word = h.1.1.word; here = h.1.1.here; no_control = h.1.1.no_control })
+      (λ h. let same = one_lock xs h.lock l.0 h.is_lock lock in (
+        subst (λ p. p + 120 ≤ e) same h.past,
+        (subst (λ p. e % 10 ≡ p % 10) same h.aligned, record { word = h.word; here = h.here; no_control = h.no_control }),
+      ))
+      (both (dec_le (l.0 + 120) e) (both (ℕ_discrete (e % 10) (l.0 % 10)) (other_decided xs e)))
+]
+
+near_decided : (d e : ℕ) → Dec (AreNear d e)
+near_decided d e = both (dec_le d (e + 70)) (dec_le e (d + 70))
+
+triple_decided : (xs ys zs : List Bool) (d e f : ℕ) → Dec (IsTriple xs ys zs d e f)
+triple_decided xs ys zs d e f = grind (arith, edge_decided, near_decided)
+
+-- Columns.
+
+-- two columns are there, and a test of both holds
+record AreSo (a b : Option Column) (test : Column → Column → Bool) : Type 0 where
+  here : Column
+  next : Column
+  is_here : a ≡ Some here
+  is_next : b ≡ Some next
+  holds : test here next ≡ true
+
+so_decided : (a b : Option Column) (test : Column → Column → Bool) → Dec (AreSo a b test)
+so_decided None b test = no (λ h. let k = h.is_here in absurd cc)
+so_decided (Some g) None test = no (λ h. let k = h.is_next in absurd cc)
+so_decided (Some g) (Some h) test = by (test g h) refl
+  where
+    by : (t : Bool) → test g h ≡ t → Dec (AreSo (Some g) (Some h) test)
+    by true is = yes (record { here = g; next = h; is_here = refl; is_next = refl; holds = is })
+    by false is = no (λ s. let a = s.is_here in let b = s.is_next in let c = s.holds in absurd cc)
+
+-- three are there, as those where a control period ends after which no period opens
+record AreUnopened (a b c : Option Column) : Type 0 where
+  last : Column
+  first : Column
+  second : Column
+  is_last : a ≡ Some last
+  is_first : b ≡ Some first
+  is_second : c ≡ Some second
+  control : is_control_column last ≡ true
+  ends : is_control_column first ≡ false
+  nothing : opened first second ≡ neither
+
+neither_decided : (k : Kind) → Dec (k ≡ neither)
+neither_decided video = no (λ e. cc)
+neither_decided island = no (λ e. cc)
+neither_decided neither = yes refl
+
+unopened_decided : (a b c : Option Column) → Dec (AreUnopened a b c)
+unopened_decided None b c = no (λ h. let k = h.is_last in absurd cc)
+unopened_decided (Some g) None c = no (λ h. let k = h.is_first in absurd cc)
+unopened_decided (Some g) (Some h) None = no (λ u. let k = u.is_second in absurd cc)
+unopened_decided (Some g) (Some h) (Some i) =
+    map_dec
+    (λ t. record { last = g; first = h; second = i; is_last = refl; is_first = refl; is_second = refl; control = t.0; ends = t.1.0; nothing = t.1.1 })
+    (λ u. let a = u.is_last in let b = u.is_first in let c = u.is_second in let x = u.control in let y = u.ends in let z = u.nothing in (cc, (cc, cc)))
+    (both (Bool-discrete (is_control_column g) true) (both (Bool-discrete (is_control_column h) false) (neither_decided (opened h i))))
+
+nothing_decided : (fed : Fed) (p q r j : ℕ) → Dec (OpensNothing fed p q r j)
+nothing_decided fed p q r j =
+    let column : ℕ → Option Column = aligned_column fed.blue fed.green fed.red p q r in
+    map_dec
+    (λ u. record {
+      last = u.last;
+      first = u.first;
+      second = u.second;
+      is_last = u.is_last;
+      is_first = u.is_first;
+      is_second = u.is_second;
+      control = u.control;
+      ends = u.ends;
+      nothing = u.nothing;
+    })
+    (λ u. record {
+      last = u.last;
+      first = u.first;
+      second = u.second;
+      is_last = u.is_last;
+      is_first = u.is_first;
+      is_second = u.is_second;
+      control = u.control;
+      ends = u.ends;
+      nothing = u.nothing;
+    })
+    (unopened_decided (column j) (column (j + 1)) (column (j + 2)))
+
+-- Rivals of an alignment.
+
+-- the columns at edges are a guard band
+abbrev HasBand : Fed → ℕ → ℕ → ℕ → Type 0
+HasBand fed d e f = AreSo (aligned_column fed.blue fed.green fed.red d e f 12) (aligned_column fed.blue fed.green fed.red d e f 13) is_guard_band
+
+module _ (fed : Fed) (p q r : ℕ) (own : IsConfirmed fed p q r) where
+  skew_decided : (d e f : ℕ) → Dec (HaveSameSkew p q r d e f)
+  skew_decided d e f = both (ℕ_discrete (d + q) (e + p)) (ℕ_discrete (d + r) (f + p))
+
+  rival_decided : (d e f : ℕ) → Dec (IsRival fed p q r d e f)
+  rival_decided d e f =
+      map_dec
+      (λ h. record {
+        own = own;
+        triple = h.0;
+        blue_later = h.1.0;
+        green_later = h.1.1.0;
+        red_later = h.1.1.1.0;
+        other_skew = h.1.1.1.1.0;
+        here = h.1.1.1.1.1.here;
+        next = h.1.1.1.1.1.next;
+        is_here = h.1.1.1.1.1.is_here;
+        is_next = h.1.1.1.1.1.is_next;
+        whole = h.1.1.1.1.1.holds;
+      })
+      (λ h. (
+        h.triple,
+        (h.blue_later, (h.green_later, (h.red_later, (h.other_skew, record { here = h.here; next = h.next; is_here = h.is_here; is_next = h.is_next; holds = h.whole })))),
+      ))
+      (both (triple_decided fed.blue fed.green fed.red d e f)
+      (both (dec_lt p d) (both (dec_lt q e) (both (dec_lt r f)
+      (both (not_so (skew_decided d e f)) (so_decided (aligned_column fed.blue fed.green fed.red d e f 12) (aligned_column fed.blue fed.green fed.red d e f 13) is_guard_band))))))
+
+  pub refuted_decided : (d e f : ℕ) → Dec (IsRefuted fed p q r d e f)
+  refuted_decided d e f =
+      map_dec (λ h. record { rival = h.0; unopened = h.1 }) (λ h. (h.rival, h.unopened))
+      (both (rival_decided d e f) (nothing_decided fed p q r (11 + columns_before p q r d e f)))
+
+-- The alignment that is confirmed.
+
+pub confirmed_decided : (fed : Fed) → ((p q r : ℕ) × IsConfirmed fed p q r) ⊎ ((p q r : ℕ) → IsConfirmed fed p q r → ⊥)
+confirmed_decided fed = elim (first_decided fed.blue fed.green fed.red) [
+  | inr none ↦ inr (λ p q r is. none p q r is.first.triple)
+  | inl h ↦ elim (so_decided (aligned_column fed.blue fed.green fed.red h.0 h.1 h.2 12) (aligned_column fed.blue fed.green fed.red h.0 h.1 h.2 13) is_announced) [
+    | yes so ↦ inl (h.0, h.1, h.2, record { first = h.3; here = so.here; next = so.next; is_here = so.is_here; is_next = so.is_next; announced = so.holds })
+    | no none ↦ inr (λ p q r is.
+        let s = one_first fed.blue fed.green fed.red h.0 h.1 h.2 p q r h.3 is.first in
+        none (record {
+          here = is.here;
+          next = is.next;
+          is_here = (λ i. aligned_column fed.blue fed.green fed.red (s.0 i) (s.1 i) (s.2 i) 12) ∙ is.is_here;
+          is_next = (λ i. aligned_column fed.blue fed.green fed.red (s.0 i) (s.1 i) (s.2 i) 13) ∙ is.is_next;
+          holds = is.announced;
+        }))
+  ]
+]
+
+-- an epoch has one that is confirmed at most
+pub one_confirmed : (fed : Fed) (p q r d e f : ℕ) → IsConfirmed fed p q r → IsConfirmed fed d e f → (p ≡ d) × (q ≡ e) × (r ≡ f)
+one_confirmed fed p q r d e f a b = one_first fed.blue fed.green fed.red p q r d e f a.first b.first
+
+-- what refutes the one refutes the other
+pub refuted_own : (fed : Fed) (p q r u v w d e f : ℕ) → IsConfirmed fed p q r → IsRefuted fed u v w d e f → IsRefuted fed p q r d e f
+refuted_own fed p q r u v w d e f own is =
+    let s = one_confirmed fed u v w p q r is.rival.own own in
+    subst (λ i. IsRefuted fed i q r d e f) s.0 (subst (λ i. IsRefuted fed u i r d e f) s.1 (subst (λ i. IsRefuted fed u v i d e f) s.2 is))
+
+-- Of the edges that refute it those whose greatest is least.
+
+-- some refute it, none of them past a place
+record HasRefuted (fed : Fed) (p q r m : ℕ) : Type 0 where
+  d : ℕ
+  e : ℕ
+  f : ℕ
+  within : max d (max e f) ≤ m
+  refuted : IsRefuted fed p q r d e f
+
+has_decided : (fed : Fed) (p q r m : ℕ) → IsConfirmed fed p q r → Dec (HasRefuted fed p q r m)
+has_decided fed p q r m own =
+    map_dec
+    (λ h. record {
+      d = h.0;
+      e = h.2.0;
+      f = h.2.2.0;
+      within = let a = h.1 in let b = h.2.1 in let c = h.2.2.1 in omega arith;
+      refuted = h.2.2.2;
+    })
+    (λ h. let a = h.within in
+    (h.d, omega arith, (h.e, omega arith, (h.f, omega arith, h.refuted))))
+    (some_below (λ d. (e : ℕ) × (e < suc m) × ((f : ℕ) × (f < suc m) × IsRefuted fed p q r d e f)) (suc m) (λ d.
+    some_below (λ e. (f : ℕ) × (f < suc m) × IsRefuted fed p q r d e f) (suc m) (λ e.
+    some_below (λ f. IsRefuted fed p q r d e f) (suc m) (λ f. refuted_decided fed p q r own d e f))))
+
+-- the edges that refute the alignment first, where all bits have arrived that show it
+pub record IsFirstRefuted (fed : Fed) (p q r d e f : ℕ) : Type 0 where
+  pub refuted : IsRefuted fed p q r d e f
+  pub shown : refuted_at d e f ≤ most_of fed
+  pub least : (u v w i j k : ℕ) → IsRefuted fed u v w i j k → max d (max e f) ≤ max i (max j k)
+
+first_of : (fed : Fed) (p q r m : ℕ) → IsConfirmed fed p q r → IsLeast (HasRefuted fed p q r) (most_of fed - 89) m → (d e f : ℕ) × IsFirstRefuted fed p q r d e f
+first_of fed p q r m own l =
+    let h = l.here in
+    let a = h.within in
+    let b = l.below in (
+      h.d,
+      h.e,
+      h.f,
+      record {
+        refuted = h.refuted;
+        shown = omega arith;
+        least = λ u v w i j k is. elim (cases_lt (max i (max j k)) m) [
+          | inl less ↦ absurd (l.least (max i (max j k)) less (record { d = i; e = j; f = k; within = omega arith; refuted = refuted_own fed p q r u v w i j k own is }))
+          | inr more ↦ omega arith
+        ];
+      },
+    )
+
+-- no bits have arrived that show the alignment refuted
+abbrev pub IsUnrefuted : Fed → Type 0
+IsUnrefuted fed = (p q r d e f : ℕ) → IsRefuted fed p q r d e f → most_of fed < refuted_at d e f
+
+pub refuted_or_not : (fed : Fed) → ((p q r d e f : ℕ) × IsFirstRefuted fed p q r d e f) ⊎ IsUnrefuted fed
+refuted_or_not fed = elim (confirmed_decided fed) [
+  | inr none ↦ inr (λ p q r d e f is. absurd (none p q r is.rival.own))
+  | inl c ↦ elim (least_or_none (HasRefuted fed c.0 c.1 c.2) (most_of fed - 89) (λ m. has_decided fed c.0 c.1 c.2 m c.3)) [
+    | inl l ↦ let first = first_of fed c.0 c.1 c.2 l.0 c.3 l.1 in inl (c.0, c.1, c.2, first.0, first.1, first.2, first.3)
+    | inr none ↦ inr (λ p q r d e f is. elim (cases_lt (most_of fed) (refuted_at d e f)) [
+      | inl late ↦ late
+      | inr soon ↦ absurd (none (max d (max e f)) (omega arith) (record { d = d; e = e; f = f; within = omega arith; refuted = refuted_own fed c.0 c.1 c.2 p q r d e f c.3 is }))
+    ])
+  ]
+]

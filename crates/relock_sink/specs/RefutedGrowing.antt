@@ -1,0 +1,188 @@
+-- Refuted alignments of lanes that grow: they stay so, and what is shown by bits that had arrived was so before.
+use Rattle.std.proofs.Common.{◌⊎◌, ℕ, ◌+◌, ◌-◌, ◌*◌, ◌/◌, ◌<◌, ◌≤◌, max, min, arith, inl, inr}
+use Rattle.std.proofs.lemmas.Bool.{cases_lt}
+use Rattle.tmds_word.specs.Taps.{AreNear}
+use Rattle.lane_deskew.specs.Triples.{IsTriple}
+use Rattle.link_sink.specs.Sinks.{Fed}
+use Rattle.track_sink.specs.Epochs.{most_of}
+use Rattle.track_sink.specs.Tracks.{Grows}
+use Rattle.relock_sink.specs.Growing.{first_stays, first_was, triple_stays, triple_was, column_kept, column_had}
+use Rattle.relock_sink.specs.Rivals.{IsConfirmed, IsRival, IsRefuted, OpensNothing, middle, columns_before}
+use Rattle.relock_sink.specs.Refuting.{refuted_at}
+
+-- Where the columns are that an alignment has at later edges.
+
+-- the second of three numbers is no greater than one of them, and no less than one
+not_past : (a b c : ℕ) → (middle a b c ≤ a) ⊎ ((middle a b c ≤ b) ⊎ (middle a b c ≤ c))
+not_past a b c = elim (cases_lt a (middle a b c)) [
+  | inl less ↦ elim (cases_lt b (middle a b c)) [ inl also ↦ inr (inr (omega arith)) | inr more ↦ inr (inl more) ]
+  | inr more ↦ inl more
+]
+
+not_before : (a b c : ℕ) → (a ≤ middle a b c) ⊎ ((b ≤ middle a b c) ⊎ (c ≤ middle a b c))
+not_before a b c = elim (cases_lt (middle a b c) a) [
+  | inl less ↦ elim (cases_lt (middle a b c) b) [ inl also ↦ inr (inr (omega arith)) | inr more ↦ inr (inl more) ]
+  | inr more ↦ inl more
+]
+
+reach_until : (p d m : ℕ) → p < d → m ≤ (d - p) / 10 → p + 10 * m ≤ d
+reach_until p d m later few = omega arith
+
+reach_from : (p d m : ℕ) → p < d → (d - p) / 10 ≤ m → d < p + 10 * m + 10
+reach_from p d m later many = omega arith
+
+-- three places, any two near each other
+record AreNearAll (d e f : ℕ) : Type 0 where
+  blue_green : AreNear d e
+  green_red : AreNear e f
+  blue_red : AreNear d f
+
+module _ (p q r d e f : ℕ) (own : AreNearAll p q r) (other : AreNearAll d e f) (x : p < d) (y : q < e) (z : r < f) where
+  until : max p (max q r) + 10 * columns_before p q r d e f ≤ max d (max e f) + 70
+  until =
+      let m = columns_before p q r d e f in
+      let a = own.blue_green in
+      let b = own.green_red in
+      let c = own.blue_red in
+      elim (not_past ((d - p) / 10) ((e - q) / 10) ((f - r) / 10)) [
+        | inl blue ↦ let h = reach_until p d m x blue in omega arith
+        | inr others ↦ elim others [
+          | inl green ↦ let h = reach_until q e m y green in omega arith
+          | inr red ↦ let h = reach_until r f m z red in omega arith
+        ]
+      ]
+
+  from : min d (min e f) < min p (min q r) + 10 * columns_before p q r d e f + 80
+  from =
+      let m = columns_before p q r d e f in
+      let a = own.blue_green in
+      let b = own.green_red in
+      let c = own.blue_red in
+      elim (not_before ((d - p) / 10) ((e - q) / 10) ((f - r) / 10)) [
+        | inl blue ↦ let h = reach_from p d m x blue in omega arith
+        | inr others ↦ elim others [
+          | inl green ↦ let h = reach_from q e m y green in omega arith
+          | inr red ↦ let h = reach_from r f m z red in omega arith
+        ]
+      ]
+
+near_all : (fed : Fed) (d e f : ℕ) → IsTriple fed.blue fed.green fed.red d e f → AreNearAll d e f
+near_all fed d e f t = record { blue_green = t.blue_green; green_red = t.green_red; blue_red = t.blue_red }
+
+-- the columns of the alignment in use begin near the edges of a rival
+pub rival_until : (fed : Fed) (p q r d e f : ℕ) → IsRival fed p q r d e f → max p (max q r) + 10 * columns_before p q r d e f ≤ max d (max e f) + 70
+rival_until fed p q r d e f is =
+    until p q r d e f (near_all fed p q r is.own.first.triple) (near_all fed d e f is.triple) is.blue_later is.green_later is.red_later
+
+pub columns_from : (fed : Fed) (p q r d e f : ℕ) → IsTriple fed.blue fed.green fed.red p q r → IsTriple fed.blue fed.green fed.red d e f → p < d → q < e → r < f
+    → min d (min e f) < min p (min q r) + 10 * columns_before p q r d e f + 80
+columns_from fed p q r d e f own other x y z = from p q r d e f (near_all fed p q r own) (near_all fed d e f other) x y z
+
+pub columns_until : (fed : Fed) (p q r d e f : ℕ) → IsTriple fed.blue fed.green fed.red p q r → IsTriple fed.blue fed.green fed.red d e f → p < d → q < e → r < f
+    → max p (max q r) + 10 * columns_before p q r d e f ≤ max d (max e f) + 70
+columns_until fed p q r d e f own other x y z = until p q r d e f (near_all fed p q r own) (near_all fed d e f other) x y z
+
+module _ (before now : Fed) (grows : Grows before now) (p q r : ℕ) where
+  pub confirmed_stays : IsConfirmed before p q r → IsConfirmed now p q r
+  confirmed_stays was = record {
+    first = first_stays before now grows p q r was.first;
+    here = was.here;
+    next = was.next;
+    is_here = column_kept before now grows p q r 12 was.here was.is_here;
+    is_next = column_kept before now grows p q r 13 was.next was.is_next;
+    announced = was.announced;
+  }
+
+  pub confirmed_was : max p (max q r) + 20 ≤ most_of before → IsConfirmed now p q r → IsConfirmed before p q r
+  confirmed_was shown is =
+      let past = is.first.triple.blue.past in
+      let past2 = is.first.triple.green.past in
+      let past3 = is.first.triple.red.past in
+      record {
+        first = first_was before now grows p q r (omega arith) is.first;
+        here = is.here;
+        next = is.next;
+        is_here = column_had before now grows p q r 12 is.here (omega arith) is.is_here;
+        is_next = column_had before now grows p q r 13 is.next (omega arith) is.is_next;
+        announced = is.announced;
+      }
+
+  nothing_stays : (j : ℕ) → OpensNothing before p q r j → OpensNothing now p q r j
+  nothing_stays j was = record {
+    last = was.last;
+    first = was.first;
+    second = was.second;
+    is_last = column_kept before now grows p q r j was.last was.is_last;
+    is_first = column_kept before now grows p q r (j + 1) was.first was.is_first;
+    is_second = column_kept before now grows p q r (j + 2) was.second was.is_second;
+    control = was.control;
+    ends = was.ends;
+    nothing = was.nothing;
+  }
+
+  nothing_was : (j : ℕ) → 120 ≤ p → 120 ≤ q → 120 ≤ r → max p (max q r) + 10 * j ≤ most_of before + 90 → OpensNothing now p q r j → OpensNothing before p q r j
+  nothing_was j a b c shown is = record {
+    last = is.last;
+    first = is.first;
+    second = is.second;
+    is_last = column_had before now grows p q r j is.last (omega arith) is.is_last;
+    is_first = column_had before now grows p q r (j + 1) is.first (omega arith) is.is_first;
+    is_second = column_had before now grows p q r (j + 2) is.second (omega arith) is.is_second;
+    control = is.control;
+    ends = is.ends;
+    nothing = is.nothing;
+  }
+
+module _ (before now : Fed) (grows : Grows before now) (p q r d e f : ℕ) where
+  rival_stays : IsRival before p q r d e f → IsRival now p q r d e f
+  rival_stays was = record {
+    own = confirmed_stays before now grows p q r was.own;
+    triple = triple_stays before now grows d e f was.triple;
+    blue_later = was.blue_later;
+    green_later = was.green_later;
+    red_later = was.red_later;
+    other_skew = was.other_skew;
+    here = was.here;
+    next = was.next;
+    is_here = column_kept before now grows d e f 12 was.here was.is_here;
+    is_next = column_kept before now grows d e f 13 was.next was.is_next;
+    whole = was.whole;
+  }
+
+  rival_was : max d (max e f) + 20 ≤ most_of before → IsRival now p q r d e f → IsRival before p q r d e f
+  rival_was shown is =
+      let x = is.blue_later in
+      let y = is.green_later in
+      let z = is.red_later in
+      let past = is.triple.blue.past in
+      let past2 = is.triple.green.past in
+      let past3 = is.triple.red.past in
+      record {
+        own = confirmed_was before now grows p q r (omega arith) is.own;
+        triple = triple_was before now grows (max d (max e f) + 1) d e f (omega arith) (omega arith) is.triple;
+        blue_later = x;
+        green_later = y;
+        red_later = z;
+        other_skew = is.other_skew;
+        here = is.here;
+        next = is.next;
+        is_here = column_had before now grows d e f 12 is.here (omega arith) is.is_here;
+        is_next = column_had before now grows d e f 13 is.next (omega arith) is.is_next;
+        whole = is.whole;
+      }
+
+  -- a refuted alignment stays so
+  pub refuted_stays : IsRefuted before p q r d e f → IsRefuted now p q r d e f
+  refuted_stays was = record { rival = rival_stays was.rival; unopened = nothing_stays before now grows p q r (11 + columns_before p q r d e f) was.unopened }
+
+  -- and was so, where the bits that show it had arrived
+  pub refuted_was : refuted_at d e f ≤ most_of before → IsRefuted now p q r d e f → IsRefuted before p q r d e f
+  refuted_was shown is =
+      let a = is.rival.own.first.triple.blue.past in
+      let b = is.rival.own.first.triple.green.past in
+      let c = is.rival.own.first.triple.red.past in
+      let near = rival_until now p q r d e f is.rival in
+      record {
+        rival = rival_was (omega arith) is.rival;
+        unopened = nothing_was before now grows p q r (11 + columns_before p q r d e f) (omega arith) (omega arith) (omega arith) (omega arith) is.unopened;
+      }
