@@ -1,40 +1,16 @@
 -- The first bits of lanes: how far they were looked through, and how they are lent.
-use Rattle.std.proofs.Common.{◌≡◌, ℕ, zero, suc, ◌+◌, ◌-◌, ◌≤◌, min, Bool, List, ◌++◌, length, take, drop, Option, Some, None, refl, ap, ◌∙◌, sym, subst, arith, inl, inr, length-take, take-take}
+use Rattle.std.proofs.Common.{◌≡◌, ℕ, ◌+◌, ◌-◌, ◌≤◌, min, Bool, List, length, take, drop, Option, Some, None, ap, ◌∙◌, sym, subst, arith, inl, inr, length-take, take-take}
 use Rattle.std.proofs.lemmas.Bool.{cases_lt}
-use Rattle.std.proofs.lemmas.List.{take_all, drop_all, drop-take, drop-drop, take-append-drop}
+use Rattle.std.proofs.lemmas.List.{take_all, drop-take, drop-drop, take-append-drop}
 use Rattle.lane_align.proofs.Parts.{run_of_front, run_in_front, take_piece}
 use Rattle.lane_track.specs.Strays.{IsStray}
 use Rattle.lane_track.specs.Scouts.{HasSought}
 use Rattle.lane_track.proofs.Strays.{stray_grows}
 use Rattle.link_sink.specs.Sinks.{Fed}
-use Rattle.track_sink.specs.Epochs.{lane_of, front_of, most_of}
-use Rattle.track_sink.specs.Tracks.{Grows}
+use Rattle.track_sink.specs.Epochs.{front_of}
 use Rattle.track_sink.specs.Seeking.{IsSought}
 use Rattle.track_sink.specs.declared.strays.Strays.{Strays}
-
-pub most_front : (n : ℕ) (fed : Fed) → most_of (front_of n fed) ≡ min n (most_of fed)
-most_front n fed = omega (arith, length-take n fed.blue, length-take n fed.green, length-take n fed.red)
-
-lane_front : (n : ℕ) (fed : Fed) (l : ℕ) → lane_of (front_of n fed) l ≡ take n (lane_of fed l)
-lane_front n fed zero = refl
-lane_front n fed (suc zero) = refl
-lane_front n fed (suc (suc l)) = refl
-
--- lanes grow from their first bits
-pub front_grows : (n : ℕ) (fed : Fed) → Grows (front_of n fed) fed
-front_grows n fed l lt =
-    let xs = lane_of fed l in
-    let own = lane_front n fed l in (
-      drop n xs,
-      sym (ap (λ ys. ys ++ drop n xs) own ∙ take-append-drop n xs),
-      elim (cases_lt (length xs) n) [
-        | inl short ↦ inr (drop_all n xs (omega arith))
-        | inr long ↦ inl (λ m few.
-            let a = ap length own in
-            let b = ap length (lane_front n fed m) in
-            omega (arith, a, b, length-take n xs, length-take n (lane_of fed m)))
-      ],
-    )
+use Rattle.relock_sink.specs.FrontsGrowing.{most_front}
 
 -- what is known of the places before one needs no later bits
 sought_taken : (xs : List Bool) (n seen : ℕ) (lock : Option ℕ) → seen + 119 ≤ n → HasSought xs seen lock → HasSought (take n xs) seen lock

@@ -30,7 +30,7 @@ use Rattle.relock_sink.specs.declared.relock.Relock.{Relock}
 use Rattle.relock_sink.specs.Growing.{lane_grows_from, shown_within}
 use Rattle.relock_sink.specs.Ends.{far_edges, end_was}
 use Rattle.relock_sink.specs.Watching.{none_yet, never_unconfirmed}
-use Rattle.relock_sink.proofs.Fronts.{most_front, front_grows}
+use Rattle.relock_sink.specs.FrontsGrowing.{most_front, front_grows}
 
 when_true : (P Q : Type 0) (b : Bool) → b ≡ true → P → MatchBool b P Q
 when_true P Q true e p = p

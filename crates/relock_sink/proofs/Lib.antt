@@ -1,2 +1,5 @@
 mod Fronts
 mod Judging
+mod Refutes
+mod Rivalry
+mod Refuters

@@ -22,6 +22,7 @@ use Rattle.track_sink.specs.Epochs.{most_of}
 use Rattle.track_sink.specs.Ends.{run_decided}
 use Rattle.relock_sink.specs.Relocks.{is_announced}
 use Rattle.relock_sink.specs.Rivals.{is_guard_band, columns_before, HaveSameSkew, IsConfirmed, IsRival, IsRefuted, OpensNothing}
+use Rattle.relock_sink.specs.Judges.{AreSo, AreUnopened}
 use Rattle.relock_sink.specs.Refuting.{refuted_at}
 
 -- one below a bound, or none
@@ -77,14 +78,6 @@ triple_decided xs ys zs d e f = grind (arith, edge_decided, near_decided)
 
 -- Columns.
 
--- two columns are there, and a test of both holds
-record AreSo (a b : Option Column) (test : Column → Column → Bool) : Type 0 where
-  here : Column
-  next : Column
-  is_here : a ≡ Some here
-  is_next : b ≡ Some next
-  holds : test here next ≡ true
-
 so_decided : (a b : Option Column) (test : Column → Column → Bool) → Dec (AreSo a b test)
 so_decided None b test = no (λ h. let k = h.is_here in absurd cc)
 so_decided (Some g) None test = no (λ h. let k = h.is_next in absurd cc)
@@ -93,18 +86,6 @@ so_decided (Some g) (Some h) test = by (test g h) refl
     by : (t : Bool) → test g h ≡ t → Dec (AreSo (Some g) (Some h) test)
     by true is = yes (record { here = g; next = h; is_here = refl; is_next = refl; holds = is })
     by false is = no (λ s. let a = s.is_here in let b = s.is_next in let c = s.holds in absurd cc)
-
--- three are there, as those where a control period ends after which no period opens
-record AreUnopened (a b c : Option Column) : Type 0 where
-  last : Column
-  first : Column
-  second : Column
-  is_last : a ≡ Some last
-  is_first : b ≡ Some first
-  is_second : c ≡ Some second
-  control : is_control_column last ≡ true
-  ends : is_control_column first ≡ false
-  nothing : opened first second ≡ neither
 
 neither_decided : (k : Kind) → Dec (k ≡ neither)
 neither_decided video = no (λ e. cc)

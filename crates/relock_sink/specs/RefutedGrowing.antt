@@ -1,5 +1,5 @@
 -- Refuted alignments of lanes that grow: they stay so, and what is shown by bits that had arrived was so before.
-use Rattle.std.proofs.Common.{◌⊎◌, ℕ, ◌+◌, ◌-◌, ◌*◌, ◌/◌, ◌<◌, ◌≤◌, max, min, arith, inl, inr}
+use Rattle.std.proofs.Common.{◌⊎◌, ℕ, ◌+◌, ◌-◌, ◌*◌, ◌/◌, ◌<◌, ◌≤◌, max, arith, inl, inr}
 use Rattle.std.proofs.lemmas.Bool.{cases_lt}
 use Rattle.tmds_word.specs.Taps.{AreNear}
 use Rattle.lane_deskew.specs.Triples.{IsTriple}
@@ -12,24 +12,15 @@ use Rattle.relock_sink.specs.Refuting.{refuted_at}
 
 -- Where the columns are that an alignment has at later edges.
 
--- the second of three numbers is no greater than one of them, and no less than one
+-- the second of three numbers is no greater than one of them
 not_past : (a b c : ℕ) → (middle a b c ≤ a) ⊎ ((middle a b c ≤ b) ⊎ (middle a b c ≤ c))
 not_past a b c = elim (cases_lt a (middle a b c)) [
   | inl less ↦ elim (cases_lt b (middle a b c)) [ inl also ↦ inr (inr (omega arith)) | inr more ↦ inr (inl more) ]
   | inr more ↦ inl more
 ]
 
-not_before : (a b c : ℕ) → (a ≤ middle a b c) ⊎ ((b ≤ middle a b c) ⊎ (c ≤ middle a b c))
-not_before a b c = elim (cases_lt (middle a b c) a) [
-  | inl less ↦ elim (cases_lt (middle a b c) b) [ inl also ↦ inr (inr (omega arith)) | inr more ↦ inr (inl more) ]
-  | inr more ↦ inl more
-]
-
 reach_until : (p d m : ℕ) → p < d → m ≤ (d - p) / 10 → p + 10 * m ≤ d
 reach_until p d m later few = omega arith
-
-reach_from : (p d m : ℕ) → p < d → (d - p) / 10 ≤ m → d < p + 10 * m + 10
-reach_from p d m later many = omega arith
 
 -- three places, any two near each other
 record AreNearAll (d e f : ℕ) : Type 0 where
@@ -52,20 +43,6 @@ module _ (p q r d e f : ℕ) (own : AreNearAll p q r) (other : AreNearAll d e f)
         ]
       ]
 
-  from : min d (min e f) < min p (min q r) + 10 * columns_before p q r d e f + 80
-  from =
-      let m = columns_before p q r d e f in
-      let a = own.blue_green in
-      let b = own.green_red in
-      let c = own.blue_red in
-      elim (not_before ((d - p) / 10) ((e - q) / 10) ((f - r) / 10)) [
-        | inl blue ↦ let h = reach_from p d m x blue in omega arith
-        | inr others ↦ elim others [
-          | inl green ↦ let h = reach_from q e m y green in omega arith
-          | inr red ↦ let h = reach_from r f m z red in omega arith
-        ]
-      ]
-
 near_all : (fed : Fed) (d e f : ℕ) → IsTriple fed.blue fed.green fed.red d e f → AreNearAll d e f
 near_all fed d e f t = record { blue_green = t.blue_green; green_red = t.green_red; blue_red = t.blue_red }
 
@@ -73,14 +50,6 @@ near_all fed d e f t = record { blue_green = t.blue_green; green_red = t.green_r
 pub rival_until : (fed : Fed) (p q r d e f : ℕ) → IsRival fed p q r d e f → max p (max q r) + 10 * columns_before p q r d e f ≤ max d (max e f) + 70
 rival_until fed p q r d e f is =
     until p q r d e f (near_all fed p q r is.own.first.triple) (near_all fed d e f is.triple) is.blue_later is.green_later is.red_later
-
-pub columns_from : (fed : Fed) (p q r d e f : ℕ) → IsTriple fed.blue fed.green fed.red p q r → IsTriple fed.blue fed.green fed.red d e f → p < d → q < e → r < f
-    → min d (min e f) < min p (min q r) + 10 * columns_before p q r d e f + 80
-columns_from fed p q r d e f own other x y z = from p q r d e f (near_all fed p q r own) (near_all fed d e f other) x y z
-
-pub columns_until : (fed : Fed) (p q r d e f : ℕ) → IsTriple fed.blue fed.green fed.red p q r → IsTriple fed.blue fed.green fed.red d e f → p < d → q < e → r < f
-    → max p (max q r) + 10 * columns_before p q r d e f ≤ max d (max e f) + 70
-columns_until fed p q r d e f own other x y z = until p q r d e f (near_all fed p q r own) (near_all fed d e f other) x y z
 
 module _ (before now : Fed) (grows : Grows before now) (p q r : ℕ) where
   pub confirmed_stays : IsConfirmed before p q r → IsConfirmed now p q r

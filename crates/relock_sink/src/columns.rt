@@ -28,7 +28,7 @@ const WORD_BITS: u64 = 10;
 
 /// Whether two columns are the guard band of a period.
 #[tactic(auto, unfolding(crate::specs::Relocks::is_announced))]
-fn is_announced(here: &[Word; 3], next: &[Word; 3]) -> bool
+pub(crate) fn is_announced(here: &[Word; 3], next: &[Word; 3]) -> bool
     ensures { result ≡ is_announced (column_of here.now) (column_of next.now) }
 {
     (video_guard_words(here) >= ALL && video_guard_words(next) >= ENOUGH)
@@ -58,7 +58,7 @@ pub(crate) fn doubt_at(lanes: LentLanes<'_>, edges: [u64; 3]) -> Option<u64>
 }
 
 /// The characters that begin at three places of three lanes; None where a lane ends before the end of its own.
-fn words_at(lanes: LentLanes<'_>, places: [u64; 3]) -> Option<[Word; 3]>
+pub(crate) fn words_at(lanes: LentLanes<'_>, places: [u64; 3]) -> Option<[Word; 3]>
     requires room { HaveRoom lanes }
     requires base { lanes.base ≤ least places }
     requires small { greatest places < 2 ^ 62 }

@@ -4,8 +4,12 @@
 
 mod columns;
 mod lent;
+mod refuter;
 mod relock;
+mod rival;
+mod rivals;
 
+pub use refuter::Refuter;
 pub use relock::Relock;
 use track_sink::EpochSink;
 

@@ -1,6 +1,6 @@
 use Rattle.std.proofs.Common.{◌≡◌, ◌+◌, ◌-◌, take, subst, arith}
 use Rattle.track_sink.specs.Lents.{IsLent}
-use Rattle.relock_sink.proofs.Fronts.{most_front}
+use Rattle.relock_sink.specs.FrontsGrowing.{most_front}
 use Rattle.relock_sink.proofs.lent.front.Goals as goal
 
 pub returns-clause-lent : goal.returns-clause-lent

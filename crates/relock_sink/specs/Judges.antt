@@ -1,0 +1,68 @@
+-- What is looked at to judge whether an alignment is refuted by other edges, of lanes that are lent.
+use Rattle.std.specs.Prelude.{◌≡◌, ℕ, ◌+◌, ◌*◌, ◌-◌, ◌<◌, Bool, true, false, List, [], ◌∷◌, slice_index, Option, Some}
+use Rattle.tmds_word.specs.Column.{Column}
+use Rattle.terc4.specs.Columns.{is_control_column}
+use Rattle.period_grammar.specs.Heard.{neither, opened}
+use Rattle.lane_deskew.specs.Triples.{IsTriple}
+use Rattle.link_sink.specs.Sinks.{Fed}
+use Rattle.relock_sink.specs.Columns.{column_here, column_after}
+use Rattle.relock_sink.specs.Relocks.{is_announced}
+use Rattle.relock_sink.specs.Rivals.{IsConfirmed, IsRefuted, HaveSameSkew, is_guard_band, columns_before}
+
+-- two columns are there, and a test of both holds
+pub record AreSo (a b : Option Column) (test : Column → Column → Bool) : Type 0 where
+  pub here : Column
+  pub next : Column
+  pub is_here : a ≡ Some here
+  pub is_next : b ≡ Some next
+  pub holds : test here next ≡ true
+
+-- three are there, and a control period ends with the first after which no period opens
+pub record AreUnopened (a b c : Option Column) : Type 0 where
+  pub last : Column
+  pub first : Column
+  pub second : Column
+  pub is_last : a ≡ Some last
+  pub is_first : b ≡ Some first
+  pub is_second : c ≡ Some second
+  pub control : is_control_column last ≡ true
+  pub ends : is_control_column first ≡ false
+  pub nothing : opened first second ≡ neither
+
+-- at three places of lanes
+abbrev pub IsOpening : Fed → List ℕ → Type 0
+IsOpening fed places = AreSo (column_here fed places) (column_after fed places) is_announced
+
+abbrev pub IsBand : Fed → List ℕ → Type 0
+IsBand fed places = AreSo (column_here fed places) (column_after fed places) is_guard_band
+
+abbrev pub column_third : Fed → List ℕ → Option Column
+column_third fed places = column_here fed ((slice_index places 0 + 20) ∷ (slice_index places 1 + 20) ∷ (slice_index places 2 + 20) ∷ [])
+
+abbrev pub IsUnopened : Fed → List ℕ → Type 0
+IsUnopened fed places = AreUnopened (column_here fed places) (column_after fed places) (column_third fed places)
+
+-- of two lists of three edges the later are those of a later control period on each lane
+abbrev pub AreLater : List ℕ → List ℕ → Type 0
+AreLater own edges = (slice_index own 0 < slice_index edges 0) × (slice_index own 1 < slice_index edges 1) × (slice_index own 2 < slice_index edges 2)
+
+abbrev pub HaveOneSkew : List ℕ → List ℕ → Type 0
+HaveOneSkew own edges = HaveSameSkew (slice_index own 0) (slice_index own 1) (slice_index own 2) (slice_index edges 0) (slice_index edges 1) (slice_index edges 2)
+
+-- the places of the last column before later edges by the alignment at the first
+abbrev pub columns_to : List ℕ → List ℕ → ℕ
+columns_to own edges = columns_before (slice_index own 0) (slice_index own 1) (slice_index own 2) (slice_index edges 0) (slice_index edges 1) (slice_index edges 2)
+
+abbrev pub last_places : List ℕ → List ℕ → List ℕ
+last_places own edges =
+    (slice_index own 0 + 10 * columns_to own edges - 10) ∷ (slice_index own 1 + 10 * columns_to own edges - 10) ∷ (slice_index own 2 + 10 * columns_to own edges - 10) ∷ []
+
+-- edges of three lanes, at which the alignment in use is
+abbrev pub IsOwn : Fed → List ℕ → Type 0
+IsOwn fed own = IsConfirmed fed (slice_index own 0) (slice_index own 1) (slice_index own 2)
+
+abbrev pub AreEdges : Fed → List ℕ → Type 0
+AreEdges fed edges = IsTriple fed.blue fed.green fed.red (slice_index edges 0) (slice_index edges 1) (slice_index edges 2)
+
+abbrev pub Refutes : Fed → List ℕ → List ℕ → Type 0
+Refutes fed own edges = IsRefuted fed (slice_index own 0) (slice_index own 1) (slice_index own 2) (slice_index edges 0) (slice_index edges 1) (slice_index edges 2)
