@@ -3,10 +3,11 @@ ghost use Rattle.std.specs.Prelude.{◌≡◌, ◌+◌, ◌≤◌, ◌%◌, true
 ghost use Rattle.track_sink.specs.TrackSinks.{bits_fed};
 
 mod cases;
+mod refuted_rows;
 mod rows;
 mod slips;
 
-use crate::RelockSink;
+use crate::{Refuter, Relock};
 use cases::{Case, case_of};
 use outside_io::Failed;
 use rows::CASES;
@@ -16,15 +17,15 @@ use std::process::Abort;
 use std::test::*;
 use std::thread::Threads;
 use tmds_word::LaneBits;
-use track_sink::TrackOutcome;
+use track_sink::{EpochSink, TrackOutcome, Watch};
 
 /// How many bits of each lane arrive in a feed.
 static PIECES: [u32; 4] = [8, 40, 200, 32768];
 
 /// Feeds a sink the next bits of three lanes, as many of each as there are up to a number.
-fn feed_next<R: Threads>(
+fn feed_next<R: Threads, W: Watch>(
     rt: &R,
-    sink: &mut RelockSink,
+    sink: &mut EpochSink<W>,
     case: &Case,
     from: u32,
     most: u32,
@@ -72,9 +73,9 @@ fn part(bytes: &[u8], from: u32, bits: u32) -> &[u8]
 }
 
 /// Feeds a sink that was fed nothing all bits of three lanes, and finishes it.
-fn feed_all<R: Threads>(
+fn feed_all<R: Threads, W: Watch>(
     rt: &R,
-    sink: &mut RelockSink,
+    sink: &mut EpochSink<W>,
     case: &Case,
     most: u32,
     slips: &mut Slips,
@@ -97,10 +98,10 @@ fn feed_all<R: Threads>(
 }
 
 /// That three lanes have these epochs, in feeds of each size.
-fn expect<R: Threads + Abort>(rt: &R, alloc: Global, case: &Case) -> Result<(), Fail> {
+fn expect<R: Threads + Abort, W: Watch>(rt: &R, alloc: Global, case: &Case) -> Result<(), Fail> {
     for most in PIECES {
         let mut slips = Slips::new();
-        let mut sink = RelockSink::open(alloc)?;
+        let mut sink = EpochSink::<W>::open(alloc)?;
         let outcome = TrackOutcome {
             epochs: case.epochs,
             aligned: case.aligned,
@@ -115,11 +116,25 @@ fn expect<R: Threads + Abort>(rt: &R, alloc: Global, case: &Case) -> Result<(), 
     Ok(())
 }
 
-#[test]
-fn epochs(rt: HostRuntime) -> Result<(), Fail> {
-    for text in CASES.split("\n\n") {
-        let case = case_of(rt.alloc(), text)?;
-        expect(&rt, rt.alloc(), &case)?;
+/// That the lanes of a text have its epochs.
+fn expect_all<R: Threads + Abort, W: Watch>(
+    rt: &R,
+    alloc: Global,
+    cases: &str,
+) -> Result<(), Fail> {
+    for text in cases.split("\n\n") {
+        let case = case_of(alloc, text)?;
+        expect::<R, W>(rt, alloc, &case)?;
     }
     Ok(())
+}
+
+#[test]
+fn epochs(rt: HostRuntime) -> Result<(), Fail> {
+    expect_all::<HostRuntime, Relock>(&rt, rt.alloc(), CASES)
+}
+
+#[test]
+fn refuted_epochs(rt: HostRuntime) -> Result<(), Fail> {
+    expect_all::<HostRuntime, Refuter>(&rt, rt.alloc(), refuted_rows::CASES)
 }
