@@ -1,18 +1,21 @@
 /*
-** vabgrot.h: the receiver of one HDMI TMDS link as a C library.
+** vabgrot.h: the receiver and the sender of one HDMI TMDS link as a C library.
 **
 ** A receiver is fed the raw bits of three serial lanes, blue (lane 0), green (lane 1) and red (lane 2), with unknown bit offset
 ** and up to 70 bits of skew between the lanes, in pieces of any size. It finds where characters begin on each lane, lines the
 ** lanes up, and writes what they carry as events into an array of the caller's: runs of control columns, lines of pixels,
 ** packets of data islands, and what is wrong with them. A column is one pixel clock: one character of each lane. Of a whole capture in
-** memory two calls without a receiver write what the program lists of it: vabgrot_recover and vabgrot_check.
+** memory two calls without a receiver write what the program lists of it: vabgrot_recover and vabgrot_check. The other way round
+** vabgrot_make makes a capture of a listing.
 **
 ** What the calls write is proved: of all bits that were fed, exactly the events that the program's `recover link` lists, or its
-** `recover dvi`, by the receiver's kind, in whatever pieces they were fed. docs/proof/PROVED.md of the project has the theorem, and
+** `recover dvi`, by the receiver's kind, in whatever pieces they were fed; and of a listing exactly the capture that the program's
+** `make` makes. docs/proof/PROVED.md of the project has the theorem, and
 ** what it owes to the caller.
 **
 ** Memory. vabgrot_open takes 63,496 bytes from malloc, or 63,272 of VABGROT_DVI, in two blocks; no other call on a handle takes any;
-** vabgrot_close frees them. vabgrot_recover and vabgrot_check take a receiver's and room for the whole listing, and free all.
+** vabgrot_close frees them. vabgrot_recover and vabgrot_check take a receiver's and room for the whole listing, vabgrot_make room for
+** what the listing says, its columns and the whole capture; they free all.
 **
 ** Threads. The library keeps nothing outside the handle and starts no thread. Calls on different handles may run side by side.
 ** Calls on one handle must not overlap; between calls a handle may pass to another thread, as any memory does.
@@ -51,10 +54,11 @@ enum vabgrot_status {
   VABGROT_MISUSE = 2, /* the call does not fit the calls before it, or its bits those before them; nothing was done */
   VABGROT_TOOBIG = 3, /* a lane would have 2^60 bits or more; nothing was done */
   VABGROT_NOMEM = 4,  /* malloc answered NULL; nothing was done */
-  /* Of vabgrot_recover and vabgrot_check alone: */
+  /* Of the calls without a handle alone: */
   VABGROT_FAULTY = 5,    /* all was listed, and it has faults */
   VABGROT_NOCAPTURE = 6, /* the bytes are no capture: what the whole blocks before the fault say was listed */
-  VABGROT_UNALIGNED = 7  /* the lanes have no full alignment, so that nothing was listed */
+  VABGROT_UNALIGNED = 7, /* the lanes have no full alignment, so that nothing was listed */
+  VABGROT_NOLISTING = 8  /* vabgrot_make: the text is no listing, or its content does not fit its mode: a note says why */
 };
 
 /*
@@ -221,6 +225,57 @@ int vabgrot_recover(uint32_t kind, const uint8_t *capture, size_t capture_size, 
 ** Lists the faults of a capture alone, and `clean` or `faulty`, as `check` does: as vabgrot_recover, but for VABGROT_MISUSE.
 */
 int vabgrot_check(const uint8_t *capture, size_t capture_size, uint8_t *listing, size_t room, size_t *size);
+
+/*
+** Kinds of listings that vabgrot_make reads.
+*/
+enum vabgrot_maker {
+  VABGROT_MAKE_LINK = 0,   /* a link, by its periods, as `make link` reads it */
+  VABGROT_MAKE_DVI = 1,    /* one without guard bands and preambles, as `make dvi` does */
+  VABGROT_MAKE_CONTENT = 2 /* frames with their sound and packets, as `make content` does */
+};
+
+/*
+** How many bits later each lane begins, at most 4,095 each.
+*/
+typedef struct vabgrot_skews {
+  uint32_t blue;
+  uint32_t green;
+  uint32_t red;
+} vabgrot_skews;
+
+/*
+** Which bits of three lanes a capture has, as `make` takes them by --version, --offset, --skew and --bits: of each lane those from
+** the offset plus its skew on.
+*/
+typedef struct vabgrot_tap {
+  uint32_t version;    /* of the capture's layout: 1, with equally many bits of each lane, or 2, with all that each has */
+  uint32_t offset;     /* how many bits at the front of each lane are left out */
+  vabgrot_skews skews; /* and how many more of each */
+  uint32_t limited;    /* 1 where a lane has at most `bits` bits, 0 where it has all */
+  uint32_t bits;       /* the most bits of a lane, where `limited` is 1; else any number */
+} vabgrot_tap;
+
+/*
+** All bits of each lane, in version 1.
+*/
+#define VABGROT_TAP {1, 0, {0, 0, 0}, 0, 0}
+
+/*
+** Makes the capture of a tap of the lanes that a listing describes (ASCII text; no zero ends it), by a kind (vabgrot_maker). Whatever
+** the status is, `*size` is how many bytes there are to write, and as many of them as there is room for are in the buffer, from its
+** first on. A call with a `room` of 0 says how much is needed, but takes as long. A capture has at most 30 bits and some for each
+** column, of which a listing describes at most 20,000,000. It starts no thread.
+**
+** VABGROT_OK: the whole capture is in the buffer. VABGROT_FULL: the capture has more bytes than the buffer.
+** VABGROT_NOLISTING: the program would end with 3 and this note, which has at most 64 bytes: `input: line 7 order`, the first wrong line
+** and what is wrong with it, or `input: noroom 0 3` and the like for a content that its mode has no room for, each with a line feed and
+** no zero after it.
+** VABGROT_MISUSE: there is no such kind, or the command line takes no such tap: its version is neither 1 nor 2, a skew is more than
+** 4,095, or `limited` is neither 0 nor 1. VABGROT_NOMEM: malloc answered NULL, and the buffer may have anything. With these two `*size` is 0.
+*/
+int vabgrot_make(uint32_t kind, const vabgrot_tap *tap, const uint8_t *listing, size_t listing_size, uint8_t *capture,
+                 size_t room, size_t *size);
 
 #ifdef __cplusplus
 }

@@ -1,5 +1,6 @@
-"""What surrounds the proved program: its formats, the tools over them, and how the program itself is run; and the receiver as the proved
-C library has it (docs/guide/LIBRARY.md). Nothing here is proved. The names below are loaded when they are first used."""
+"""What surrounds the proved program: its formats, the tools over them, and how the program itself is run; and the receiver and the
+sender as the proved C library has them (docs/guide/LIBRARY.md). Nothing here is proved. The names below are loaded when they are
+first used."""
 
 import importlib
 from typing import TYPE_CHECKING, Any
@@ -10,10 +11,12 @@ if TYPE_CHECKING:
     from vabgrot.library import Misuse, NoLibrary
     from vabgrot.receiving import Arrays, Receiver, receive
     from vabgrot.recovery import Recovered, recover
+    from vabgrot.sending import BadListing, make
     from vabgrot.texts import Text, text_of
 
 __all__ = [
     "Arrays",
+    "BadListing",
     "Closing",
     "Cut",
     "End",
@@ -30,12 +33,14 @@ __all__ = [
     "Refused",
     "Run",
     "Text",
+    "make",
     "receive",
     "recover",
     "text_of",
 ]
 _HOMES = {"Misuse": "library", "NoLibrary": "library", "Refused": "errors", "Recovered": "recovery", "recover": "recovery"}
 _HOMES |= dict.fromkeys(("Arrays", "Receiver", "receive"), "receiving") | dict.fromkeys(("Text", "text_of"), "texts")
+_HOMES |= dict.fromkeys(("BadListing", "make"), "sending")
 
 
 def __getattr__(name: str) -> Any:

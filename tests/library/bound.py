@@ -3,9 +3,10 @@
 import ctypes
 from ctypes import POINTER, Structure, byref, c_int, c_size_t, c_uint8, c_uint32, c_uint64, c_void_p
 
-OK, FULL, MISUSE, TOOBIG, NOMEM, FAULTY, NOCAPTURE, UNALIGNED = range(8)
+OK, FULL, MISUSE, TOOBIG, NOMEM, FAULTY, NOCAPTURE, UNALIGNED, NOLISTING = range(9)
 LEAST_EVENTS, LEAST_BYTES = 104, 12327
 LINK, DVI, TRACK, RELOCK = range(4)
+MAKERS = "link", "dvi", "content"  # by their numbers
 
 
 class Handle(Structure):
@@ -25,6 +26,10 @@ class Answer(Structure):
     _fields_ = (("events", c_uint64), ("bytes", c_uint64), ("taken", Bits), ("columns", c_uint64), ("aligned", c_uint64))
 
 
+class Tap(Structure):
+    _fields_ = tuple((name, c_uint32) for name in ("version", "offset", "blue", "green", "red", "limited", "bits"))
+
+
 def loaded(path):
     """The library with the types of its calls."""
     calls = ctypes.CDLL(str(path))
@@ -37,6 +42,7 @@ def loaded(path):
     listed = (POINTER(c_uint8), c_size_t) * 2 + (POINTER(c_size_t),)
     calls.vabgrot_recover.argtypes, calls.vabgrot_recover.restype = (c_uint32, *listed), c_int
     calls.vabgrot_check.argtypes, calls.vabgrot_check.restype = listed, c_int
+    calls.vabgrot_make.argtypes, calls.vabgrot_make.restype = (c_uint32, POINTER(Tap), *listed), c_int
     return calls
 
 
@@ -45,6 +51,13 @@ def listed(calls, kind, capture, room):
     call, words = (calls.vabgrot_check, ()) if kind is None else (calls.vabgrot_recover, (kind,))
     given, buffer, size = (c_uint8 * max(1, len(capture)))(*capture), (c_uint8 * max(1, room))(), c_size_t()
     status = call(*words, given, len(capture), buffer, room, byref(size))
+    return status, size.value, bytes(buffer[:room])
+
+
+def made(calls, kind, text, room, tap=(1, 0, 0, 0, 0, 0, 0)):
+    """The status, the size and the buffer of a call that makes a capture, by a tap of these numbers."""
+    given, buffer, size = (c_uint8 * max(1, len(text)))(*text), (c_uint8 * max(1, room))(), c_size_t()
+    status = calls.vabgrot_make(kind, byref(Tap(*tap)), given, len(text), buffer, room, byref(size))
     return status, size.value, bytes(buffer[:room])
 
 

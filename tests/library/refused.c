@@ -1,6 +1,6 @@
 /*
-** Refuses each allocation of vabgrot_open in turn, for each kind, and counts those of all calls; and each of vabgrot_recover and
-** vabgrot_check. Linked with --wrap=malloc, realloc and free.
+** Refuses each allocation of vabgrot_open in turn, for each kind, and counts those of all calls; and each of vabgrot_recover,
+** vabgrot_check and vabgrot_make. Linked with --wrap=malloc, realloc and free.
 */
 #include <stdio.h>
 #include <stdlib.h>
@@ -102,6 +102,35 @@ static int try_listing(uint32_t kind) {
   return 0;
 }
 
+/* Listings of each kind of vabgrot_make. */
+static const char *const listings[] = {
+    "c 00 24\nc 04 8\nv ff0000\nc 00 12\nc 14 8\ni 00\np 000000 00000000000000 00000000000000 00000000000000 00000000000000 "
+    "00000000000000000000000000000000\ne 00\nc 00 12\nend\n",
+    "c 00 12\nv ff0000\nc 00 12\nend\n",
+    "mode 1 1 1 30 1 1 1 2 0\nrow ff0000\nframe 1 1\nend\n",
+};
+
+static int try_making(uint32_t kind) {
+  static const vabgrot_tap whole = VABGROT_TAP;
+  const uint8_t *const listing = (const uint8_t *)listings[kind];
+  uint8_t made[4096];
+  size_t length = 0, size = 0;
+  while (listing[length] != 0) length++;
+  asked = 0;
+  const int status = vabgrot_make(kind, &whole, listing, length, made, sizeof made, &size);
+  const long needed = asked;
+  if (status != VABGROT_OK || size == 0 || size > sizeof made || needed == 0 || held != 0) return wrong("make");
+  for (long at = 1; at <= needed; at++) {
+    asked = 0;
+    refused_at = at;
+    if (vabgrot_make(kind, &whole, listing, length, made, sizeof made, &size) != VABGROT_NOMEM || size != 0 || held != 0) {
+      return wrong("a refused capture");
+    }
+    refused_at = 0;
+  }
+  return 0;
+}
+
 int main(void) {
   for (size_t at = 0; at < sizeof capture; at++) {
     unsigned byte;
@@ -110,6 +139,9 @@ int main(void) {
   }
   for (uint32_t kind = VABGROT_LINK; kind <= VABGROT_RELOCK + 1; kind++) {
     if (try_listing(kind)) return 1;
+  }
+  for (uint32_t kind = VABGROT_MAKE_LINK; kind <= VABGROT_MAKE_CONTENT; kind++) {
+    if (try_making(kind)) return 1;
   }
   return try_kind(VABGROT_LINK) || try_kind(VABGROT_DVI);
 }

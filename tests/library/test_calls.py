@@ -150,7 +150,7 @@ def test_threads(calls):
 
 
 def test_refused_memory(compiled):
-    """Each allocation of an opening, or of a call that lists a capture, is refused in turn: it answers so, and frees what it had; no
-    other call allocates."""
+    """Each allocation of an opening, or of a call that lists or makes a capture, is refused in turn: it answers so, and frees what it
+    had; no other call allocates."""
     came = ran([compiled(TOP / "tests" / "library" / "refused.c", "-Wl,--wrap=malloc,--wrap=realloc,--wrap=free")], b"")
     assert came.returncode == 0, came.stdout + came.stderr

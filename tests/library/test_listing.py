@@ -83,7 +83,8 @@ def test_refusals(listing, tmp_path):
 
 @pytest.mark.parametrize("compiler, words", (("gcc", ()), ("clang", ("-Wpedantic",)), ("gcc", ("-O2", "-Wpedantic", "-Wshadow"))))
 def test_examples(compiled, compiler, words):
-    compiled(TOP / "examples" / "c" / "listing.c", *words, compiler=compiler)
+    for name in ("listing.c", "make.c"):
+        compiled(TOP / "examples" / "c" / name, *words, compiler=compiler)
 
 
 @pytest.mark.parametrize("compiler", ("g++", "clang++"))
@@ -110,7 +111,7 @@ def test_symbols(library):
     """The shared library exports the header's calls and nothing else, and needs the C library alone."""
     if not shutil.which("nm") or not shutil.which("readelf"):
         pytest.skip("binutils are missing")
-    names = {f"vabgrot_{it}" for it in ("open", "feed", "finish", "restart", "close", "recover", "check")}
+    names = {f"vabgrot_{it}" for it in ("open", "feed", "finish", "restart", "close", "recover", "check", "make")}
     path = library / "libvabgrot.so.1"
     lines = ran(["nm", "-D", "--defined-only", path], b"").stdout.decode().split("\n")
     assert {line.split()[2].partition("@")[0] for line in lines if " T " in line} == names

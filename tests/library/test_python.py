@@ -300,7 +300,7 @@ def blocks(language):
 
 
 def test_c_as_printed(bars, compiled):
-    source, call = blocks("c")
+    source, call, making = blocks("c")
     (bars / "count.c").write_text(source)
     came = subprocess.run([compiled(bars / "count.c"), "blue", "green", "red"], cwd=bars, capture_output=True, text=True, timeout=HANGS)
     columns = 3 * (32 + 8 + 16 + 64) * (8 + 2 + 2 + 3) + 32  # three frames of the listing's mode, and the columns after the last
@@ -308,13 +308,17 @@ def test_c_as_printed(bars, compiled):
     given = "const uint8_t capture[] = {84, 77, 67, 51}; const size_t capture_size = 4, room = 4; uint8_t listing[4];"
     (bars / "call.c").write_text(f"#include <vabgrot.h>\n\nint main(void) {{\n{given}\n{call}return size != 0;\n}}\n")
     assert subprocess.run([compiled(bars / "call.c")], timeout=HANGS).returncode == 0  # no capture: nothing is listed
+    given = "const uint8_t listing[] = {101, 110, 100, 10}; const size_t listing_size = 4, room = 64; uint8_t capture[64];"
+    (bars / "make.c").write_text(f"#include <stdio.h>\n#include <vabgrot.h>\n\nint main(void) {{\n{given}\n{making}return 0;\n}}\n")
+    came = subprocess.run([compiled(bars / "make.c")], capture_output=True, timeout=HANGS)
+    assert (came.returncode, came.stderr) == (0, b"input: line 1 order\n")  # `end` alone
 
 
 def test_python_as_printed(bars, found):
-    """The events of three files, a whole capture, and pieces."""
-    lanes, whole = ["blue", "green", "red"], ["bars.tmc"]
+    """The events of three files, a whole capture, one that is made, and pieces."""
+    lanes, whole, listing = ["blue", "green", "red"], ["bars.tmc"], [TOP / "examples" / "skewed.link"]
     says = []
-    for source, words in zip(blocks("python"), (lanes, whole, lanes), strict=True):
+    for source, words in zip(blocks("python"), (lanes, whole, listing, lanes), strict=True):
         env = {**os.environ, "PYTHONPATH": str(TOP / "python")}
         came = subprocess.run([sys.executable, "-c", source, *words], cwd=bars, capture_output=True, text=True, env=env, timeout=HANGS)
         assert came.returncode == 0, came.stderr
@@ -322,7 +326,8 @@ def test_python_as_printed(bars, found):
     assert "a line of 32 pixels" in says[0] and "on lane 2 (red): code, the first character of a row on its lane" in says[0]
     assert says[0].endswith(" columns, aligned\n")
     assert says[1].count("(8, 32, 3)\n") == 3 and "packets" in says[1] and "'code', 2)" in says[1]
-    assert " faults, " in says[2] and says[2].endswith("aligned=True)\n")
+    assert says[2] == "158 bytes, 20 columns\nline 2 is refused: preamble\n"
+    assert " faults, " in says[3] and says[3].endswith("aligned=True)\n")
 
 
 def test_without_the_library_the_program_hears(executable, monkeypatch):

@@ -10,7 +10,7 @@ use Rattle.c_capture.specs.Statuses.{status_of}
 use Rattle.c_capture.specs.declared.status.Status.{Status}
 
 -- an ending with an outcome says what was written since nothing was
-output_of : (command : Command) (e : Ending) (bytes : List ℕ) (f g h : ℕ) (rest : Option (List ℕ)) (text : List ℕ) (status : ℕ)
+pub output_of : (command : Command) (e : Ending) (bytes : List ℕ) (f g h : ℕ) (rest : Option (List ℕ)) (text : List ℕ) (status : ℕ)
     → IsAnswered command e (seen (Some bytes) 0 (Some []) f) (seen rest g (Some text) h) bytes → program_status e ≡ status
     → IsOutput command bytes status text
 output_of command e bytes f g h rest text status a is = record { outcome = a.outcome; does = a.does; ended = a.status ∙ is; written = a.written }

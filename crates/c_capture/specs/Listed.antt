@@ -5,7 +5,7 @@ use Rattle.capture_commands.specs.Outcome.{RunOutcome, Does}
 use Rattle.c_capture.specs.Readers.{number_of, IsNoReader, command_of}
 use Rattle.c_capture.specs.declared.reader.Reader.{Reader}
 use Rattle.c_capture.specs.declared.status.Status.{Status}
-use Rattle.c_capture.specs.declared.status.Status.TheVariants.{Done, Full, Misuse, NoMemory, Faulty, NoCapture, Unaligned}
+use Rattle.c_capture.specs.declared.status.Status.TheVariants.{Done, Full, Misuse, NoMemory, Faulty, NoCapture, Unaligned, NoListing}
 
 -- the command has an outcome of this status and this output
 pub record IsOutput (command : Command) (bytes : List ℕ) (status : ℕ) (text : List ℕ) : Type 0 where
@@ -23,6 +23,7 @@ Says command bytes Unaligned text = IsOutput command bytes 7 text
 Says command bytes NoMemory text = Unit {0}
 Says command bytes Full text = ⊥
 Says command bytes Misuse text = ⊥
+Says command bytes NoListing text = ⊥
 
 -- the first bytes of the buffer are all that the command writes
 pub record IsWhole (command : Command) (bytes : List ℕ) (status size : ℕ) (buffer : List ℕ) : Type 0 where
@@ -49,6 +50,7 @@ Lists command bytes Unaligned size buffer = IsWhole command bytes 7 size buffer
 Lists command bytes Full size buffer = IsCut command bytes size buffer
 Lists command bytes NoMemory size buffer = size ≡ 0
 Lists command bytes Misuse size buffer = ⊥
+Lists command bytes NoListing size buffer = ⊥
 
 -- the same of the reader that has a number. It is a misuse exactly where none has it
 abbrev pub Recovers : ℕ → List ℕ → Status → ℕ → List ℕ → Type 0

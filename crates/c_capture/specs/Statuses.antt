@@ -3,7 +3,7 @@ use Rattle.std.specs.Prelude.{ℤ, pos, Bool, true, false}
 use Rattle.capture_commands.specs.declared.ending.Ending.{Ending}
 use Rattle.capture_commands.specs.declared.ending.Ending.TheVariants as ends
 use Rattle.c_capture.specs.declared.status.Status.{Status}
-use Rattle.c_capture.specs.declared.status.Status.TheVariants.{Done, Full, Misuse, NoMemory, Faulty, NoCapture, Unaligned}
+use Rattle.c_capture.specs.declared.status.Status.TheVariants.{Done, Full, Misuse, NoMemory, Faulty, NoCapture, Unaligned, NoListing}
 
 abbrev pub code_of : Status → ℤ
 code_of Done = pos 0
@@ -13,6 +13,7 @@ code_of NoMemory = pos 4
 code_of Faulty = pos 5
 code_of NoCapture = pos 6
 code_of Unaligned = pos 7
+code_of NoListing = pos 8
 
 abbrev pub status_of : Ending → Status
 status_of ends.Done = Done

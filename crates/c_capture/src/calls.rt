@@ -102,7 +102,8 @@ fn hand_over(status: Status, text: &[u8], buffer: &mut [u8]) -> Listed
 }
 
 /// Copies as many of the first bytes as there is room for, and says whether they are all.
-fn copy_text(text: &[u8], buffer: &mut [u8]) -> bool
+pub(crate) fn copy_text(text: &[u8], buffer: &mut [u8]) -> bool
+    ensures first { take (length text.now) buffer.new ≡ take (length buffer.new) text.now }
     ensures whole { OnTrue result (take (length text.now) buffer.new ≡ text.now) }
     ensures longer { OnFalse result (length buffer.new < length text.now) }
     ensures part { OnFalse result (buffer.new ≡ take (length buffer.new) text.now) }

@@ -11,7 +11,7 @@ pub enum Status {
     Done,
     /// The buffer has no room for all that was listed.
     Full,
-    /// No reader has this number.
+    /// No reader has this number, or no maker, or there is no such tap.
     Misuse,
     /// The memory is not there.
     NoMemory,
@@ -21,6 +21,8 @@ pub enum Status {
     NoCapture,
     /// The lanes have no full alignment.
     Unaligned,
+    /// The bytes are no listing.
+    NoListing,
 }
 
 impl Status {
@@ -62,6 +64,7 @@ impl Status {
             Status::Faulty => 5,
             Status::NoCapture => 6,
             Status::Unaligned => 7,
+            Status::NoListing => 8,
         }
     }
 }

@@ -1,4 +1,4 @@
-//! The receiver of a link for C: `vabgrot.h` says what each call does, and what C owes.
+//! The receiver and the sender of a link for C: `vabgrot.h` says what each call does, and what C owes.
 #![tactic(auto)]
 
 ghost use Rattle.std.specs.Prelude.{◌≡◌, ◌⊎◌, ◌+◌, ◌<◌, ◌≤◌, ℤ, pos, List, length, take, cond, None};
@@ -8,6 +8,7 @@ ghost use Rattle.link_sink.specs.Pieces.{no_bits};
 ghost use Rattle.link_sink.specs.declared.hear.Outcome.{Outcome as OutcomeValue};
 ghost use Rattle.command_line.specs.declared.command.Command.TheVariants.{Check};
 ghost use Rattle.c_capture.specs.Listed.{Lists, Recovers};
+ghost use Rattle.c_capture.specs.Made.{Makes};
 ghost use Rattle.c_capture.specs.Statuses.{code_of as listing_code};
 ghost use Rattle.c_capture.specs.declared.status.Status.{Status as ListingStatus};
 ghost use Rattle.c_room.specs.Handles.{IsHandle, IsOfKind, Holds, IsOpen, MayFeedAll, AreFewMore};
@@ -20,7 +21,7 @@ ghost use Rattle.c_room.specs.declared.kind.Kind.{Kind as KindValue};
 ghost use Rattle.c_room.specs.declared.status.Status.{Status as StatusValue};
 ghost use Rattle.c_room.specs.declared.status.Status.TheVariants.{Done, Full, Misuse, TooMany, NoMemory};
 
-use c_capture::{check, recover};
+use c_capture::{Tap, check, make, recover};
 use c_room::{BitCounts, Handle, LentLanes, Record};
 use std::alloc::Global;
 
@@ -191,4 +192,22 @@ pub extern "C" fn vabgrot_check(
     let listed = check(alloc, capture, listing);
     *size = listed.size;
     listed.status.code()
+}
+
+/// Makes the capture of a tap of a listing by the maker that has a number, as the program's command does: as many of its first
+/// bytes as there is room for, or of the note with which the listing is refused. `size` is how many it has.
+#[unsafe(no_mangle)]
+pub extern "C" fn vabgrot_make(
+    alloc: Global,
+    number: u32,
+    tap: &Tap,
+    listing: &[u8],
+    capture: &mut [u8],
+    size: &mut usize,
+) -> i32
+    ensures { (status : ListingStatus) × (result ≡ listing_code status) × Makes number tap.now listing.now status size.new capture.new }
+{
+    let made = make(alloc, number, tap, listing, capture);
+    *size = made.size;
+    made.status.code()
 }
