@@ -34,7 +34,13 @@ function contentsInWords({ last }, areLimits) {
 
 /** @param {string[]} why the kind of what is no capture, and a number @returns {string} */
 function whyInWords([kind, number]) {
+  if (kind === "short" && number === "0") return "empty";
   return (NO_CAPTURES[kind] ?? "no capture").replace("{}", number);
+}
+
+/** @param {Gathered} gathered @returns {boolean} whether no lane has bits */
+function isEmpty({ last: { bits } }) {
+  return bits.every((count) => !count);
 }
 
 /** @param {Gathered} gathered @param {State} state @returns {Verdict} the word at the top, and a sentence on it */
@@ -43,12 +49,12 @@ export function verdictOf(gathered, state) {
   if (state.isStopped) return { word: "Stopped", sign: "■", kind: "faulty", says: `What was read until then is shown: ${faults}.` };
   if (state.status === null) return { word: "Reading", sign: "…", kind: "reading", says: `${faults} so far.` };
   if (state.status === NO_ALIGNMENT) {
-    const says = "The capture is well formed, but its three lanes have no place at which a control period ends on all of them.";
-    return { word: "No alignment", sign: "?", kind: "faulty", says };
+    const why = isEmpty(gathered) ? "no bits" : "no place at which a control period ends on all of them";
+    return { word: "No alignment", sign: "?", kind: "faulty", says: `The capture is well formed, but its three lanes have ${why}.` };
   }
   if (state.status === NO_CAPTURE) {
-    const says = `The file is ${whyInWords(state.why)}. What it has before that place is shown: ${faults}.`;
-    return { word: "Broken file", sign: "✗", kind: "faulty", says };
+    const before = gathered.data.columns ? ` What it has before that place is shown: ${faults}.` : "";
+    return { word: "Broken file", sign: "✗", kind: "faulty", says: `The file is ${whyInWords(state.why)}.${before}` };
   }
   return judged(gathered, state.status, faults);
 }
@@ -69,19 +75,22 @@ function judged(gathered, status, faults) {
   return { word: "Clean", sign: "✓", kind: "clean", says };
 }
 
-/** @param {Gathered} gathered @returns {[string, string, string][]} the numbers at the top: title, value, note */
-export function countsOf({ data, hurt, faults, hearing, last: { bits, size, found } }) {
+/** @param {Gathered} gathered @param {State} state @returns {[string, string, string][]} the numbers at the top: title, value, note */
+export function countsOf({ data, hurt, faults, hearing, last: { bits, size, found } }, { isDvi }) {
   const { counts, contentFaults } = found;
   const wrong = Object.values(contentFaults).reduce((sum, times) => sum + times, 0);
   const contents = wrong ? [["contents", thousands(wrong), "faults of what was carried"]] : [];
+  const carried = isDvi ? [] : [
+    ["packets", thousands(data.packets.at.length), hurt ? `${thousands(hurt)} damaged` : "none damaged"],
+    ["samples", thousands(found.sound.told.samples), hearing ? channelsInWords(hearing.channels.length) : ""],
+  ];
   return /** @type {[string, string, string][]} */ ([
     ["faults", thousands(faults), "lines of the listing"],
     ...contents,
     ["columns", thousands(data.columns), ""],
     ["frames", thousands(counts.whole), framesInWords(data, counts)],
     ["rows", thousands(counts.rows), "of pixels"],
-    ["packets", thousands(data.packets.at.length), hurt ? `${thousands(hurt)} damaged` : "none damaged"],
-    ["samples", thousands(found.sound.told.samples), hearing ? channelsInWords(hearing.channels.length) : ""],
+    ...carried,
     ["capture", size >= 1e6 ? `${megabytes(size)} MB` : `${thousands(size)} bytes`, bitsInWords(bits)],
   ]);
 }
@@ -136,7 +145,8 @@ export function adviceOf(state, gathered) {
   const { slip, found } = gathered.last;
   const isNoise = state.status !== null && !found.counts.rows && !gathered.data.packets.at.length && gathered.matrix.noise;
   const slips = slip && !state.isDvi ? [slipInWords(slip)] : [];
-  return [...slips, ...(state.status === NO_ALIGNMENT || isNoise ? ADVICE : [])];
+  const isUnaligned = state.status === NO_ALIGNMENT && !isEmpty(gathered);
+  return [...slips, ...(isUnaligned || isNoise ? ADVICE : [])];
 }
 
 /** @param {import("./strays.js").Slip} slip @returns {string} */

@@ -1,6 +1,6 @@
 // Puts what sections.js says into the page.
 
-import { megabytes } from "./bytes.js";
+import { megabytes, thousands } from "./bytes.js";
 import { showSound } from "./listening.js";
 import { adviceOf, contentFaultsOf, countsOf, listingInWords, matrixOf, notesOf, verdictOf } from "./sections.js";
 
@@ -40,12 +40,12 @@ export function showHead(gathered, state) {
 
 /** @param {Gathered} gathered @param {State} state */
 export function showSections(gathered, state) {
-  showCounts(gathered);
+  showCounts(gathered, state);
   const notes = gathered.data.columns ? notesOf(gathered, state) : [];
   fill("notes", notes, (note) => made("p", { className: "note" }, note));
   fill("advice-list", adviceOf(state, gathered), (line) => made("li", {}, line));
   show("advice", by("advice-list").children.length > 0);
-  showParts(gathered);
+  showParts(gathered, state);
   showFaults(gathered);
   showPackets(gathered);
   show("sound", gathered.hearing !== null);
@@ -56,18 +56,19 @@ export function showSections(gathered, state) {
   fill("sections", here, ([id, title]) => made("a", { href: `#${id}` }, title));
 }
 
-/** @param {Gathered} gathered */
-function showCounts(gathered) {
-  fill("counts", countsOf(gathered), ([title, value, note]) => {
+/** @param {Gathered} gathered @param {State} state */
+function showCounts(gathered, state) {
+  fill("counts", countsOf(gathered, state), ([title, value, note]) => {
     const number = made("b", { id: `count-${title}` }, value);
     number.style.setProperty("--size", String(value.length));
     return made("div", {}, made("dt", {}, title), made("dd", {}, number, ...(note ? [" ", made("span", {}, note)] : [])));
   });
 }
 
-/** @param {Gathered} gathered */
-function showParts({ data }) {
-  for (const id of ["pictures", "timeline", "faults", "packets", "listing"]) show(id, data.columns > 0);
+/** @param {Gathered} gathered @param {State} state */
+function showParts({ data }, { isDvi }) {
+  for (const id of ["pictures", "timeline", "faults", "listing"]) show(id, data.columns > 0);
+  show("packets", data.columns > 0 && !isDvi);
   show("viewer", data.frames.length > 0);
   show("no-pictures", !data.frames.length);
   show("some-packets", data.packets.at.length > 0);
@@ -86,14 +87,14 @@ function showFaults(gathered) {
   const contents = contentFaultsOf(gathered);
   show("some-contents", contents.length > 0);
   fill("contents", contents, ([kind, times, says]) => made(
-    "tr", {}, made("th", { scope: "row" }, made("code", {}, kind)), made("td", { className: "number" }, String(times)),
+    "tr", {}, made("th", { scope: "row" }, made("code", {}, kind)), made("td", { className: "number" }, thousands(times)),
     made("td", {}, says),
   ));
 }
 
 /** @param {string} kind @param {number} lane @param {number} times @returns {HTMLElement} what shows these faults */
 function faultButton(kind, lane, times) {
-  const button = made("button", { type: "button", className: "count", "aria-label": `${times} ${kind}: show` }, String(times));
+  const button = made("button", { type: "button", className: "count", "aria-label": `${times} ${kind}: show` }, thousands(times));
   Object.assign(button.dataset, { kind, lane });
   return button;
 }

@@ -174,9 +174,10 @@ def test_dvi(page, program, tmp_path):
 @pytest.mark.parametrize(
     ("data", "word", "says"),
     (
-        (b"TMC1\0\0\0\0", "No alignment", "no place at which a control period ends"),
+        (b"TMC1\0\0\0\0", "No alignment", "its three lanes have no bits"),
+        (b"TMC1\0\0\0\x08\0\0\0", "No alignment", "no place at which a control period ends"),
         (b"hello", "Broken file", "which begins with TMC"),
-        (b"", "Broken file", "it ends after 0 bytes"),
+        (b"", "Broken file", "The file is empty."),
         (b"TMC3\0\0\0\0", "Broken file", "its fourth byte is 51"),
         (b"TMC1\0\0\0\x08\0\0", "Broken file", "it ends after 10 bytes"),
         (b"TMC1\0\0\0\x08\0\0\0\0", "Broken file", "byte 11 and what follows"),
@@ -187,7 +188,8 @@ def test_no_capture(page, tmp_path, data, word, says):
     (tmp_path / "a.tmc").write_bytes(data)
     page.read(tmp_path / "a.tmc")
     assert word in page.text("verdict") and says in page.text("says")
-    assert page.run("return document.getElementById('advice').hidden") == (word != "No alignment")
+    assert page.run("return document.getElementById('advice').hidden") == ("no place" not in says)
+    assert "is shown" not in page.text("says")
     page.check()
 
 
