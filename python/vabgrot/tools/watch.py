@@ -28,7 +28,7 @@ from vabgrot.watching.state import State
 
 TEXT = """Shows a capture while it comes in, from standard input, a FIFO, or a file that grows: whether the lanes are aligned and since
 when, columns a second, the video format, frames, faults by kind and lane, packets as they stand, sound levels, the last ten faults,
-and a small picture of the last frame. All faults and columns are counted; the view takes a tenth of the time at most, and says where
+and a small picture of the last frame. All faults and columns are counted; the view takes a twentieth of the time at most, and says where
 that is not enough to look at all frames. With --raw blocks without a header come in, without an end: a live link. The keyboard
 (Ctrl-C) ends it, with a summary. Where the output is no terminal a line is written each second."""
 FAULTY = "done, and a fault came, or the lanes were not aligned"
@@ -36,7 +36,7 @@ EXAMPLES = """./vabgrot make content < examples/bars.content > bars.tmc
 cat bars.tmc | tools/watch --log faults.csv
 tools/watch --follow --stop-on-fault bars.tmc"""
 EACH = 0.25  # seconds between two views, at least
-REST = 20  # times as long as a view takes to draw passes before the next one: drawing has half of the time of what looks
+REST = 40  # times as long as a view takes to draw passes before the next one: drawing has half of the time of what looks
 SECOND = 1.0
 HEADS = ("seconds", "kind", "lane", "epoch", "column", "numbers")
 

@@ -21,7 +21,7 @@ from vabgrot.video.timings import Meter
 from vabgrot.watching.counting import LINE, SAMPLES, SLIP, Batch, Ints, Syncs
 from vabgrot.watching.records import packet_of
 
-SHARE, GRACE = 0.1, 0.2  # of the time that may be looked, and seconds that may be so in any case
+SHARE, GRACE = 0.05, 0.2  # of the time that may be looked, and seconds that may be so in any case
 FRAMES = 12  # whole frames after which a look begins anew: its raster and its sound are those of so many
 ENOUGH, MOST = 2, 1 << 27  # whole frames, or bytes of events, that a look has before it ends for want of time
 AUDIO = 0x84  # the type of audio InfoFrames

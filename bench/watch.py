@@ -1,0 +1,109 @@
+#!/usr/bin/env python3
+"""Measures tools/watch against the receiver of the C library alone (library/out, or the one that VABGROT_LIBRARY names).
+
+    bench/watch.py [--program PROGRAM] [--columns MILLIONS] [--runs RUNS]
+
+Two streams of bench/library.py, which PROGRAM makes (crates/hdmi_cli/out/hdmi_cli): lines of 2,200 columns with 1,920 noisy pixels, and the
+same with a data island of one packet a line; 64 lines again and again, 150 million columns if not told otherwise. Each comes on standard
+input, as a capture and as raw blocks, RUNS times (3). What is told is user time in seconds, the least of the runs, without the start, which
+a twentieth of the stream tells:
+
+    feed     a process of Python that reads the blocks as tools/watch does and feeds them to vabgrot_feed, with all events and pixels
+             written into one array and one buffer, and no look at them
+    watch    tools/watch --plain of the capture
+    raw      tools/watch --plain --raw of the blocks
+
+and how many times as long as `feed` the others take. The load of the machine before is told: a number counts where nothing else runs.
+"""
+
+import argparse
+import os
+import resource
+import subprocess
+import sys
+import tempfile
+from itertools import islice
+from pathlib import Path
+
+import numpy as np
+
+import inputs
+import library
+
+TOP = library.TOP
+STREAMS = 2  # of those of bench/library.py
+PERIOD = inputs.KINDS * library.COLUMNS * 10 // 8  # bytes of a lane after which it begins anew
+PARTS = 20  # of a stream, one of which tells the start
+WAYS = ("feed", "watch", "raw")
+
+
+def feed(file):
+    """Feeds raw blocks to the library."""
+    from vabgrot.watching.blocks import Blocks
+
+    fed, blocks = library.Fed(False), Blocks()
+    while blocks.read(file):
+        if blocks.is_full:
+            fed.feed(blocks.lanes(blocks.whole()))
+            blocks.take(blocks.whole())
+    fed.feed(blocks.lanes(blocks.whole()))
+    fed.finish()
+
+
+def write(folder, lanes, columns):
+    """A capture of lanes that go on as these do, and its raw blocks; answers their paths."""
+    capture, blocks = folder / "capture", folder / "blocks"
+    count = columns * 10 // 8 // library.capture.BLOCK
+    size = count * library.capture.BLOCK
+    period = [lane[PERIOD : 2 * PERIOD] for lane in lanes]
+    found = [np.resize(lane, size).reshape(count, 1, -1) for lane in period]
+    np.concatenate(found, axis=1).tofile(blocks)
+    capture.write_bytes(b"TMC1" + (8 * size).to_bytes(4, "big") + blocks.read_bytes())
+    return capture, blocks
+
+
+def user(way, paths):
+    """The user time of a run."""
+    capture, blocks = paths
+    watch = [TOP / "tools" / "watch", "--plain"]
+    words = {"feed": [sys.executable, __file__, "--feed"], "watch": watch, "raw": [*watch, "--raw"]}[way]
+    before = resource.getrusage(resource.RUSAGE_CHILDREN).ru_utime
+    with open(capture if way == "watch" else blocks, "rb") as file:
+        ran = subprocess.run(words, stdin=file, capture_output=True, check=False)
+    assert ran.returncode == 0, ran.stderr.decode()
+    return resource.getrusage(resource.RUSAGE_CHILDREN).ru_utime - before
+
+
+def least(paths, runs):
+    """The least time of each way; they are run in turn, so that a load that comes and goes is on all of them."""
+    taken = [[user(way, paths) for way in WAYS] for _ in range(runs)]
+    return dict(zip(WAYS, map(min, zip(*taken))))
+
+
+def times(program, columns, runs, folder):
+    """Of each stream its name, and of each way the time without the start."""
+    for name, lanes in islice(library.streams(program, 4 * inputs.KINDS, folder), STREAMS):
+        few = least(write(folder, lanes, columns // PARTS), runs)
+        all_of_it = least(write(folder, lanes, columns), runs)
+        yield name, {way: (all_of_it[way] - few[way]) * PARTS / (PARTS - 1) for way in WAYS}
+
+
+def main():
+    words = argparse.ArgumentParser(description=__doc__, formatter_class=argparse.RawDescriptionHelpFormatter)
+    words.add_argument("--program", default=os.environ.get("VABGROT_PROGRAM", library.PROGRAM))
+    words.add_argument("--columns", type=int, default=150, metavar="MILLIONS")
+    words.add_argument("--runs", type=int, default=3)
+    words.add_argument("--feed", action="store_true", help=argparse.SUPPRESS)
+    args = words.parse_args()
+    if args.feed:
+        feed(sys.stdin.fileno())
+        return
+    print(f"load {os.getloadavg()[0]:.2f}, best of {args.runs}")
+    with tempfile.TemporaryDirectory() as folder:
+        for name, taken in times(args.program, args.columns * 1_000_000, args.runs, Path(folder)):
+            told = ", ".join(f"{way} {taken[way]:.2f} s, {taken[way] / taken['feed']:.2f} times" for way in WAYS)
+            print(f"{name}: {told}", flush=True)
+
+
+if __name__ == "__main__":
+    main()
