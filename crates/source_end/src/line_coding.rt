@@ -45,18 +45,30 @@ pub(crate) fn pixels<C: ColumnSink>(bytes: &[u8], out: &mut C) -> Result<(), NoM
         green: VideoCoder::new(),
         red: VideoCoder::new(),
     };
+    let mut blue = [0; PACKED];
+    let mut green = [0; PACKED];
+    let mut red = [0; PACKED];
     let count = bytes.len() / 3 / GROUP * GROUP;
     for i in 0..count.div_ceil(BLOCK) {
         let from = BLOCK * i;
         let upto = count.min(from + BLOCK);
-        coders = block(&bytes[3 * from..3 * upto], coders, out)?;
+        let part = &bytes[3 * from..3 * upto];
+        coders = block(part, coders, &mut blue, &mut green, &mut red, out)?;
     }
     rest(&bytes[3 * count..], coders, out)?;
     Ok(())
 }
 
-/// Gives the columns of groups of four pixels, at most 256 pixels, and the coders after them.
-fn block<C: ColumnSink>(bytes: &[u8], coders: Coders, out: &mut C) -> Result<Coders, NoMemory>
+/// Gives the columns of groups of four pixels, at most 256 pixels, and the coders after them. The characters of each lane are packed in
+/// room of its own.
+fn block<C: ColumnSink>(
+    bytes: &[u8],
+    coders: Coders,
+    blue: &mut [u8; PACKED],
+    green: &mut [u8; PACKED],
+    red: &mut [u8; PACKED],
+    out: &mut C,
+) -> Result<Coders, NoMemory>
     requires whole { length bytes.now % 12 ≡ 0 }
     requires few { length bytes.now ≤ 768 }
     requires room { length (C.taken out.old) + length bytes.now / 3 < 429496729 }
@@ -64,9 +76,6 @@ fn block<C: ColumnSink>(bytes: &[u8], coders: Coders, out: &mut C) -> Result<Cod
     ensures part { OnErr result (TookFront (C.taken out.old) (C.taken out.new) (AreCoded coders.blue coders.green coders.red (pixels_of bytes.now))) }
     ensures cause { HasCause (C.refusals out.old) (C.refusals out.new) result }
 {
-    let mut blue = [0; PACKED];
-    let mut green = [0; PACKED];
-    let mut red = [0; PACKED];
     let size = bytes.len() / 12 * 5;
     let after = Coders {
         blue: code(bytes, 2, coders.blue, &mut blue[..size]),
