@@ -18,3 +18,4 @@ pub mod ContentReading
 pub mod ContentFormSeen
 pub mod ContentReported
 pub mod ContentKept
+pub mod HexValues

@@ -1,7 +1,8 @@
 //! The bytes that hexadecimal digits are, without a branch at each digit.
-ghost use Rattle.std.specs.Prelude.{◌≡◌, ◌+◌, ◌*◌, ◌<◌, length, Some, true, ◌↔◌, IsTrue};
+ghost use Rattle.std.specs.Prelude.{◌≡◌, ◌+◌, ◌*◌, ◌/◌, ◌%◌, ◌≤◌, length, slice_index, true};
 ghost use Rattle.std.specs.List.{list_all};
-ghost use Rattle.hex.specs.Hex.{decode_of, hex_digit_value, is_hex_digit};
+ghost use Rattle.hex.specs.Hex.{decode_of, is_hex_digit};
+ghost use Rattle.listing_reader.specs.HexValues.{value_of, AreBytesOf};
 
 /// Whether each byte is a hexadecimal digit, in either case.
 pub(crate) fn are_digits(text: &[u8]) -> bool
@@ -18,11 +19,32 @@ pub(crate) fn are_digits(text: &[u8]) -> bool
 pub(crate) fn put_bytes(digits: &[u8], into: &mut [u8])
     requires twice { length digits.now ≡ 2 * length into.old }
     requires digits { list_all is_hex_digit digits.now ≡ true }
-    ensures { decode_of digits.now ≡ Ok into.new }
+    ensures decoded { decode_of digits.now ≡ Ok into.new }
+    ensures values { AreBytesOf digits.now into.new }
+    ensures size { length into.new ≡ length into.old }
 {
     for i in 0..into.len() {
-        into[i] = 16 * digit_value(digits[2 * i]) + digit_value(digits[2 * i + 1]);
+        into[i] = byte_of(pair(digits, 2 * i));
     }
+}
+
+/// Two bytes from a place on as a number, the first one lowest.
+fn pair(bytes: &[u8], at: usize) -> u16
+    requires { at + 2 ≤ length bytes.now }
+    ensures { result ≡ slice_index bytes.now at + 256 * slice_index bytes.now (at + 1) }
+{
+    u16::from_le_bytes([bytes[at], bytes[at + 1]])
+}
+
+/// The byte of two hexadecimal digits, both at once: the first digit is the low byte. The letters are 64 and more, and their low
+/// four bits count from 1.
+fn byte_of(digits: u16) -> u8
+    requires high { is_hex_digit (digits % 256) ≡ true }
+    requires low { is_hex_digit (digits / 256) ≡ true }
+    ensures { result ≡ 16 * value_of (digits % 256) + value_of (digits / 256) }
+{
+    let values = digits + 9 * ((digits >> 6) & 0x101);
+    (values % 16 * 16 + values / 256 % 16) as u8
 }
 
 /// Whether a byte is a hexadecimal digit, in either case.
@@ -32,13 +54,4 @@ fn is_digit(byte: u8) -> bool
     (byte >= b'0' && byte <= b'9')
         || (byte >= b'A' && byte <= b'F')
         || (byte >= b'a' && byte <= b'f')
-}
-
-/// The value of a hexadecimal digit: the letters are 64 and more, and their low four bits count from 1.
-fn digit_value(digit: u8) -> u8
-    requires { is_hex_digit digit ≡ true }
-    ensures value { hex_digit_value digit ≡ Some result }
-    ensures small { result < 16 }
-{
-    (digit & 0xf) + 9 * (digit >> 6)
 }

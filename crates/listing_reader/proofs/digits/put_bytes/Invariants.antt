@@ -1,5 +1,5 @@
 use Rattle.std.proofs.Common.{ℕ, ◌≡◌, ◌<◌, ◌+◌, ◌*◌, get_or}
-use Rattle.listing_reader.proofs.HexPairs.{value_of}
+use Rattle.listing_reader.specs.HexValues.{value_of}
 use Rattle.listing_reader.proofs.digits.put_bytes.Given as goal
 
 abbrev pub invariant-loop-i : goal.invariant-loop-i
