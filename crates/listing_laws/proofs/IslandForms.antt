@@ -1,6 +1,6 @@
 -- The lines of a data island: they have no line feed, and the reader sees their forms.
 use Rattle.std.proofs.lemmas.Grind.{common_steps}
-use Rattle.std.proofs.Common.{◌≡◌, ℕ, zero, suc, ◌+◌, ◌-◌, ◌*◌, ◌<◌, Bool, true, false, not, ◌==◌, List, [], ◌∷◌, ◌++◌, map, length, take, drop, refl, ap, ap₂, sym, ◌∙◌, arith, append_assoc, take_at, take_all, length-append}
+use Rattle.std.proofs.Common.{◌≡◌, ℕ, zero, suc, ◌+◌, ◌-◌, ◌*◌, ◌<◌, Bool, true, false, not, ◌==◌, List, [], ◌∷◌, ◌++◌, map, length, take, drop, refl, ap, ap₂, sym, ◌∙◌, arith, append_assoc, take_at, take_all, length-append, length-take-le, length-drop}
 use Rattle.std.specs.Prelude.{slice_index, nat_lt}
 use Rattle.std.specs.List.{list_all}
 use Rattle.std.proofs.lemmas.Bool.{eqb-true}
@@ -17,7 +17,7 @@ use Rattle.listing_reader.specs.FormSeen.{HasBodies}
 use Rattle.listing_reader.specs.Held.{is_feedless}
 use Rattle.listing_writer.specs.Texts.{line_words, packet_fields, sync_digits}
 use Rattle.listing_reader.proofs.Feeds.{and-left, and-right, both}
-use Rattle.listing_reader.proofs.PacketForms.{form_packet, body_room}
+use Rattle.listing_reader.proofs.PacketForms.{form_packet}
 use Rattle.listing_laws.proofs.Text.{reported_packet}
 use Rattle.listing_laws.proofs.Digits.{bytes_from, below-from, digit, no_feed, encode_feedless}
 
@@ -144,6 +144,9 @@ bytes_take (suc n) (x ∷ xs) h (suc i) = bytes_take n xs (λ j. h (suc j)) i
 
 body_bytes : (p : Packet) (b : ℕ) → IsBytes p.bodies → IsBytes (body_of p b)
 body_bytes p b h = bytes_take 7 (drop (7 * b) p.bodies) (bytes_drop (7 * b) p.bodies h)
+
+body_room : (xs : List ℕ) (i k : ℕ) → length xs ≡ 28 → i < 4 → k ≡ 7 → length (take k (drop (7 * i) xs)) ≡ 7
+body_room xs i k size less seven = length-take-le k (drop (7 * i) xs) (omega (arith, length-drop (7 * i) xs)) ∙ seven
 
 body_digits : (p : Packet) (b : ℕ) → length p.bodies ≡ 28 → b < 4 → length (encode_lower (body_of p b)) ≡ 14
 body_digits p b size less = grind (arith, common_steps, length-encode_with, body_room)

@@ -1,9 +1,10 @@
 //! The packet of a line `p H B0 B1 B2 B3 S`.
-ghost use Rattle.std.specs.Prelude.{◌≡◌, ◌≤◌, ◌-◌, ◌==◌, ◌&&◌, true, length, map, IsTrue};
+ghost use Rattle.std.specs.Prelude.{◌≡◌, ◌≤◌, ◌+◌, ◌-◌, ◌==◌, ◌&&◌, ◌++◌, true, length, take, drop, map, replicate, IsTrue};
 ghost use Rattle.std.specs.List.{list_all};
 ghost use Rattle.listing_reader.specs.FormSeen.{IsPacketForm, HasBodies};
 ghost use Rattle.listing_reader.specs.Forms.{has_spaces, is_digit, part};
 
+use crate::digits;
 use island_pack::Packet;
 
 /// How many bytes follow `p `.
@@ -57,7 +58,18 @@ fn has_spaces(rest: &[u8]) -> bool
 fn are_digits(bytes: &[u8]) -> bool
     ensures { result ≡ list_all is_digit bytes.now }
 {
-    bytes.iter().all(|byte| byte.is_ascii_digit())
+    let mut all = true;
+    for byte in bytes {
+        all = all & is_digit(*byte);
+    }
+    all
+}
+
+/// Whether a byte is a decimal digit.
+fn is_digit(byte: u8) -> bool
+    ensures { result ≡ is_digit byte }
+{
+    byte >= b'0' && byte <= b'9'
 }
 
 /// Decodes the four bodies, and says whether each byte was a hexadecimal digit.
@@ -65,14 +77,36 @@ pub(crate) fn decode_bodies(rest: &[u8], bodies: &mut [u8; 28]) -> bool
     requires { 66 ≤ length rest.now }
     ensures { HasBodies rest.now bodies.new result }
 {
-    for i in 0..4 {
-        let from = 7 + 15 * i;
-        let digits = &rest[from..from + 14];
-        if hex::decode_to_slice(digits, &mut bodies[7 * i..7 * i + 7]).is_err() {
-            return false;
-        }
+    let digits = body_digits(rest);
+    if !digits::are_digits(&digits) {
+        return false;
     }
+    let mut bytes = [0; 32];
+    digits::put_bytes(&digits, &mut bytes);
+    bodies.copy_from_slice(&bytes[..28]);
     true
+}
+
+/// The digits of the four bodies, one body after another, and eight digits 0 after them.
+fn body_digits(rest: &[u8]) -> [u8; 64]
+    requires { 66 ≤ length rest.now }
+    ensures { result ≡ part 7 14 rest.now ++ (part 22 14 rest.now ++ (part 37 14 rest.now ++ (part 52 14 rest.now ++ replicate 8 48))) }
+{
+    let mut digits = [b'0'; 64];
+    place(&rest[7..21], 0, &mut digits);
+    place(&rest[22..36], 14, &mut digits);
+    place(&rest[37..51], 28, &mut digits);
+    place(&rest[52..66], 42, &mut digits);
+    digits
+}
+
+/// Writes the digits of a body from a place on.
+fn place(body: &[u8], at: usize, digits: &mut [u8; 64])
+    requires size { length body.now ≡ 14 }
+    requires room { at ≤ 50 }
+    ensures { digits.new ≡ take at digits.old ++ (body.now ++ drop (at + 14) digits.old) }
+{
+    digits[at..at + 14].copy_from_slice(body);
 }
 
 /// The sync values of 32 decimal digits.
