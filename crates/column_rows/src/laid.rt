@@ -1,0 +1,66 @@
+//! What a call that fills rows answers.
+ghost use Rattle.std.specs.Prelude.{◌≡◌, ◌≤◌, length};
+ghost use Rattle.std.specs.Bool.{OnTrue, OnFalse};
+ghost use Rattle.column_rows.specs.Laid.{AreShort, rows_of};
+ghost use Rattle.column_rows.specs.declared.laid.Status.TheVariants.{Done, Full, Misuse};
+
+/// What a call answers.
+#[derive(Clone, Copy, Drop)]
+pub enum Status {
+    /// The columns are in the rows.
+    Done,
+    /// A row has no room for them: nothing was written.
+    Full,
+    /// There is no such part of a period: nothing was written.
+    Misuse,
+}
+
+/// What a call answers, and how many columns the part has.
+#[derive(Clone, Copy, Drop)]
+pub struct Laid {
+    pub status: Status,
+    pub columns: usize,
+}
+
+impl Laid {
+    /// There is no such part.
+    pub(crate) fn misuse() -> Laid
+        ensures status { result.status ≡ Misuse }
+        ensures columns { result.columns ≡ 0 }
+    {
+        Laid {
+            status: Status::Misuse,
+            columns: 0,
+        }
+    }
+
+    /// There is no room for so many columns.
+    pub(crate) fn full(columns: usize) -> Laid
+        ensures status { result.status ≡ Full }
+        ensures columns { result.columns ≡ columns }
+    {
+        Laid {
+            status: Status::Full,
+            columns,
+        }
+    }
+
+    /// So many columns are in the rows.
+    pub(crate) fn done(columns: usize) -> Laid
+        ensures status { result.status ≡ Done }
+        ensures columns { result.columns ≡ columns }
+    {
+        Laid {
+            status: Status::Done,
+            columns,
+        }
+    }
+}
+
+/// Whether each row has so many words.
+pub(crate) fn has_room(count: usize, blue: &[u16], green: &[u16], red: &[u16]) -> bool
+    ensures room { OnTrue result ((count ≤ length blue.now) × (count ≤ length green.now) × (count ≤ length red.now)) }
+    ensures short { OnFalse result (AreShort count (rows_of blue.now green.now red.now)) }
+{
+    count <= blue.len() && count <= green.len() && count <= red.len()
+}
