@@ -1,7 +1,8 @@
 -- Rows of equal words, and the bytes of pixels.
 use Rattle.std.proofs.Common.{◌≡◌, ℕ, suc, zero, ◌+◌, ◌*◌, ◌<◌, List, ◌∷◌, [], ◌++◌, ◌-◌, length, take, drop, take_all, map, replicate, get_or, refl, ap, sym, subst, arith}
 use Rattle.std.proofs.lemmas.List.{length-drop}
-use Rattle.column_rows.specs.Laid.{Lays, Rows, first_columns, rows_of}
+use Rattle.std.proofs.lemmas.Slice.{drop-append-drop}
+use Rattle.column_rows.specs.Laid.{AreAlikeFrom, Lays, Rows, first_columns, rows_of}
 use Rattle.column_rows.specs.declared.laid.Status.{Status}
 use Rattle.column_rows.specs.declared.laid.Status.TheVariants.{Done}
 use Rattle.tmds_code.specs.Lanes.{IsLane}
@@ -51,5 +52,10 @@ pub rest_of : (n : ℕ) (xs : List ℕ) → take (length xs - n) (drop n xs) ≡
 rest_of n xs = take_all (length xs - n) (drop n xs) (omega (arith, length-drop n xs))
 
 -- a part was laid
-pub laid : (P : Type 0) (S : List Column → Type 0) (n m : ℕ) (s : Status) (old new : Rows) → s ≡ Done → m ≡ n → P → S (first_columns n new) → Lays P S n s m old new
-laid P S n m s old new e f p h = subst (λ (t : Status). Lays P S n t m old new) (sym e) (p, f, subst (λ (k : ℕ). S (first_columns k new)) (sym f) h)
+pub laid : (P : Type 0) (S : List Column → Type 0) (n m : ℕ) (s : Status) (old new : Rows) → s ≡ Done → m ≡ n → P → S (first_columns n new) → AreAlikeFrom n old new → Lays P S n s m old new
+laid P S n m s old new e f p h r =
+    subst (λ (t : Status). Lays P S n t m old new) (sym e) (p, f, subst (λ (k : ℕ). S (first_columns k new)) (sym f) h, subst (λ (k : ℕ). AreAlikeFrom k old new) (sym f) r)
+
+-- what stands behind the words that were written
+pub alike_from : (n : ℕ) (b g r x y z : List ℕ) → length b ≡ n → length g ≡ n → length r ≡ n → AreAlikeFrom n (rows_of x y z) (rows_of (b ++ drop n x) (g ++ drop n y) (r ++ drop n z))
+alike_from n b g r x y z e f h = (drop-append-drop n x b n (omega arith) e, drop-append-drop n y g n (omega arith) f, drop-append-drop n z r n (omega arith) h)

@@ -23,9 +23,14 @@ first_columns n rows = columns_of (take n rows.blue) (take n rows.green) (take n
 abbrev pub AreShort : ℕ → Rows → Type 0
 AreShort count rows = (length rows.blue < count) ⊎ (length rows.green < count) ⊎ (length rows.red < count)
 
--- by what a call answers: of a part of so many columns they are in the rows, or there is no room for them; else it is no part
+-- from some place on the rows are as they were
+abbrev pub AreAlikeFrom : ℕ → Rows → Rows → Type 0
+AreAlikeFrom n old new = (drop n new.blue ≡ drop n old.blue) × (drop n new.green ≡ drop n old.green) × (drop n new.red ≡ drop n old.red)
+
+-- by what a call answers: of a part of so many columns they are in the rows, before what stood there, or there is no room for them; else
+-- it is no part
 abbrev pub Lays : Type 0 → (List Column → Type 0) → ℕ → Status → ℕ → Rows → Rows → Type 0
-Lays IsPart spells count Done n old new = IsPart × (n ≡ count) × spells (first_columns n new)
+Lays IsPart spells count Done n old new = IsPart × (n ≡ count) × spells (first_columns n new) × AreAlikeFrom n old new
 Lays IsPart spells count Full n old new = IsPart × (n ≡ count) × AreShort count old × (new ≡ old)
 Lays IsPart spells count Misuse n old new = (IsPart → ⊥) × (n ≡ 0) × (new ≡ old)
 

@@ -2,6 +2,7 @@
 ghost use Rattle.std.specs.Prelude.{◌≡◌, ◌≤◌, length};
 ghost use Rattle.std.specs.Bool.{OnTrue, OnFalse};
 ghost use Rattle.column_rows.specs.Laid.{AreShort, rows_of};
+ghost use Rattle.column_rows.specs.Statuses.{code_of};
 ghost use Rattle.column_rows.specs.declared.laid.Status.TheVariants.{Done, Full, Misuse};
 
 /// What a call answers.
@@ -13,6 +14,19 @@ pub enum Status {
     Full,
     /// There is no such part of a period: nothing was written.
     Misuse,
+}
+
+impl Status {
+    /// Its number.
+    pub fn code(self) -> i32
+        ensures { result ≡ code_of self }
+    {
+        match self {
+            Status::Done => 0,
+            Status::Full => 1,
+            Status::Misuse => 2,
+        }
+    }
 }
 
 /// What a call answers, and how many columns the part has.

@@ -4,7 +4,7 @@ use Rattle.tmds_word.specs.Column.{Column}
 use Rattle.island_pack.specs.Packets.{Carries}
 use Rattle.island_pack.specs.Spelling.{column_words}
 use Rattle.column_rows.specs.Laid.{IsPacket, packet_of}
-use Rattle.column_rows.proofs.Filled.{first_of, laid}
+use Rattle.column_rows.proofs.Filled.{alike_from, first_of, laid}
 use Rattle.column_rows.proofs.calls.encode_packet.Goals as goal
 
 pub returns : goal.returns
@@ -17,3 +17,4 @@ returns c =
     laid (IsPacket bytes) (λ columns. Carries (packet_of bytes) c.args.first (map column_words columns)) 32 c.done.result.columns c.done.result.status _ _ c.done.ensures.status c.done.ensures.columns c.if-not-is_packet.ensures.packet
     (subst (λ (cs : List Column). Carries (packet_of bytes) c.args.first (map column_words cs))
     (first_of 32 c.lay_packet.new.blue c.lay_packet.new.green c.lay_packet.new.red (drop 32 c.args.blue.now) (drop 32 c.args.green.now) (drop 32 c.args.red.now) blue green red) c.lay_packet.ensures)
+    (alike_from 32 c.lay_packet.new.blue c.lay_packet.new.green c.lay_packet.new.red c.args.blue.now c.args.green.now c.args.red.now blue green red)
