@@ -6,28 +6,29 @@
 ** lanes up, and writes what they carry as events into an array of the caller's: runs of control columns, lines of pixels,
 ** packets of data islands, and what is wrong with them. A column is one pixel clock: one character of each lane. Of a whole capture in
 ** memory two calls without a receiver write what the program lists of it: vabgrot_recover and vabgrot_check. The other way round
-** vabgrot_make makes a capture of a listing.
+** vabgrot_make makes a capture of a listing, and the calls vabgrot_encode_.. write the characters of a link in parts.
 **
 ** What the calls write is proved: of all bits that were fed, exactly the events that the program's `recover link` lists, or its
-** `recover dvi`, by the receiver's kind, in whatever pieces they were fed; and of a listing exactly the capture that the program's
-** `make` makes. docs/proof/PROVED.md of the project has the theorem, and
+** `recover dvi`, by the receiver's kind, in whatever pieces they were fed; of a listing exactly the capture that the program's
+** `make` makes; and of a part of a link exactly its characters by the standards. docs/proof/PROVED.md of the project has the theorem, and
 ** what it owes to the caller.
 **
 ** Memory. vabgrot_open takes 63,496 bytes from malloc, or 63,272 of VABGROT_DVI, in two blocks; no other call on a handle takes any;
 ** vabgrot_close frees them. vabgrot_recover and vabgrot_check take a receiver's and room for the whole listing, vabgrot_make room for
-** what the listing says, its columns and the whole capture; they free all.
+** what the listing says, its columns and the whole capture; they free all. The calls vabgrot_encode_.. take none.
 **
 ** Threads. The library keeps nothing outside the handle and starts no thread. Calls on different handles may run side by side.
 ** Calls on one handle must not overlap; between calls a handle may pass to another thread, as any memory does.
 **
 ** What the caller owes. A handle is all zero before vabgrot_open (VABGROT_INIT) and is neither changed nor copied while it is
-** open; it may be moved in memory between calls. No pointer is NULL, also where a length is 0; the array and buffers of one call
+** open; it may be moved in memory between calls. No pointer is NULL, also where a length is 0; the arrays and buffers of one call
 ** overlap neither each other nor the handle, and have the lengths that the call says. Everything else is tested: each call may
 ** come in any order, and answers a status.
 */
 #ifndef VABGROT_H
 #define VABGROT_H
 
+#include <stdbool.h>
 #include <stddef.h>
 #include <stdint.h>
 
@@ -50,7 +51,7 @@ typedef struct vabgrot {
 */
 enum vabgrot_status {
   VABGROT_OK = 0,     /* all was done */
-  VABGROT_FULL = 1,   /* there is no room for what the rest may report; what was done stands */
+  VABGROT_FULL = 1,   /* there is no room for what the rest may report, and what was done stands; or for a part of a link */
   VABGROT_MISUSE = 2, /* the call does not fit the calls before it, or its bits those before them; nothing was done */
   VABGROT_TOOBIG = 3, /* a lane would have 2^60 bits or more; nothing was done */
   VABGROT_NOMEM = 4,  /* malloc answered NULL; nothing was done */
@@ -276,6 +277,60 @@ typedef struct vabgrot_tap {
 */
 int vabgrot_make(uint32_t kind, const vabgrot_tap *tap, const uint8_t *listing, size_t listing_size, uint8_t *capture,
                  size_t room, size_t *size);
+
+/*
+** A link in parts, each written where and when the caller likes: five calls, each of which lays the columns of one part into three rows of
+** the caller's, from the first place of each row on. A row has the characters of one lane, 10 bits each, of which bit 0 is sent first;
+** `blue_room` and so on say how many it has room for.
+**
+** `*columns` is how many columns the part has, also where there is no room for them, so that a call with rooms of 0 says how much is
+** needed. The order of the parts is the caller's: no call knows those before it, and none tests that a preamble stands before a guard.
+**
+** VABGROT_OK: the columns are in the rows. What stands behind them in a row is as it was.
+** VABGROT_FULL: a row has room for fewer. The rows are as they were.
+** VABGROT_MISUSE: there is no such part, as said at each call. The rows are as they were, and `*columns` is 0.
+*/
+
+/*
+** `count` control columns of one value: bit 0 HSYNC, bit 1 VSYNC, bits 2 to 5 CTL0 to CTL3. Eight columns with CTL0 alone (4) are the
+** preamble of a video period, with CTL0 and CTL2 (20) that of a data island.
+**
+** VABGROT_MISUSE: the value is more than 63, or the count is 0 or more than 20,000,000.
+*/
+int vabgrot_encode_run(uint32_t value, uint32_t count, uint16_t *blue, size_t blue_room, uint16_t *green, size_t green_room,
+                       uint16_t *red, size_t red_room, size_t *columns);
+
+/*
+** The two guard columns before the pixels of a video period. It never answers VABGROT_MISUSE.
+*/
+int vabgrot_encode_video_guard(uint16_t *blue, size_t blue_room, uint16_t *green, size_t green_room, uint16_t *red, size_t red_room,
+                               size_t *columns);
+
+/*
+** All pixels of a video period, a column each: bytes red, green, blue of each pixel. The characters of a period depend on those before
+** them in it, so that a period is one call.
+**
+** VABGROT_MISUSE: the bytes are not 1 to 4,096 whole pixels.
+*/
+int vabgrot_encode_pixels(const uint8_t *pixels, size_t size, uint16_t *blue, size_t blue_room, uint16_t *green, size_t green_room,
+                          uint16_t *red, size_t red_room, size_t *columns);
+
+/*
+** A guard column of a data island: two open one, and two close it. `sync` is HSYNC plus twice VSYNC.
+**
+** VABGROT_MISUSE: `sync` is more than 3.
+*/
+int vabgrot_encode_island_guard(uint32_t sync, uint16_t *blue, size_t blue_room, uint16_t *green, size_t green_room, uint16_t *red,
+                                size_t red_room, size_t *columns);
+
+/*
+** The 32 columns of a packet: 63 bytes as VABGROT_PACKET has them, to which the parities are added. `first` says whether it is the
+** first of its island, of which an island has at most 18.
+**
+** VABGROT_MISUSE: `size` is not 63, or one of the last 32 bytes is more than 3.
+*/
+int vabgrot_encode_packet(const uint8_t *bytes, size_t size, bool first, uint16_t *blue, size_t blue_room, uint16_t *green,
+                          size_t green_room, uint16_t *red, size_t red_room, size_t *columns);
 
 #ifdef __cplusplus
 }

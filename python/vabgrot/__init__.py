@@ -6,6 +6,7 @@ import importlib
 from typing import TYPE_CHECKING, Any
 
 if TYPE_CHECKING:
+    from vabgrot.encoding import Control, Island, Video, encode
     from vabgrot.errors import Refused
     from vabgrot.events import Closing, Cut, End, Event, Fault, Kind, Line, Opening, Packet, Run
     from vabgrot.library import Misuse, NoLibrary
@@ -18,10 +19,12 @@ __all__ = [
     "Arrays",
     "BadListing",
     "Closing",
+    "Control",
     "Cut",
     "End",
     "Event",
     "Fault",
+    "Island",
     "Kind",
     "Line",
     "Misuse",
@@ -33,6 +36,8 @@ __all__ = [
     "Refused",
     "Run",
     "Text",
+    "Video",
+    "encode",
     "make",
     "receive",
     "recover",
@@ -40,7 +45,7 @@ __all__ = [
 ]
 _HOMES = {"Misuse": "library", "NoLibrary": "library", "Refused": "errors", "Recovered": "recovery", "recover": "recovery"}
 _HOMES |= dict.fromkeys(("Arrays", "Receiver", "receive"), "receiving") | dict.fromkeys(("Text", "text_of"), "texts")
-_HOMES |= dict.fromkeys(("BadListing", "make"), "sending")
+_HOMES |= dict.fromkeys(("BadListing", "make"), "sending") | dict.fromkeys(("Control", "Island", "Video", "encode"), "encoding")
 
 
 def __getattr__(name: str) -> Any:

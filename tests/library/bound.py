@@ -1,12 +1,14 @@
 """The shared library by ctypes, as vabgrot.h declares it."""
 
 import ctypes
-from ctypes import POINTER, Structure, byref, c_int, c_size_t, c_uint8, c_uint32, c_uint64, c_void_p
+from ctypes import POINTER, Structure, byref, c_bool, c_int, c_size_t, c_uint8, c_uint16, c_uint32, c_uint64, c_void_p
 
 OK, FULL, MISUSE, TOOBIG, NOMEM, FAULTY, NOCAPTURE, UNALIGNED, NOLISTING = range(9)
 LEAST_EVENTS, LEAST_BYTES = 104, 12327
 LINK, DVI, TRACK, RELOCK = range(4)
 MAKERS = "link", "dvi", "content"  # by their numbers
+OCTETS = POINTER(c_uint8), c_size_t
+PARTS = {"run": (c_uint32, c_uint32), "video_guard": (), "pixels": OCTETS, "island_guard": (c_uint32,), "packet": (*OCTETS, c_bool)}
 
 
 class Handle(Structure):
@@ -43,6 +45,9 @@ def loaded(path):
     calls.vabgrot_recover.argtypes, calls.vabgrot_recover.restype = (c_uint32, *listed), c_int
     calls.vabgrot_check.argtypes, calls.vabgrot_check.restype = listed, c_int
     calls.vabgrot_make.argtypes, calls.vabgrot_make.restype = (c_uint32, POINTER(Tap), *listed), c_int
+    for name, types in PARTS.items():
+        call = getattr(calls, f"vabgrot_encode_{name}")
+        call.argtypes, call.restype = (*types, *(POINTER(c_uint16), c_size_t) * 3, POINTER(c_size_t)), c_int
     return calls
 
 
@@ -59,6 +64,15 @@ def made(calls, kind, text, room, tap=(1, 0, 0, 0, 0, 0, 0)):
     given, buffer, size = (c_uint8 * max(1, len(text)))(*text), (c_uint8 * max(1, room))(), c_size_t()
     status = calls.vabgrot_make(kind, byref(Tap(*tap)), given, len(text), buffer, room, byref(size))
     return status, size.value, bytes(buffer[:room])
+
+
+def encoded(calls, name, given, rooms, old=0x5A5A):
+    """The status, the columns and the rows of a call that lays a part, in rows of so many places that held something else."""
+    words = [word for it in given for word in (((c_uint8 * max(1, len(it)))(*it), len(it)) if isinstance(it, bytes) else (it,))]
+    rows, columns = [(c_uint16 * max(1, room))(*[old] * room) for room in rooms], c_size_t(12345)
+    lent = [word for row, room in zip(rows, rooms) for word in (row, room)]
+    status = getattr(calls, f"vabgrot_encode_{name}")(*words, *lent, byref(columns))
+    return status, columns.value, tuple(row[:room] for row, room in zip(rows, rooms))
 
 
 class Receiver:

@@ -1,6 +1,6 @@
 /*
 ** Refuses each allocation of vabgrot_open in turn, for each kind, and counts those of all calls; and each of vabgrot_recover,
-** vabgrot_check and vabgrot_make. Linked with --wrap=malloc, realloc and free.
+** vabgrot_check and vabgrot_make. The calls that lay parts of a link have none. Linked with --wrap=malloc, realloc and free.
 */
 #include <stdio.h>
 #include <stdlib.h>
@@ -131,6 +131,22 @@ static int try_making(uint32_t kind) {
   return 0;
 }
 
+/* Lays a part by each call. */
+static int try_encoding(void) {
+  static const uint8_t bytes[63] = {0};
+  uint16_t blue[32], green[32], red[32];
+  size_t columns = 0;
+  asked = 0;
+  if (vabgrot_encode_run(0, 12, blue, 32, green, 32, red, 32, &columns) != VABGROT_OK || columns != 12) return wrong("run");
+  if (vabgrot_encode_video_guard(blue, 32, green, 32, red, 32, &columns) != VABGROT_OK || columns != 2) return wrong("video guard");
+  if (vabgrot_encode_pixels(bytes, 63, blue, 32, green, 32, red, 32, &columns) != VABGROT_OK || columns != 21) return wrong("pixels");
+  if (vabgrot_encode_island_guard(3, blue, 32, green, 32, red, 32, &columns) != VABGROT_OK || columns != 1) return wrong("guard");
+  if (vabgrot_encode_packet(bytes, 63, true, blue, 32, green, 32, red, 32, &columns) != VABGROT_OK || columns != 32) {
+    return wrong("packet");
+  }
+  return asked == 0 && held == 0 ? 0 : wrong("a part of a link allocates");
+}
+
 int main(void) {
   for (size_t at = 0; at < sizeof capture; at++) {
     unsigned byte;
@@ -143,5 +159,5 @@ int main(void) {
   for (uint32_t kind = VABGROT_MAKE_LINK; kind <= VABGROT_MAKE_CONTENT; kind++) {
     if (try_making(kind)) return 1;
   }
-  return try_kind(VABGROT_LINK) || try_kind(VABGROT_DVI);
+  return try_encoding() || try_kind(VABGROT_LINK) || try_kind(VABGROT_DVI);
 }

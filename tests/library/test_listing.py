@@ -6,6 +6,7 @@ import shutil
 
 import pytest
 
+from tests.library import bound
 from tests.models import feeding, hearing, model
 from tests.support import LISTING, READERS, TOP, ran, run
 
@@ -83,7 +84,7 @@ def test_refusals(listing, tmp_path):
 
 @pytest.mark.parametrize("compiler, words", (("gcc", ()), ("clang", ("-Wpedantic",)), ("gcc", ("-O2", "-Wpedantic", "-Wshadow"))))
 def test_examples(compiled, compiler, words):
-    for name in ("listing.c", "make.c"):
+    for name in ("listing.c", "make.c", "pattern.c"):
         compiled(TOP / "examples" / "c" / name, *words, compiler=compiler)
 
 
@@ -112,6 +113,7 @@ def test_symbols(library):
     if not shutil.which("nm") or not shutil.which("readelf"):
         pytest.skip("binutils are missing")
     names = {f"vabgrot_{it}" for it in ("open", "feed", "finish", "restart", "close", "recover", "check", "make")}
+    names |= {f"vabgrot_encode_{it}" for it in bound.PARTS}
     path = library / "libvabgrot.so.1"
     lines = ran(["nm", "-D", "--defined-only", path], b"").stdout.decode().split("\n")
     assert {line.split()[2].partition("@")[0] for line in lines if " T " in line} == names

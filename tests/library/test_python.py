@@ -300,7 +300,7 @@ def blocks(language):
 
 
 def test_c_as_printed(bars, compiled):
-    source, call, making = blocks("c")
+    source, call, making, parts = blocks("c")
     (bars / "count.c").write_text(source)
     came = subprocess.run([compiled(bars / "count.c"), "blue", "green", "red"], cwd=bars, capture_output=True, text=True, timeout=HANGS)
     columns = 3 * (32 + 8 + 16 + 64) * (8 + 2 + 2 + 3) + 32  # three frames of the listing's mode, and the columns after the last
@@ -312,13 +312,17 @@ def test_c_as_printed(bars, compiled):
     (bars / "make.c").write_text(f"#include <stdio.h>\n#include <vabgrot.h>\n\nint main(void) {{\n{given}\n{making}return 0;\n}}\n")
     came = subprocess.run([compiled(bars / "make.c")], capture_output=True, timeout=HANGS)
     assert (came.returncode, came.stderr) == (0, b"input: line 1 order\n")  # `end` alone
+    given = "const size_t room = 64; uint16_t blue[64], green[64], red[64];"
+    ends = "return at != 12 || blue[0] != 0x354 || green[0] != 0x0ab || blue[9] != 0x2cc || red[10] != 0x200 || red[11] != 0x0ff;"
+    (bars / "parts.c").write_text(f"#include <vabgrot.h>\n\nint main(void) {{\n{given}\n{parts}{ends}\n}}\n")
+    assert subprocess.run([compiled(bars / "parts.c")], timeout=HANGS).returncode == 0
 
 
 def test_python_as_printed(bars, found):
-    """The events of three files, a whole capture, one that is made, and pieces."""
+    """The events of three files, a whole capture, one that is made, parts of a link, and pieces."""
     lanes, whole, listing = ["blue", "green", "red"], ["bars.tmc"], [TOP / "examples" / "skewed.link"]
     says = []
-    for source, words in zip(blocks("python"), (lanes, whole, listing, lanes), strict=True):
+    for source, words in zip(blocks("python"), (lanes, whole, listing, [], lanes), strict=True):
         env = {**os.environ, "PYTHONPATH": str(TOP / "python")}
         came = subprocess.run([sys.executable, "-c", source, *words], cwd=bars, capture_output=True, text=True, env=env, timeout=HANGS)
         assert came.returncode == 0, came.stderr
@@ -327,7 +331,8 @@ def test_python_as_printed(bars, found):
     assert says[0].endswith(" columns, aligned\n")
     assert says[1].count("(8, 32, 3)\n") == 3 and "packets" in says[1] and "'code', 2)" in says[1]
     assert says[2] == "158 bytes, 20 columns\nline 2 is refused: preamble\n"
-    assert " faults, " in says[3] and says[3].endswith("aligned=True)\n")
+    assert says[3] == "(80, 3) ['3ff', '3ff', '0ff']\n"
+    assert " faults, " in says[4] and says[4].endswith("aligned=True)\n")
 
 
 def test_without_the_library_the_program_hears(executable, monkeypatch):

@@ -1,7 +1,12 @@
 //! The receiver and the sender of a link for C: `vabgrot.h` says what each call does, and what C owes.
 #![tactic(auto)]
 
-ghost use Rattle.std.specs.Prelude.{◌≡◌, ◌⊎◌, ◌+◌, ◌<◌, ◌≤◌, ℤ, pos, List, length, take, cond, None};
+ghost use Rattle.std.specs.Prelude.{◌≡◌, ◌⊎◌, ◌+◌, ◌<◌, ◌≤◌, ◌/◌, ℤ, pos, List, [], ◌∷◌, length, take, replicate, map, cond, None};
+ghost use Rattle.tmds_word.specs.Column.{column_of};
+ghost use Rattle.terc4.specs.Tables.{video_guard};
+ghost use Rattle.island_pack.specs.Packets.{Carries};
+ghost use Rattle.island_pack.specs.Periods.{pixels_of};
+ghost use Rattle.island_pack.specs.Spelling.{SpellsPixels, column_words, control_column, guard_column};
 ghost use Rattle.period_grammar.specs.Events.{Event, EventAt, all_at};
 ghost use Rattle.link_sink.specs.Sinks.{Fed, IsGainAt, IsLastBy};
 ghost use Rattle.link_sink.specs.Pieces.{no_bits};
@@ -11,6 +16,9 @@ ghost use Rattle.c_capture.specs.Listed.{Lists, Recovers};
 ghost use Rattle.c_capture.specs.Made.{Makes};
 ghost use Rattle.c_capture.specs.Statuses.{code_of as listing_code};
 ghost use Rattle.c_capture.specs.declared.status.Status.{Status as ListingStatus};
+ghost use Rattle.column_rows.specs.Laid.{AreLine, IsPacket, IsRun, Lays, packet_of, rows_of};
+ghost use Rattle.column_rows.specs.Statuses.{code_of as row_code};
+ghost use Rattle.column_rows.specs.declared.laid.Status.{Status as RowStatus};
 ghost use Rattle.c_room.specs.Handles.{IsHandle, IsOfKind, Holds, IsOpen, MayFeedAll, AreFewMore};
 ghost use Rattle.c_room.specs.Kinds.{number_of, grammar_of, IsNoKind};
 ghost use Rattle.c_room.specs.Orders.{FollowInOrder};
@@ -23,6 +31,9 @@ ghost use Rattle.c_room.specs.declared.status.Status.TheVariants.{Done, Full, Mi
 
 use c_capture::{Tap, check, make, recover};
 use c_room::{BitCounts, Handle, LentLanes, Record};
+use column_rows::{
+    encode_island_guard, encode_packet, encode_pixels, encode_run, encode_video_guard,
+};
 use std::alloc::Global;
 
 /// What a call says beside its status.
@@ -210,4 +221,95 @@ pub extern "C" fn vabgrot_make(
     let made = make(alloc, number, tap, listing, capture);
     *size = made.size;
     made.status.code()
+}
+
+/// Lays control columns of one value in three rows of characters. `columns` is how many they are.
+#[unsafe(no_mangle)]
+pub extern "C" fn vabgrot_encode_run(
+    value: u32,
+    count: u32,
+    blue: &mut [u16],
+    green: &mut [u16],
+    red: &mut [u16],
+    columns: &mut usize,
+) -> i32
+    ensures { (status : RowStatus) × (result ≡ row_code status)
+        × Lays (IsRun value count) (λ columns. columns ≡ replicate count (control_column value)) count
+        status columns.new (rows_of blue.old green.old red.old) (rows_of blue.new green.new red.new) }
+{
+    let laid = encode_run(value, count, blue, green, red);
+    *columns = laid.columns;
+    laid.status.code()
+}
+
+/// Lays the two guard columns of a video period.
+#[unsafe(no_mangle)]
+pub extern "C" fn vabgrot_encode_video_guard(
+    blue: &mut [u16],
+    green: &mut [u16],
+    red: &mut [u16],
+    columns: &mut usize,
+) -> i32
+    ensures { (status : RowStatus) × (result ≡ row_code status)
+        × Lays (Unit {0}) (λ columns. columns ≡ column_of video_guard ∷ column_of video_guard ∷ []) 2
+        status columns.new (rows_of blue.old green.old red.old) (rows_of blue.new green.new red.new) }
+{
+    let laid = encode_video_guard(blue, green, red);
+    *columns = laid.columns;
+    laid.status.code()
+}
+
+/// Lays the columns of the pixels of a video period, all of them: bytes red, green, blue of each.
+#[unsafe(no_mangle)]
+pub extern "C" fn vabgrot_encode_pixels(
+    pixels: &[u8],
+    blue: &mut [u16],
+    green: &mut [u16],
+    red: &mut [u16],
+    columns: &mut usize,
+) -> i32
+    ensures { (status : RowStatus) × (result ≡ row_code status)
+        × Lays (AreLine pixels.now) (SpellsPixels (pixels_of pixels.now)) (length pixels.now / 3)
+        status columns.new (rows_of blue.old green.old red.old) (rows_of blue.new green.new red.new) }
+{
+    let laid = encode_pixels(pixels, blue, green, red);
+    *columns = laid.columns;
+    laid.status.code()
+}
+
+/// Lays a guard column of a data island, of HSYNC plus twice VSYNC.
+#[unsafe(no_mangle)]
+pub extern "C" fn vabgrot_encode_island_guard(
+    sync: u32,
+    blue: &mut [u16],
+    green: &mut [u16],
+    red: &mut [u16],
+    columns: &mut usize,
+) -> i32
+    ensures { (status : RowStatus) × (result ≡ row_code status)
+        × Lays (sync < 4) (λ columns. columns ≡ guard_column sync ∷ []) 1
+        status columns.new (rows_of blue.old green.old red.old) (rows_of blue.new green.new red.new) }
+{
+    let laid = encode_island_guard(sync, blue, green, red);
+    *columns = laid.columns;
+    laid.status.code()
+}
+
+/// Lays the columns of a packet, as the first of its island or as a later one.
+#[unsafe(no_mangle)]
+pub extern "C" fn vabgrot_encode_packet(
+    bytes: &[u8],
+    first: bool,
+    blue: &mut [u16],
+    green: &mut [u16],
+    red: &mut [u16],
+    columns: &mut usize,
+) -> i32
+    ensures { (status : RowStatus) × (result ≡ row_code status)
+        × Lays (IsPacket bytes.now) (λ columns. Carries (packet_of bytes.now) first (map column_words columns)) 32
+        status columns.new (rows_of blue.old green.old red.old) (rows_of blue.new green.new red.new) }
+{
+    let laid = encode_packet(bytes, first, blue, green, red);
+    *columns = laid.columns;
+    laid.status.code()
 }
