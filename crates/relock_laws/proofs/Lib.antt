@@ -12,3 +12,4 @@ pub mod Again
 pub mod AgainExample
 pub mod Standing
 pub mod Refuting
+pub mod Unrefuted

@@ -1,3 +1,4 @@
 pub mod Laws
 pub mod Settled
 pub mod Refuted
+pub mod RefutingLaws
