@@ -8,7 +8,7 @@ use Rattle.relock_laws.specs.Laws.{HasLastExample, HasSlipEndExample}
 use Rattle.relock_laws.proofs.Last.{until_is_last}
 use Rattle.relock_laws.proofs.SlipEnds.{slip_ends}
 
-small : HasSmallSkew (0 ∷ 70 ∷ 35 ∷ [])
+pub small : HasSmallSkew (0 ∷ 70 ∷ 35 ∷ [])
 small = record { blue_green = (omega arith, omega arith); green_red = (omega arith, omega arith); blue_red = (omega arith, omega arith) }
 
 pub last_example : HasLastExample

@@ -13,3 +13,5 @@ pub mod AgainExample
 pub mod Standing
 pub mod Refuting
 pub mod Unrefuted
+pub mod SlipUnrefuted
+pub mod RefutingExamples

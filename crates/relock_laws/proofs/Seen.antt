@@ -10,6 +10,8 @@ use Rattle.tmds_word.proofs.Lists.{length-row_bits}
 use Rattle.lane_align.specs.Lanes.{IsEdge}
 use Rattle.lane_align.proofs.Calm.{tapped}
 use Rattle.lane_align.proofs.Controls.{window_is}
+use Rattle.lane_deskew.specs.Triples.{IsTriple}
+use Rattle.island_pack.specs.Conforming.{IsConforming}
 use Rattle.island_pack.specs.Periods.{Period}
 use Rattle.island_pack.specs.Kinds.{Kind, EndsAt, kinds_of}
 use Rattle.island_pack.specs.Sparse.{no_column, column_at, IsSparseInPayload}
@@ -22,6 +24,7 @@ use Rattle.link_sink.specs.Sinks.{Fed}
 use Rattle.track_sink.specs.Epochs.{lane_of}
 use Rattle.track_laws.specs.Laws.{words_at}
 use Rattle.relock_sink.specs.Relocks.{is_announced, IsUnconfirmed}
+use Rattle.relock_sink.specs.Rivals.{HaveSameSkew}
 use Rattle.relock_laws.proofs.Announced.{pair_at, announced_at}
 use Rattle.relock_laws.proofs.Windows.{words_of_column}
 
@@ -117,3 +120,32 @@ seen_confirmed ps sent received reception alone from y lanes d e f u =
     let announced : is_announced (column_at received (i + 1)) (column_at received (i + 2)) ≡ true =
     announced_at sent received (i + 1) (i + 2) (omega arith) (pair_at ps sent received reception i (i + 1) b.1 (omega arith) (omega arith)) spared (reception.sparse.one_a_column (i + 2)) in
     true≢false (sym announced ∙ ap₂ is_announced here.1 next.1 ∙ u.unannounced)
+
+-- all their alignments have one skew, since the edges of each are the end of one control period
+pub seen_skew : (ps : List Period) (received : List Column) → IsConforming ps → (from : ℕ → ℕ) (y : Fed) → AreSeen ps received from y
+    → (p q r d e f : ℕ) → IsTriple y.blue y.green y.red p q r → IsTriple y.blue y.green y.red d e f → HaveSameSkew p q r d e f
+seen_skew ps received conforming from y lanes p q r d e f own other =
+    let a = seen_end ps received conforming from y lanes p q r own in
+    let b = seen_end ps received conforming from y lanes d e f other in
+    let ab = a.1 in
+    let ag = a.2 in
+    let ar = a.3 in
+    let bb = b.1 in
+    let bg = b.2 in
+    let br = b.3 in
+    (omega arith, omega arith)
+  where
+    seen_end : (ps : List Period) (received : List Column) → IsConforming ps → (from : ℕ → ℕ) (y : Fed) → AreSeen ps received from y
+        → (d e f : ℕ) → IsTriple y.blue y.green y.red d e f → (i : ℕ) × (d + from 0 ≡ 10 * (i + 1)) × (e + from 1 ≡ 10 * (i + 1)) × (f + from 2 ≡ 10 * (i + 1))
+    seen_end ps received conforming from y lanes d e f t =
+        let kinds = kinds_of ps in
+        let alternates = alternating ps conforming in
+        let b = (lanes.seen 0 (omega arith)).edges d t.blue in
+        let g = (lanes.seen 1 (omega arith)).edges e t.green in
+        let r = (lanes.seen 2 (omega arith)).edges f t.red in
+        let bg = same_end kinds alternates b.0 g.0 d e (from 0) (from 1) b.1 g.1 b.2 g.2 t.blue_green lanes.blue_green in
+        let br = same_end kinds alternates b.0 r.0 d f (from 0) (from 2) b.1 r.1 b.2 r.2 t.blue_red lanes.blue_red in
+        let at_b = b.2 in
+        let at_g = g.2 in
+        let at_r = r.2 in
+        (b.0, at_b, omega arith, omega arith)

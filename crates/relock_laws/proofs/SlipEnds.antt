@@ -20,7 +20,7 @@ use Rattle.track_laws.proofs.Slipping.{marks_at, received_at, calm_lanes, slips_
 use Rattle.relock_sink.specs.Relocks.{IsUnconfirmed}
 use Rattle.relock_laws.specs.Laws.{EndsAtSlip}
 use Rattle.relock_laws.proofs.Last.{payload_confirmed}
-use Rattle.relock_laws.proofs.Seen.{IsSeen, part_seen, AreClose, seen_confirmed}
+use Rattle.relock_laws.proofs.Seen.{IsSeen, part_seen, AreClose, AreSeen, seen_confirmed}
 use Rattle.relock_laws.proofs.SlipSeen.{kept_seen, passed_seen}
 
 -- The skews.
@@ -51,12 +51,12 @@ lock_or_none xs place = by (least_or_none (IsRun xs) (place - 119) (run_decided 
     by (inl least) = inl (least.0, record { run = least.1.here; least = least.1.least }, let below = least.1.below in omega arith)
     by (inr none) = inr (λ lock is before. none lock (omega arith) is.run)
 
-pub slip_is_confirmed : (ps : List Period) (sent received : List Column) (offset : ℕ) (skews counts : List ℕ) (x y : Fed) (lane place dropped first next : ℕ)
+-- the lanes after the slip, from places of theirs on
+pub slip_seen : (ps : List Period) (sent received : List Column) (offset : ℕ) (skews counts : List ℕ) (x y : Fed) (lane place dropped first next : ℕ)
     → Received ps sent received offset skews counts x → Slipped x lane place dropped y
     → SlipsInVideo ps sent received offset skews counts lane place dropped first next
-    → (d e f : ℕ) → IsUnconfirmed y d e f → ⊥
-slip_is_confirmed ps sent received offset skews counts x y lane place dropped first next reception slip s d e f u =
-    let free = free_received ps sent received reception.reception in
+    → (from : ℕ → ℕ) × AreSeen ps received from y
+slip_seen ps sent received offset skews counts x y lane place dropped first next reception slip s =
     let kinds = kinds_of ps in
     let alternates = alternating ps reception.reception.conforming in
     let from : ℕ → ℕ = λ l. offset + slice_index skews l in
@@ -73,34 +73,44 @@ slip_is_confirmed ps sent received offset skews counts x y lane place dropped fi
       | inl found ↦
           let own = kept_seen kinds (words_at received lane) (marks_at sent received lane) alternates (r lane) (from lane) (many lane) place dropped slips found.0 found.1 found.2 in
           let here : IsSeen kinds (words_at received lane) (from lane) (lane_of y lane) = subst (IsSeen kinds (words_at received lane) (from lane)) (sym mine) own in
-          let close = before_slip offset skews lane dropped slip.within slip.few.1 s.small in
-          seen_confirmed ps sent received free s.alone from y
-          (record {
-            seen = λ l lt. elim (same_lane l lane) [
-              | inl same ↦ subst (λ k. IsSeen kinds (words_at received k) (from k) (lane_of y k)) (sym same) here
-              | inr apart ↦ other l lt apart
-            ];
-            blue_green = close.0;
-            blue_red = close.1;
-          }) d e f u
+          let close = before_slip offset skews lane dropped slip.within slip.few.1 s.small in (
+            from,
+            record {
+              seen = λ l lt. elim (same_lane l lane) [
+                | inl same ↦ subst (λ k. IsSeen kinds (words_at received k) (from k) (lane_of y k)) (sym same) here
+                | inr apart ↦ other l lt apart
+              ];
+              blue_green = close.0;
+              blue_red = close.1;
+            },
+          )
       | inr none ↦
           let own = passed_seen kinds (words_at received lane) (marks_at sent received lane) alternates (r lane) (from lane) (many lane) place dropped slips none in
           let later : ℕ → ℕ = λ l. offset + slice_index (later_skews skews lane dropped) l in
           let at : from lane + dropped ≡ later lane = omega (arith, later_own skews lane dropped slip.within) in
           let here : IsSeen kinds (words_at received lane) (later lane) (lane_of y lane) =
           subst (λ n. IsSeen kinds (words_at received lane) n (lane_of y lane)) at (subst (IsSeen kinds (words_at received lane) (from lane + dropped)) (sym mine) own) in
-          let close = after_slip offset (later_skews skews lane dropped) s.small in
-          seen_confirmed ps sent received free s.alone later y
-          (record {
-            seen = λ l lt. elim (same_lane l lane) [
-              | inl same ↦ subst (λ k. IsSeen kinds (words_at received k) (later k) (lane_of y k)) (sym same) here
-              | inr apart ↦
-                  subst (λ n. IsSeen kinds (words_at received l) n (lane_of y l)) (ap (λ n. offset + n) (sym (later_other skews lane dropped l slip.within lt apart))) (other l lt apart)
-            ];
-            blue_green = close.0;
-            blue_red = close.1;
-          }) d e f u
+          let close = after_slip offset (later_skews skews lane dropped) s.small in (
+            later,
+            record {
+              seen = λ l lt. elim (same_lane l lane) [
+                | inl same ↦ subst (λ k. IsSeen kinds (words_at received k) (later k) (lane_of y k)) (sym same) here
+                | inr apart ↦
+                    subst (λ n. IsSeen kinds (words_at received l) n (lane_of y l)) (ap (λ n. offset + n) (sym (later_other skews lane dropped l slip.within lt apart))) (other l lt apart)
+              ];
+              blue_green = close.0;
+              blue_red = close.1;
+            },
+          )
     ]
+
+pub slip_is_confirmed : (ps : List Period) (sent received : List Column) (offset : ℕ) (skews counts : List ℕ) (x y : Fed) (lane place dropped first next : ℕ)
+    → Received ps sent received offset skews counts x → Slipped x lane place dropped y
+    → SlipsInVideo ps sent received offset skews counts lane place dropped first next
+    → (d e f : ℕ) → IsUnconfirmed y d e f → ⊥
+slip_is_confirmed ps sent received offset skews counts x y lane place dropped first next reception slip s d e f u =
+    let lanes = slip_seen ps sent received offset skews counts x y lane place dropped first next reception slip s in
+    seen_confirmed ps sent received (free_received ps sent received reception.reception) s.alone lanes.0 y lanes.1 d e f u
 
 pub slip_ends : (ps : List Period) (sent received : List Column) (offset : ℕ) (skews counts : List ℕ) (x y : Fed) (lane place dropped first next : ℕ)
     → Received ps sent received offset skews counts x → Slipped x lane place dropped y

@@ -77,7 +77,7 @@ ends_open ps sent received reception i lt control ends none =
     pair_opens (column_at sent (i + 1)) (column_at sent (i + 2)) (column_at received (i + 1)) (column_at received (i + 2)) are one none
 
 -- lanes whose aligned columns are received columns from the end of a control period on are refuted by no edges
-stands_at : (ps : List Period) (sent received : List Column) → ReceivedFreely ps sent received → (x : Fed) (p q r d e f a : ℕ)
+pub stands_at : (ps : List Period) (sent received : List Column) → ReceivedFreely ps sent received → (x : Fed) (p q r d e f a : ℕ)
     → IsAccounted ps sent received (aligned_columns x.blue x.green x.red p q r) a → IsRefuted x p q r d e f → ⊥
 stands_at ps sent received reception x p q r d e f a is u =
     let cs = aligned_columns x.blue x.green x.red p q r in

@@ -1,5 +1,5 @@
 //! Where the epochs of three lanes end whose alignment is let go too where it is refuted.
-ghost use Rattle.relock_laws.specs.RefutingLaws.{PayloadIsLastUnrefuted, UntilIsLastUnrefuted, EndsOrIsUnrefuted, OneRefutingEnd};
+ghost use Rattle.relock_laws.specs.RefutingLaws.{PayloadIsLastUnrefuted, UntilIsLastUnrefuted, EndsOrIsUnrefuted, OneRefutingEnd, SlipStands, SlipEndsAlone, HasUnrefutedExample, HasSlipFirstExample};
 
 /// The lanes of a tap whose damage lies in pixels and packets alone have one epoch.
 pub fn payload_is_last_unrefuted()
@@ -16,4 +16,24 @@ pub fn until_is_last_unrefuted()
 pub fn ends_or_is_unrefuted()
     ensures some { EndsOrIsUnrefuted }
     ensures one { OneRefutingEnd }
+{}
+
+/// Where a lane slips once within a line, the first alignment is refuted by no edges.
+pub fn slip_stands()
+    ensures { SlipStands }
+{}
+
+/// So there too the epochs end where a lane has a stray, and nowhere else, and there are at most two.
+pub fn slip_ends_alone()
+    ensures { SlipEndsAlone }
+{}
+
+/// The premises can be met: a stream with damage of each kind of column, and a tap of it that is aligned.
+pub fn unrefuted_example()
+    ensures { HasUnrefutedExample }
+{}
+
+/// So can those on a slip: a stream, a tap and a slip where both epochs have a full alignment.
+pub fn slip_first_example()
+    ensures { HasSlipFirstExample }
 {}

@@ -1,0 +1,36 @@
+-- Where one lane slips once within a line, no edges refute the first alignment, since all alignments before the slip have one skew,
+-- and all after it have one: so the epochs end where those of lanes do whose alignments are always used.
+use Rattle.std.proofs.Common.{◌≡◌, ℕ, List}
+use Rattle.island_pack.specs.Periods.{Period}
+use Rattle.link_laws.proofs.Freely.{free_received}
+use Rattle.link_sink.specs.Sinks.{Fed}
+use Rattle.track_sink.specs.Epochs.{rest_of}
+use Rattle.track_laws.proofs.Noticed.{second_epoch}
+use Rattle.relock_laws.specs.RefutingLaws.{SlipStands, SlipEndsAlone}
+use Rattle.relock_laws.proofs.Last.{payload_confirmed}
+use Rattle.relock_laws.proofs.Seen.{seen_skew}
+use Rattle.relock_laws.proofs.SlipEnds.{slip_seen, slip_ends}
+use Rattle.relock_laws.proofs.Standing.{stands_at}
+use Rattle.relock_laws.proofs.Unrefuted.{last_unrefuted}
+
+pub slip_stands : SlipStands
+slip_stands ps sent received offset skews counts x y lane place dropped first next reception slip s p q r d e f is =
+    let lanes = slip_seen ps sent received offset skews counts x y lane place dropped first next reception slip s in
+    is.rival.other_skew (seen_skew ps received reception.reception.conforming lanes.0 y lanes.1 p q r d e f is.rival.own.first.triple is.rival.triple)
+
+pub slip_ends_alone : SlipEndsAlone
+slip_ends_alone ps sent received offset skews counts x y lane place dropped first next reception slip s =
+    let stands = slip_stands ps sent received offset skews counts x y lane place dropped first next reception slip s in
+    let ends = slip_ends ps sent received offset skews counts x y lane place dropped first next reception slip s in
+    let free = free_received ps sent received reception.reception in
+    record {
+      ends = λ found start end. record { slip = ends.ends found start end; before = λ p q r d e f is. absurd (stands p q r d e f is) };
+      then = λ found start end.
+          let second = second_epoch ps sent received offset skews counts x y lane place dropped first next reception slip s found start end.slip.end in
+          last_unrefuted (rest_of start y) (ends.then found start end.slip) (λ p q r d e f is.
+          let at = second.4 p q r is.rival.own.first in
+          stands_at ps sent received free (rest_of start y) p q r d e f at.0 at.1 is);
+      confirmed = ends.confirmed;
+      stands = λ place end. stands end.own_blue end.own_green end.own_red end.blue end.green end.red end.refuted;
+      last = λ none. last_unrefuted y (ends.last none) stands;
+    }

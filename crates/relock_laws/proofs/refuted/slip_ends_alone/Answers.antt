@@ -1,0 +1,5 @@
+use Rattle.relock_laws.proofs.SlipUnrefuted as laws
+use Rattle.relock_laws.proofs.refuted.slip_ends_alone.Goals as goal
+
+pub returns : goal.returns
+returns c = laws.slip_ends_alone
