@@ -15,3 +15,5 @@ pub mod Refuting
 pub mod Unrefuted
 pub mod SlipUnrefuted
 pub mod RefutingExamples
+pub mod RefutingEnding
+pub mod RefutingSettling

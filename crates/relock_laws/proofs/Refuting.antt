@@ -48,7 +48,7 @@ whole_apart : (xs : List Bool) (p d : ℕ) → IsEdge xs p → IsEdge xs d → p
 whole_apart xs p d a b = let same = one_lock xs a.lock b.lock a.is_lock b.is_lock in let x = a.aligned in let y = b.aligned in omega arith
 
 -- the column of three characters
-column_of_windows : (fed : Fed) (p q r j u v w : ℕ) → window fed.blue (p - 120 + 10 * j) ≡ Some u → window fed.green (q - 120 + 10 * j) ≡ Some v → window fed.red (r - 120 + 10 * j) ≡ Some w
+pub column_of_windows : (fed : Fed) (p q r j u v w : ℕ) → window fed.blue (p - 120 + 10 * j) ≡ Some u → window fed.green (q - 120 + 10 * j) ≡ Some v → window fed.red (r - 120 + 10 * j) ≡ Some w
     → aligned_column fed.blue fed.green fed.red p q r j ≡ Some (record { blue = u; green = v; red = w })
 unfolding aligned_column
 column_of_windows fed p q r j u v w a b c = grind arith

@@ -17,7 +17,7 @@ use Rattle.link_sink.proofs.Decided.{first_decided}
 use Rattle.link_sink.specs.Sinks.{Fed}
 use Rattle.lane_track.specs.Strays.{IsStray, HasNoStray}
 use Rattle.track_sink.specs.Ends.{end_decided}
-use Rattle.track_sink.specs.Epochs.{lane_of, rest_of, HasNoEnd}
+use Rattle.track_sink.specs.Epochs.{lane_of, rest_of, IsEnd, HasNoEnd}
 use Rattle.relock_sink.specs.Relocks.{is_announced, IsUnconfirmed}
 use Rattle.relock_sink.specs.Ends.{decided, excludes, one, within}
 use Rattle.relock_laws.specs.Settled.{IsGoodPeriod, EndsEpoch, IsStart, first_start, next_start, IsSettled, SettlesAtPeriod, SettlesForGood}
@@ -85,21 +85,38 @@ announced_column g h a =
 
 -- Three lanes.
 
-abbrev least_of : ℕ → ℕ → ℕ → ℕ
+abbrev pub least_of : ℕ → ℕ → ℕ → ℕ
 least_of d e f = min d (min e f)
 
 -- no end lies before the last twelve characters
 abbrev EndsLate : Fed → ℕ → ℕ → Type 0
 EndsLate fed z least = (place : ℕ) → EndsEpoch (rest_of z fed) place → least < z + place + 120
 
+-- no end at a stray lies before them, and no alignment before them is unconfirmed
+pub record IsLate (fed : Fed) (z least : ℕ) : Type 0 where
+  pub ends : (lane p : ℕ) → IsEnd (rest_of z fed) lane p → least < z + p + 120
+  pub unconfirmed : (p q r : ℕ) → IsUnconfirmed (rest_of z fed) p q r → least < z + max p (max q r) + 20
+
+late_of : (fed : Fed) (z least : ℕ) → EndsLate fed z least → IsLate fed z least
+late_of fed z least late = record {
+  ends = λ lane p end.
+      let ends = stray_ends (rest_of z fed) lane p end in
+      let far = late ends.0 ends.1 in
+      let before = ends.2 in
+      omega arith;
+  unconfirmed = λ p q r u.
+      let ends = unconfirmed_ends (rest_of z fed) p q r u in
+      let far = late ends.0 ends.1 in
+      let early = ends.2 in
+      omega arith;
+}
+
 -- nor then does a stray
-late_stray : (fed : Fed) (z least : ℕ) → EndsLate fed z least → (l : ℕ) → l < 3 → (p : ℕ) → IsStray (lane_of (rest_of z fed) l) p → least < z + p + 120
+late_stray : (fed : Fed) (z least : ℕ) → IsLate fed z least → (l : ℕ) → l < 3 → (p : ℕ) → IsStray (lane_of (rest_of z fed) l) p → least < z + p + 120
 late_stray fed z least late l lt p stray = elim (end_decided (rest_of z fed)) [
   | inr none ↦ absurd (none l lt p stray)
   | inl found ↦
-      let ends = stray_ends (rest_of z fed) found.0 found.1 found.2 in
-      let far = late ends.0 ends.1 in
-      let before = ends.2 in
+      let far = late.ends found.0 found.1 found.2 in
       elim (found.2.least l p lt stray) [
         | inl less ↦ omega arith
         | inr same ↦ let e = same.0 in omega arith
@@ -107,15 +124,15 @@ late_stray fed z least late l lt p stray = elim (end_decided (rest_of z fed)) [
 ]
 
 -- places near each other
-record AreSpread (d e f : ℕ) : Type 0 where
-  blue_low : least_of d e f ≤ d
-  green_low : least_of d e f ≤ e
-  red_low : least_of d e f ≤ f
-  blue_high : d ≤ least_of d e f + 70
-  green_high : e ≤ least_of d e f + 70
-  red_high : f ≤ least_of d e f + 70
+pub record AreSpread (d e f : ℕ) : Type 0 where
+  pub blue_low : least_of d e f ≤ d
+  pub green_low : least_of d e f ≤ e
+  pub red_low : least_of d e f ≤ f
+  pub blue_high : d ≤ least_of d e f + 70
+  pub green_high : e ≤ least_of d e f + 70
+  pub red_high : f ≤ least_of d e f + 70
 
-spread : (d e f : ℕ) → AreNear d e → AreNear e f → AreNear d f → AreSpread d e f
+pub spread : (d e f : ℕ) → AreNear d e → AreNear e f → AreNear d f → AreSpread d e f
 spread d e f a b c =
     let a0 = a.0 in
     let a1 = a.1 in
@@ -135,12 +152,12 @@ spread d e f a b c =
 at_edge : (e : ℕ) (xs : List Bool) (w : ℕ) → 120 ≤ e → window xs (e - 120 + 10 * 12) ≡ Some w → window xs e ≡ Some w
 at_edge e xs w le h = let same : e - 120 + 10 * 12 ≡ e = omega arith in subst (λ p. window xs p ≡ Some w) same h
 
-record HaveLast (fed : Fed) (d e f z : ℕ) : Type 0 where
-  blue : HasLast fed.blue d (least_of d e f) z
-  green : HasLast fed.green e (least_of d e f) z
-  red : HasLast fed.red f (least_of d e f) z
+pub record HaveLast (fed : Fed) (d e f z : ℕ) : Type 0 where
+  pub blue : HasLast fed.blue d (least_of d e f) z
+  pub green : HasLast fed.green e (least_of d e f) z
+  pub red : HasLast fed.red f (least_of d e f) z
 
-have_last : (fed : Fed) (d e f z : ℕ) → IsGoodPeriod fed d e f → z + 120 ≤ least_of d e f → EndsLate fed z (least_of d e f) → HaveLast fed d e f z
+pub have_last : (fed : Fed) (d e f z : ℕ) → IsGoodPeriod fed d e f → z + 120 ≤ least_of d e f → IsLate fed z (least_of d e f) → HaveLast fed d e f z
 have_last fed d e f z good after late =
     let s = spread d e f good.blue_green good.green_red good.blue_red in
     let none = announced_column good.here good.next good.announced in
@@ -185,7 +202,7 @@ near_rest : (z d e : ℕ) → z ≤ d → z ≤ e → AreNear d e → AreNear (d
 near_rest z d e a b near = let c = near.0 in let g = near.1 in (omega arith, omega arith)
 
 -- the good period's edges are a triple of the epoch
-triple_at : (fed : Fed) (d e f z : ℕ) → IsGoodPeriod fed d e f → HaveLast fed d e f z → IsTriple (drop z fed.blue) (drop z fed.green) (drop z fed.red) (d - z) (e - z) (f - z)
+pub triple_at : (fed : Fed) (d e f z : ℕ) → IsGoodPeriod fed d e f → HaveLast fed d e f z → IsTriple (drop z fed.blue) (drop z fed.green) (drop z fed.red) (d - z) (e - z) (f - z)
 triple_at fed d e f z good h =
     let after = h.blue.after in
     let b = h.blue.low in
@@ -201,7 +218,7 @@ triple_at fed d e f z good h =
     }
 
 -- an edge not far past another one does not lie past it
-not_past : (xs : List Bool) (g k : ℕ) → IsEdge xs g → IsEdge xs k → g ≤ k + 70 → g ≤ k
+pub not_past : (xs : List Bool) (g k : ℕ) → IsEdge xs g → IsEdge xs k → g ≤ k + 70 → g ≤ k
 not_past xs g k a b near = elim (cases_lt k g) [
   | inr le ↦ le
   | inl past ↦ let far = edges_apart xs k g b a past in absurd (omega arith)
@@ -216,7 +233,7 @@ record AreBelow (p q r n : ℕ) : Type 0 where
 below : (p q r a b c n : ℕ) → max p (max q r) ≤ max a (max b c) → a ≤ n → b ≤ n → c ≤ n → AreBelow p q r n
 below p q r a b c n le ha hb hc = record { blue = grind (arith, le-max_left, max-le); green = grind (arith, le-max_left, le-max_right, max-le); red = grind (arith, le-max_right, max-le) }
 
-abbrev AreAt : ℕ → ℕ → ℕ → ℕ → ℕ → ℕ → ℕ → Type 0
+abbrev pub AreAt : ℕ → ℕ → ℕ → ℕ → ℕ → ℕ → ℕ → Type 0
 AreAt z d e f p q r =
     ((z + p ≡ d) × (z + q ≡ e) × (z + r ≡ f)) ⊎ ((z + p + 200 ≤ d) × (z + q + 200 ≤ e) × (z + r + 200 ≤ f))
 
@@ -272,7 +289,7 @@ window_at xs z d p j w at far here =
     let same : d - 120 + 10 * j - z ≡ p - 120 + 10 * j = omega arith in
     subst (λ n. window (drop z xs) n ≡ Some w) same (rest_window z xs (d - 120 + 10 * j) w (omega arith) here)
 
-column_at : (fed : Fed) (d e f z p q r j : ℕ) (c : Column) → z + p ≡ d → z + q ≡ e → z + r ≡ f → 120 ≤ p → 120 ≤ q → 120 ≤ r
+pub column_at : (fed : Fed) (d e f z p q r j : ℕ) (c : Column) → z + p ≡ d → z + q ≡ e → z + r ≡ f → 120 ≤ p → 120 ≤ q → 120 ≤ r
     → aligned_column fed.blue fed.green fed.red d e f j ≡ Some c → aligned_column (drop z fed.blue) (drop z fed.green) (drop z fed.red) p q r j ≡ Some c
 unfolding aligned_column
 column_at fed d e f z p q r j c b g h fb fg fr is =
@@ -285,7 +302,7 @@ column_at fed d e f z p q r j c b g h fb fg fr is =
 largest : (p q r n : ℕ) → p ≤ n → q ≤ n → r ≤ n → max p (max q r) ≤ n
 largest p q r n a b c = max-le a (max-le b c)
 
-is_confirmed : (fed : Fed) (d e f z p q r : ℕ) → IsGoodPeriod fed d e f → HaveLast fed d e f z → EndsLate fed z (least_of d e f) → AreAt z d e f p q r → IsUnconfirmed (rest_of z fed) p q r → ⊥
+is_confirmed : (fed : Fed) (d e f z p q r : ℕ) → IsGoodPeriod fed d e f → HaveLast fed d e f z → IsLate fed z (least_of d e f) → AreAt z d e f p q r → IsUnconfirmed (rest_of z fed) p q r → ⊥
 is_confirmed fed d e f z p q r good h late (inl at) u =
     let t = u.first.triple in
     let pb = t.blue.past in
@@ -295,9 +312,7 @@ is_confirmed fed d e f z p q r good h late (inl at) u =
     let b = same_column _ good.next u.next (column_at fed d e f z p q r 13 good.next at.0 at.1 at.2 (omega arith) (omega arith) (omega arith) good.is_next) u.is_next in
     true≢false (sym good.announced ∙ (λ i. is_announced (a i) (b i)) ∙ u.unannounced)
 is_confirmed fed d e f z p q r good h late (inr before) u =
-    let ends = unconfirmed_ends (rest_of z fed) p q r u in
-    let far = late ends.0 ends.1 in
-    let early = ends.2 in
+    let far = late.unconfirmed p q r u in
     let x = before.0 in
     let y = before.1 in
     let w = before.2 in
@@ -307,26 +322,28 @@ is_confirmed fed d e f z p q r good h late (inr before) u =
     let top = largest p q r (least_of d e f - 130 - z) (omega arith) (omega arith) (omega arith) in
     omega arith
 
--- the epoch that does not end before the last twelve characters
-settled_at : (fed : Fed) (d e f z : ℕ) → IsGoodPeriod fed d e f → z + 120 ≤ least_of d e f → EndsLate fed z (least_of d e f) → (p q r : ℕ) × IsSettled fed d e f z p q r
-settled_at fed d e f z good after late =
+-- the first alignment of the epoch that does not end before the last twelve characters
+pub record AreSettled (fed : Fed) (d e f z p q r : ℕ) : Type 0 where
+  pub last : HaveLast fed d e f z
+  pub first : IsFirst (drop z fed.blue) (drop z fed.green) (drop z fed.red) p q r
+  pub place : AreAt z d e f p q r
+  pub confirmed : IsUnconfirmed (rest_of z fed) p q r → ⊥
+
+pub are_settled : (fed : Fed) (d e f z : ℕ) → IsGoodPeriod fed d e f → z + 120 ≤ least_of d e f → IsLate fed z (least_of d e f) → (p q r : ℕ) × AreSettled fed d e f z p q r
+are_settled fed d e f z good after late =
     let h = have_last fed d e f z good after late in
     elim (first_decided (drop z fed.blue) (drop z fed.green) (drop z fed.red)) [
       | inr none ↦ absurd (none (d - z) (e - z) (f - z) (triple_at fed d e f z good h))
       | inl first ↦
-          let at = place_of fed d e f z first.0 first.1 first.2 good h first.3 in (
-            first.0,
-            first.1,
-            first.2,
-            record {
-              begins = after;
-              ends = late;
-              first = first.3;
-              place = at;
-              confirmed = is_confirmed fed d e f z first.0 first.1 first.2 good h late at;
-            },
-          )
+          let at = place_of fed d e f z first.0 first.1 first.2 good h first.3 in
+          (first.0, first.1, first.2, record { last = h; first = first.3; place = at; confirmed = is_confirmed fed d e f z first.0 first.1 first.2 good h late at })
     ]
+
+settled_at : (fed : Fed) (d e f z : ℕ) → IsGoodPeriod fed d e f → z + 120 ≤ least_of d e f → EndsLate fed z (least_of d e f) → (p q r : ℕ) × IsSettled fed d e f z p q r
+settled_at fed d e f z good after late =
+    let s = are_settled fed d e f z good after (late_of fed z (least_of d e f) late) in
+    let is = s.3 in
+    (s.0, s.1, s.2, record { begins = after; ends = late; first = is.first; place = is.place; confirmed = is.confirmed })
 
 -- Its beginning.
 
@@ -354,14 +371,14 @@ settles_at_period fed d e f good =
 
 -- It is the last where the lanes have few damaged characters from there on.
 
-none_at : (fed : Fed) (z : ℕ) → HasNoStray (drop z fed.blue) → HasNoStray (drop z fed.green) → HasNoStray (drop z fed.red) → HasNoEnd (rest_of z fed)
+pub none_at : (fed : Fed) (z : ℕ) → HasNoStray (drop z fed.blue) → HasNoStray (drop z fed.green) → HasNoStray (drop z fed.red) → HasNoEnd (rest_of z fed)
 none_at fed z blue green red zero lt = blue
 none_at fed z blue green red (suc zero) lt = green
 none_at fed z blue green red (suc (suc l)) lt = red
 
 pub settles_for_good : SettlesForGood
 settles_for_good fed d e f good blue green red z p q r is =
-    let h = have_last fed d e f z good is.begins is.ends in
+    let h = have_last fed d e f z good is.begins (late_of fed z (least_of d e f) is.ends) in
     record {
       no_stray = none_at fed z (calm_none fed.blue d (least_of d e f) z h.blue blue) (calm_none fed.green e (least_of d e f) z h.green green) (calm_none fed.red f (least_of d e f) z h.red red);
       confirmed = none_unconfirmed (rest_of z fed) p q r is.first is.confirmed;

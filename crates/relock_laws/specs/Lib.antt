@@ -2,3 +2,4 @@ pub mod Laws
 pub mod Settled
 pub mod Refuted
 pub mod RefutingLaws
+pub mod RefutingSettled

@@ -1,5 +1,6 @@
 //! Where the epochs of three lanes end whose alignment is let go too where it is refuted.
 ghost use Rattle.relock_laws.specs.RefutingLaws.{PayloadIsLastUnrefuted, UntilIsLastUnrefuted, EndsOrIsUnrefuted, OneRefutingEnd, SlipStands, SlipEndsAlone, HasUnrefutedExample, HasSlipFirstExample};
+ghost use Rattle.relock_laws.specs.RefutingSettled.{SettlesUnrefuted, SettledHasSkew};
 
 /// The lanes of a tap whose damage lies in pixels and packets alone have one epoch.
 pub fn payload_is_last_unrefuted()
@@ -36,4 +37,17 @@ pub fn unrefuted_example()
 /// So can those on a slip: a stream, a tap and a slip where both epochs have a full alignment.
 pub fn slip_first_example()
     ensures { HasSlipFirstExample }
+{}
+
+/// Whatever came before a control period of nineteen characters on each lane whose guard band is received whole and after which no
+/// control character comes for fifteen: an epoch has the last twelve of them and does not end before them, and its alignment has
+/// their skew, or by it too something opens there, or the epoch ends there at a stray.
+pub fn settles_unrefuted()
+    ensures { SettlesUnrefuted }
+{}
+
+/// That epoch has no stray where of any eleven characters of a lane at most two are damaged from there on: so its alignment has their
+/// skew, or by it too something opens there.
+pub fn settled_has_skew()
+    ensures { SettledHasSkew }
 {}

@@ -1,0 +1,61 @@
+-- Whatever came before: how lanes are aligned from a good control period on whose guard band is received whole, where alignments are
+-- let go where they are refuted.
+use Rattle.std.specs.Prelude.{◌≡◌, ◌⊎◌, ℕ, ◌+◌, ◌-◌, ◌<◌, ◌≤◌, max, min, true}
+use Rattle.lane_deskew.specs.Triples.{IsFirst}
+use Rattle.link_sink.specs.Sinks.{Fed}
+use Rattle.track_sink.specs.Epochs.{EpochRule, rest_of, HasNoEnd}
+use Rattle.relock_sink.specs.Relocks.{IsUnconfirmed}
+use Rattle.relock_sink.specs.Rivals.{HaveSameSkew, columns_before, is_guard_band}
+use Rattle.relock_sink.specs.Refuting.{IsSlipFirst, refuting_rule}
+use Rattle.relock_laws.specs.Settled.{IsGoodPeriod, IsCalmFrom}
+use Rattle.relock_laws.specs.Refuted.{GoesOn, OpensAt}
+use Rattle.relock_laws.specs.RefutingLaws.{EndsBy}
+
+-- the places of a capture at which its epochs begin, which end by a rule
+pub data IsStartBy (r : EpochRule) : Fed → ℕ → Type 0 where
+  first_start : (fed : Fed) → IsStartBy r fed 0
+  next_start : (fed : Fed) (start place : ℕ) → IsStartBy r fed start → EndsBy r (rest_of start fed) place → IsStartBy r fed (start + place)
+
+-- a good control period whose guard band is received whole, and no control words follow on any lane; what else the lanes have is free
+pub record IsWholeGoodPeriod (fed : Fed) (d e f : ℕ) : Type 0 where
+  pub good : IsGoodPeriod fed d e f
+  pub whole : is_guard_band good.here good.next ≡ true
+  pub blue_on : GoesOn fed.blue d
+  pub green_on : GoesOn fed.green e
+  pub red_on : GoesOn fed.red f
+
+-- an epoch has the twelve characters before the edges of a good control period on each lane, and does not end before them; its
+-- alignment is at those edges, or it was one before that was confirmed
+pub record IsSettledBy (r : EpochRule) (fed : Fed) (d e f start p q s : ℕ) : Type 0 where
+  pub begins : start + 120 ≤ min d (min e f)
+  pub ends : (place : ℕ) → EndsBy r (rest_of start fed) place → min d (min e f) < start + place + 120
+  pub first : IsFirst (rest_of start fed).blue (rest_of start fed).green (rest_of start fed).red p q s
+  pub place :
+      ((start + p ≡ d) × (start + q ≡ e) × (start + s ≡ f))
+      ⊎ ((start + p + 200 ≤ d) × (start + q + 200 ≤ e) × (start + s + 200 ≤ f))
+  pub confirmed : IsUnconfirmed (rest_of start fed) p q s → ⊥
+
+-- by the alignment of an epoch something opens where the good control period ends
+abbrev pub OpensThere : Fed → (d e f start p q r : ℕ) → Type 0
+OpensThere fed d e f start p q r = OpensAt (rest_of start fed) p q r (12 + columns_before p q r (d - start) (e - start) (f - start))
+
+-- the epoch ends at a stray whose run ends at most ninety bits after the good control period
+abbrev pub SlipsThere : Fed → (d e f start : ℕ) → Type 0
+SlipsThere fed d e f start = (lane place : ℕ) × IsSlipFirst (rest_of start fed) lane place × (start + place + 30 ≤ max d (max e f))
+
+-- there is such an epoch, and it has the skew of the good control period, or by its own too something opens there, or it ends there
+-- at a stray
+abbrev pub SettlesUnrefuted : Type 0
+SettlesUnrefuted =
+    (fed : Fed) (d e f : ℕ) → IsWholeGoodPeriod fed d e f
+    → (start : ℕ) × IsStartBy refuting_rule fed start
+    × ((p q r : ℕ) × IsSettledBy refuting_rule fed d e f start p q r
+    × (HaveSameSkew p q r d e f ⊎ (OpensThere fed d e f start p q r ⊎ SlipsThere fed d e f start)))
+
+-- where the lanes have few damaged characters from there on, each such epoch has no stray: it has the skew of the good control period,
+-- or by its own too something opens there
+abbrev pub SettledHasSkew : Type 0
+SettledHasSkew =
+    (fed : Fed) (d e f : ℕ) → IsWholeGoodPeriod fed d e f → IsCalmFrom fed.blue d → IsCalmFrom fed.green e → IsCalmFrom fed.red f
+    → (start p q r : ℕ) → IsSettledBy refuting_rule fed d e f start p q r
+    → HasNoEnd (rest_of start fed) × (HaveSameSkew p q r d e f ⊎ OpensThere fed d e f start p q r)
