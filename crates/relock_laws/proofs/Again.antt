@@ -8,6 +8,7 @@ use Rattle.tmds_word.specs.Words.{words_of, columns_of}
 use Rattle.lane_align.specs.Laws.{IsCalm}
 use Rattle.lane_align.specs.Words.{words_from}
 use Rattle.lane_align.proofs.Controls.{control_within}
+use Rattle.lane_deskew.specs.Triples.{IsFirst}
 use Rattle.lane_deskew.specs.Aligned.{aligned_columns}
 use Rattle.lane_track.proofs.Around.{drop_part}
 use Rattle.island_pack.specs.Periods.{Period}
@@ -20,8 +21,8 @@ use Rattle.link_laws.proofs.Framing.{link_law}
 use Rattle.link_laws.proofs.Freely.{free_received}
 use Rattle.link_laws.proofs.Tapped.{characters}
 use Rattle.link_sink.specs.Sinks.{Fed}
-use Rattle.relock_laws.specs.Settled.{EndsNineteen, IsCalmFrom, IsAgain, IsSettled, RecoversAgain}
-use Rattle.relock_laws.proofs.Settling.{settles_at_period, settles_for_good}
+use Rattle.relock_laws.specs.Settled.{EndsNineteen, IsCalmFrom, IsAgain, RecoversAgain}
+use Rattle.relock_laws.proofs.Settling.{AreAt, settles_at_period, settles_for_good}
 
 -- what is left of a lane from a place of the tap on
 left : (n k : ℕ) (xs us : List Bool) → drop n xs ≡ us → n ≤ k → drop k xs ≡ drop (k - n) us
@@ -71,7 +72,7 @@ long_lane xs e good =
     omega arith
 
 -- where the epoch is aligned at the good period
-accounted : (ps : List Period) (sent received : List Column) (offset : ℕ) (skews counts : List ℕ) (x fed : Fed) (before : List ℕ) (a d e f z : ℕ)
+pub accounted : (ps : List Period) (sent received : List Column) (offset : ℕ) (skews counts : List ℕ) (x fed : Fed) (before : List ℕ) (a d e f z : ℕ)
     → IsAgain ps sent received offset skews counts x fed before a d e f → z + 120 ≤ d → z + 120 ≤ e → z + 120 ≤ f
     → IsAccounted ps sent received (aligned_columns (drop z fed.blue) (drop z fed.green) (drop z fed.red) (d - z) (e - z) (f - z)) a
 accounted ps sent received offset skews counts x fed before a d e f z h dz ez fz =
@@ -126,13 +127,13 @@ record AreThere (fed : Fed) (d e f start p q r : ℕ) : Type 0 where
   green_low : start + 120 ≤ e
   red_low : start + 120 ≤ f
 
-there : (fed : Fed) (d e f start p q r : ℕ) → IsSettled fed d e f start p q r → start + p ≡ d → AreThere fed d e f start p q r
-there fed d e f start p q r is at =
-    let t = is.first.triple in
+there : (fed : Fed) (d e f start p q r : ℕ) → IsFirst (drop start fed.blue) (drop start fed.green) (drop start fed.red) p q r → AreAt start d e f p q r → start + p ≡ d → AreThere fed d e f start p q r
+there fed d e f start p q r first place at =
+    let t = first.triple in
     let b = t.blue.past in
     let g = t.green.past in
     let w = t.red.past in
-    elim is.place [
+    elim place [
       | inl h ↦
           let x = h.0 in
           let y = h.1 in
@@ -140,6 +141,33 @@ there fed d e f start p q r is at =
           record { blue = omega arith; green = omega arith; red = omega arith; blue_low = omega arith; green_low = omega arith; red_low = omega arith }
       | inr h ↦ let x = h.0 in absurd (omega arith)
     ]
+
+pub accounted_there : (ps : List Period) (sent received : List Column) (offset : ℕ) (skews counts : List ℕ) (x fed : Fed) (before : List ℕ) (a d e f start p q r : ℕ)
+    → IsAgain ps sent received offset skews counts x fed before a d e f
+    → IsFirst (drop start fed.blue) (drop start fed.green) (drop start fed.red) p q r → AreAt start d e f p q r → start + p ≡ d
+    → IsAccounted ps sent received (aligned_columns (drop start fed.blue) (drop start fed.green) (drop start fed.red) p q r) a
+accounted_there ps sent received offset skews counts x fed before a d e f start p q r h first place at =
+    let t = there fed d e f start p q r first place at in
+    let own = accounted ps sent received offset skews counts x fed before a d e f start h t.blue_low t.green_low t.red_low in
+    let P : ℕ → ℕ → ℕ → Type 0 = λ i j k. IsAccounted ps sent received (aligned_columns (drop start fed.blue) (drop start fed.green) (drop start fed.red) i j k) a in
+    subst (λ n. P n q r) (sym t.blue) (subst (λ n. P (d - start) n r) (sym t.green) (subst (λ n. P (d - start) (e - start) n) (sym t.red) own))
+
+-- the lanes are calm from the good period on
+pub record AreCalmFrom (fed : Fed) (d e f : ℕ) : Type 0 where
+  pub blue : IsCalmFrom fed.blue d
+  pub green : IsCalmFrom fed.green e
+  pub red : IsCalmFrom fed.red f
+
+pub calm_again : (ps : List Period) (sent received : List Column) (offset : ℕ) (skews counts : List ℕ) (x fed : Fed) (before : List ℕ) (a d e f : ℕ)
+    → IsAgain ps sent received offset skews counts x fed before a d e f → AreCalmFrom fed d e f
+calm_again ps sent received offset skews counts x fed before a d e f h =
+    let calm = lanes_are_calm ps sent received h.reception.reception in
+    let tap = h.reception.tapped in
+    record {
+      blue = calm_from (blues received) (damaged (blues sent) (blues received)) (offset + slice_index skews 0) (slice_index counts 0) (slice_index before 0) d fed.blue x.blue calm.blue tap.blue_part h.blue_after h.blue_whole;
+      green = calm_from (greens received) (damaged (greens sent) (greens received)) (offset + slice_index skews 1) (slice_index counts 1) (slice_index before 1) e fed.green x.green calm.green tap.green_part h.green_after h.green_whole;
+      red = calm_from (reds received) (damaged (reds sent) (reds received)) (offset + slice_index skews 2) (slice_index counts 2) (slice_index before 2) f fed.red x.red calm.red tap.red_part h.red_after h.red_whole;
+    }
 
 pub recovers_again : RecoversAgain
 recovers_again ps sent received offset skews counts x fed before a d e f h =
@@ -149,13 +177,7 @@ recovers_again ps sent received offset skews counts x fed before a d e f h =
     let q = s.2.1 in
     let r = s.2.2 in
     let is = s.2.3 in
-    let calm = lanes_are_calm ps sent received h.reception.reception in
-    let tap = h.reception.tapped in
-    let last = settles_for_good fed d e f h.good
-    (calm_from (blues received) (damaged (blues sent) (blues received)) (offset + slice_index skews 0) (slice_index counts 0) (slice_index before 0) d fed.blue x.blue calm.blue tap.blue_part h.blue_after h.blue_whole)
-    (calm_from (greens received) (damaged (greens sent) (greens received)) (offset + slice_index skews 1) (slice_index counts 1) (slice_index before 1) e fed.green x.green calm.green tap.green_part h.green_after h.green_whole)
-    (calm_from (reds received) (damaged (reds sent) (reds received)) (offset + slice_index skews 2) (slice_index counts 2) (slice_index before 2) f fed.red x.red calm.red tap.red_part h.red_after h.red_whole)
-    start p q r is in (
+    let calm = calm_again ps sent received offset skews counts x fed before a d e f h in (
       start,
       s.1,
       (
@@ -163,11 +185,7 @@ recovers_again ps sent received offset skews counts x fed before a d e f h =
         q,
         r,
         is,
-        last,
-        λ at.
-            let t = there fed d e f start p q r is at in
-            let own = accounted ps sent received offset skews counts x fed before a d e f start h t.blue_low t.green_low t.red_low in
-            let P : ℕ → ℕ → ℕ → Type 0 = λ i j k. IsAccounted ps sent received (aligned_columns (drop start fed.blue) (drop start fed.green) (drop start fed.red) i j k) a in
-            subst (λ n. P n q r) (sym t.blue) (subst (λ n. P (d - start) n r) (sym t.green) (subst (λ n. P (d - start) (e - start) n) (sym t.red) own)),
+        settles_for_good fed d e f h.good calm.blue calm.green calm.red start p q r is,
+        accounted_there ps sent received offset skews counts x fed before a d e f start p q r h is.first is.place,
       ),
     )

@@ -17,3 +17,4 @@ pub mod SlipUnrefuted
 pub mod RefutingExamples
 pub mod RefutingEnding
 pub mod RefutingSettling
+pub mod RefutingAgain

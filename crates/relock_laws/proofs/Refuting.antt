@@ -1,7 +1,7 @@
 -- At a good control period an earlier alignment with another skew is refuted, or by it too something opens: by it the control period
 -- ends at the second of the three lanes.
-use Rattle.std.proofs.Common.{◌≡◌, ◌⊎◌, ℕ, ◌+◌, ◌-◌, ◌*◌, ◌/◌, ◌%◌, ◌<◌, ◌≤◌, max, min, Bool, true, false, List, ap, ◌∙◌, sym, subst, arith, inl, inr, refl, Some, nat_le}
-use Rattle.std.proofs.lemmas.Bool.{cases_lt, le-leb, lt-leb}
+use Rattle.std.proofs.Common.{◌≡◌, ◌⊎◌, ℕ, ◌+◌, ◌-◌, ◌*◌, ◌/◌, ◌%◌, ◌<◌, ◌≤◌, Bool, true, false, List, ap, ◌∙◌, sym, subst, arith, inl, inr, refl, Some, nat_le}
+use Rattle.std.proofs.lemmas.Bool.{cases_lt}
 use Rattle.tmds_word.specs.Bits.{window}
 use Rattle.tmds_word.specs.Column.{Column}
 use Rattle.tmds_word.specs.Taps.{AreNear}
@@ -12,7 +12,7 @@ use Rattle.lane_align.specs.Lanes.{HasControl, IsEdge}
 use Rattle.lane_align.proofs.Controls.{one_lock}
 use Rattle.lane_deskew.specs.Aligned.{aligned_column}
 use Rattle.link_sink.specs.Sinks.{Fed}
-use Rattle.relock_sink.specs.Rivals.{middle, columns_before, HaveSameSkew, IsConfirmed, IsRival, IsRefuted, OpensNothing}
+use Rattle.relock_sink.specs.Rivals.{middle, columns_before, IsConfirmed, IsRival, IsRefuted}
 use Rattle.relock_laws.specs.Settled.{EndsNineteen}
 use Rattle.relock_laws.specs.Refuted.{GoesOn, IsWholePeriod, OpensAt, PeriodRefutes}
 
@@ -44,7 +44,7 @@ character xs e place good on low high whole = elim (cases_lt place e) [
 ]
 
 -- the edges of a lane of two alignments lie whole characters apart
-whole_apart : (xs : List Bool) (p d : ℕ) → IsEdge xs p → IsEdge xs d → p % 10 ≡ d % 10
+pub whole_apart : (xs : List Bool) (p d : ℕ) → IsEdge xs p → IsEdge xs d → p % 10 ≡ d % 10
 whole_apart xs p d a b = let same = one_lock xs a.lock b.lock a.is_lock b.is_lock in let x = a.aligned in let y = b.aligned in omega arith
 
 -- the column of three characters

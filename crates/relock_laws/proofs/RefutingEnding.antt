@@ -1,5 +1,5 @@
 -- Where an epoch ends whose first alignment is unconfirmed or refuted, or a lane of which has a stray.
-use Rattle.std.proofs.Common.{◌≡◌, ◌⊎◌, ℕ, ◌+◌, ◌<◌, ◌≤◌, max, min, arith, inl, inr}
+use Rattle.std.proofs.Common.{◌⊎◌, ℕ, ◌+◌, ◌≤◌, max, min, arith, inl, inr}
 use Rattle.lane_deskew.specs.Triples.{IsTriple}
 use Rattle.link_sink.specs.Sinks.{Fed}
 use Rattle.track_sink.specs.Epochs.{most_of, IsEnd}

@@ -1,5 +1,5 @@
 -- The premises can be met.
-use Rattle.std.proofs.Common.{[], ◌∷◌, arith}
+use Rattle.std.proofs.Common.{[], ◌∷◌}
 use Rattle.link_laws.proofs.Example.{example}
 use Rattle.link_sink.specs.Sinks.{Fed}
 use Rattle.track_laws.proofs.SlipExample as slips

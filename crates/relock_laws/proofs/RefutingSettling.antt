@@ -1,36 +1,34 @@
 -- At a good control period whose guard band is received whole the lanes have its skew, or by the one they have too something opens
 -- there, or a lane has a stray there: another alignment is refuted.
-use Rattle.std.proofs.Common.{◌≡◌, ◌⊎◌, ℕ, suc, zero, ◌+◌, ◌-◌, ◌*◌, ◌<◌, ◌≤◌, max, Bool, true, false, List, length, take, drop, refl, sym, subst, arith, inl, inr, Some, length-drop}
+use Rattle.std.proofs.Common.{◌≡◌, ◌⊎◌, ℕ, suc, zero, ◌+◌, ◌-◌, ◌*◌, ◌<◌, ◌≤◌, Bool, true, false, List, length, take, drop, refl, subst, arith, inl, inr, Some, length-drop}
 use native.Mathlib.Decide.{ℕ_discrete}
-use Rattle.std.proofs.lemmas.Bool.{cases_lt, leb-true, le-leb}
+use Rattle.std.proofs.lemmas.Bool.{cases_lt}
 use Rattle.tmds_word.specs.Bits.{number, window}
 use Rattle.tmds_word.specs.Column.{Column}
-use Rattle.terc4.specs.Tables.{is_control}
-use Rattle.lane_align.specs.Lanes.{HasControl}
 use Rattle.lane_align.proofs.Controls.{window_here, window_is}
 use Rattle.lane_deskew.specs.Triples.{IsFirst}
 use Rattle.lane_deskew.specs.Aligned.{aligned_column}
 use Rattle.link_sink.specs.Sinks.{Fed}
-use Rattle.track_sink.specs.Epochs.{EpochRule, rest_of, most_of, HasNoEnd}
+use Rattle.track_sink.specs.Epochs.{EpochRule, rest_of, HasNoEnd}
 use Rattle.track_sink.specs.Rules.{IsRule}
 use Rattle.relock_sink.specs.Relocks.{is_announced, IsUnconfirmed}
 use Rattle.relock_sink.specs.Rivals.{HaveSameSkew, IsConfirmed, IsRefuted}
-use Rattle.relock_sink.specs.Refuting.{refuted_at, refuting_rule}
+use Rattle.relock_sink.specs.Refuting.{refuting_rule}
 use Rattle.relock_sink.specs.RefuterRule.{refuting_is_rule}
-use Rattle.relock_laws.specs.Settled.{EndsNineteen, IsCalmFrom}
+use Rattle.relock_laws.specs.Settled.{EndsNineteen, IsGoodPeriod, IsCalmFrom}
 use Rattle.relock_laws.specs.Refuted.{GoesOn, IsWholePeriod}
 use Rattle.relock_laws.specs.RefutingLaws.{EndsBy}
 use Rattle.relock_laws.specs.RefutingSettled.{IsStartBy, first_start, next_start, IsWholeGoodPeriod, IsSettledBy, OpensThere, SlipsThere, SettlesUnrefuted, SettledHasSkew}
-use Rattle.relock_laws.proofs.GoodPeriod.{HasLast, calm_none}
+use Rattle.relock_laws.proofs.GoodPeriod.{calm_none}
 use Rattle.relock_laws.proofs.Refuting.{column_of_windows, period_refutes}
 use Rattle.relock_laws.proofs.RefutingEnding.{unconfirmed_leaves, stray_leaves, refuted_leaves}
-use Rattle.relock_laws.proofs.Settling.{least_of, IsLate, HaveLast, AreAt, AreSettled, AreSpread, spread, are_settled, have_last, triple_at, column_at, none_at}
+use Rattle.relock_laws.proofs.Settling.{least_of, IsLate, HaveLast, AreAt, spread, are_settled, have_last, triple_at, column_at, none_at}
 use Rattle.relock_laws.proofs.Windows.{rest_window, back_window}
 
 -- The epoch that has the last twelve characters.
 
 -- no end lies before them
-abbrev EndsLateBy : EpochRule → Fed → ℕ → ℕ → Type 0
+abbrev pub EndsLateBy : EpochRule → Fed → ℕ → ℕ → Type 0
 EndsLateBy r fed z least = (place : ℕ) → EndsBy r (rest_of z fed) place → least < z + place + 120
 
 abbrev Reaches : EpochRule → Fed → ℕ → Type 0
@@ -48,7 +46,7 @@ reach r rule (suc n) fed z least start after fuel = elim (rule.decided (rest_of 
       ]
 ]
 
-late_by : (fed : Fed) (z least : ℕ) → EndsLateBy refuting_rule fed z least → IsLate fed z least
+pub late_by : (fed : Fed) (z least : ℕ) → EndsLateBy refuting_rule fed z least → IsLate fed z least
 late_by fed z least late = record {
   ends = λ lane p end.
       let ends = stray_leaves (rest_of z fed) lane p end in
@@ -73,7 +71,7 @@ rest_nineteen z xs d after good = record {
       record { word = c.word; here = subst (λ n. window (drop z xs) n ≡ Some c.word) at (rest_window z xs (d - 190 + 10 * k) c.word (omega arith) c.here); control = c.control };
 }
 
-rest_goes_on : (z : ℕ) (xs : List Bool) (d : ℕ) → z ≤ d → GoesOn xs d → GoesOn (drop z xs) (d - z)
+pub rest_goes_on : (z : ℕ) (xs : List Bool) (d : ℕ) → z ≤ d → GoesOn xs d → GoesOn (drop z xs) (d - z)
 rest_goes_on z xs d after on = record {
   whole = λ k lt.
       let w = on.whole k lt in
@@ -85,7 +83,7 @@ rest_goes_on z xs d after on = record {
 }
 
 -- sixteen characters of the lane follow in the epoch
-long_after : (z : ℕ) (xs : List Bool) (d : ℕ) → z ≤ d → GoesOn xs d → d - z + 160 ≤ length (drop z xs)
+pub long_after : (z : ℕ) (xs : List Bool) (d : ℕ) → z ≤ d → GoesOn xs d → d - z + 160 ≤ length (drop z xs)
 long_after z xs d after on =
     let w = on.whole 15 (omega arith) in
     let is = window_is xs (d + 10 * 15) w.0 w.1 in
@@ -191,7 +189,7 @@ earlier_skew fed d e f z p q r w after late h first none x y v apart =
       | inr opens ↦ inr (inl opens)
     ]
 
-skew_of : (fed : Fed) (d e f z p q r : ℕ) → IsWholeGoodPeriod fed d e f → z + 120 ≤ least_of d e f → EndsLateBy refuting_rule fed z (least_of d e f)
+pub skew_of : (fed : Fed) (d e f z p q r : ℕ) → IsWholeGoodPeriod fed d e f → z + 120 ≤ least_of d e f → EndsLateBy refuting_rule fed z (least_of d e f)
     → HaveLast fed d e f z → IsFirst (drop z fed.blue) (drop z fed.green) (drop z fed.red) p q r → (IsUnconfirmed (rest_of z fed) p q r → ⊥)
     → AreAt z d e f p q r → Outcome fed d e f z p q r
 skew_of fed d e f z p q r w after late h first none (inl at) = let x = at.0 in let y = at.1 in let v = at.2 in inl (omega arith, omega arith)
@@ -225,15 +223,15 @@ settles_unrefuted fed d e f w =
 
 -- Where the lanes have few damaged characters from there on.
 
-pub settled_no_stray : (fed : Fed) (d e f start p q r : ℕ) → IsWholeGoodPeriod fed d e f → IsCalmFrom fed.blue d → IsCalmFrom fed.green e → IsCalmFrom fed.red f
+pub settled_no_stray : (fed : Fed) (d e f start p q r : ℕ) → IsGoodPeriod fed d e f → IsCalmFrom fed.blue d → IsCalmFrom fed.green e → IsCalmFrom fed.red f
     → IsSettledBy refuting_rule fed d e f start p q r → HasNoEnd (rest_of start fed)
-settled_no_stray fed d e f z p q r w blue green red is =
-    let h = have_last fed d e f z w.good is.begins (late_by fed z (least_of d e f) is.ends) in
+settled_no_stray fed d e f z p q r good blue green red is =
+    let h = have_last fed d e f z good is.begins (late_by fed z (least_of d e f) is.ends) in
     none_at fed z (calm_none fed.blue d (least_of d e f) z h.blue blue) (calm_none fed.green e (least_of d e f) z h.green green) (calm_none fed.red f (least_of d e f) z h.red red)
 
 pub settled_has_skew : SettledHasSkew
 settled_has_skew fed d e f w blue green red z p q r is =
-    let none = settled_no_stray fed d e f z p q r w blue green red is in
+    let none = settled_no_stray fed d e f z p q r w.good blue green red is in
     let h = have_last fed d e f z w.good is.begins (late_by fed z (least_of d e f) is.ends) in (
       none,
       elim (skew_of fed d e f z p q r w is.begins is.ends h is.first is.confirmed is.place) [

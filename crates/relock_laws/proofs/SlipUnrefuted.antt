@@ -1,13 +1,9 @@
 -- Where one lane slips once within a line, no edges refute the first alignment, since all alignments before the slip have one skew,
 -- and all after it have one: so the epochs end where those of lanes do whose alignments are always used.
-use Rattle.std.proofs.Common.{◌≡◌, ℕ, List}
-use Rattle.island_pack.specs.Periods.{Period}
 use Rattle.link_laws.proofs.Freely.{free_received}
-use Rattle.link_sink.specs.Sinks.{Fed}
 use Rattle.track_sink.specs.Epochs.{rest_of}
 use Rattle.track_laws.proofs.Noticed.{second_epoch}
 use Rattle.relock_laws.specs.RefutingLaws.{SlipStands, SlipEndsAlone}
-use Rattle.relock_laws.proofs.Last.{payload_confirmed}
 use Rattle.relock_laws.proofs.Seen.{seen_skew}
 use Rattle.relock_laws.proofs.SlipEnds.{slip_seen, slip_ends}
 use Rattle.relock_laws.proofs.Standing.{stands_at}

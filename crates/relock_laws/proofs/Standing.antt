@@ -1,20 +1,19 @@
 -- A true alignment is refuted nowhere: after each control period that is received to end a period opens.
-use Rattle.std.proofs.Common.{◌≡◌, ℕ, ◌+◌, ◌<◌, ◌≤◌, Bool, true, false, List, [], ◌++◌, length, take, drop, ap, ap₂, sym, ◌∙◌, subst, arith, inl, inr, Some, true≢false, replicate, length-append, ◌-◌}
+use Rattle.std.proofs.Common.{◌≡◌, ℕ, ◌+◌, ◌<◌, ◌≤◌, List, [], ◌++◌, length, ap, ap₂, sym, ◌∙◌, subst, arith, inl, inr, true≢false, replicate, length-append, ◌-◌}
 use Rattle.std.proofs.lemmas.List.{get_or_append_left, get_or-append_right, length-replicate}
 use Rattle.tmds_word.specs.Column.{Column}
-use Rattle.tmds_word.specs.Taps.{HasSmallSkew}
 use Rattle.terc4.specs.Columns.{is_control_column}
 use Rattle.island_pack.specs.Kinds.{Kind, control_column, first_guard, second_guard, kinds_of, kind_at, EndsAt}
 use Rattle.island_pack.specs.Periods.{Period}
-use Rattle.island_pack.specs.Sparse.{column_at, unlike_at, IsSparseInPayload}
-use Rattle.period_grammar.specs.Heard.{Kind as Opening, neither, video, island, opened}
+use Rattle.island_pack.specs.Sparse.{column_at, unlike_at}
+use Rattle.period_grammar.specs.Heard.{neither, video, island, opened}
 use Rattle.lane_deskew.specs.Triples.{IsFirst}
 use Rattle.lane_deskew.specs.Aligned.{aligned_columns}
 use Rattle.lane_deskew.proofs.First.{one_first}
 use Rattle.lane_deskew.proofs.Listed.{columns_listed}
 use Rattle.link_sink.specs.Sinks.{Fed}
 use Rattle.link_laws.specs.Alternating.{IsAlternating, last, more, built}
-use Rattle.link_laws.specs.Laws.{ReceivedFreely, IsAccounted, AlignsUntil}
+use Rattle.link_laws.specs.Laws.{ReceivedFreely, IsAccounted}
 use Rattle.link_laws.proofs.Framing.{framing_stands}
 use Rattle.link_laws.proofs.Freely.{free_received}
 use Rattle.link_laws.proofs.Guards.{unlike, opens_video, opens_island}
@@ -22,8 +21,7 @@ use Rattle.link_laws.proofs.Lanes.{fitting_length}
 use Rattle.link_laws.proofs.Shapes.{alternating, where_ends, ends_alone, in_rest}
 use Rattle.link_laws.proofs.Spelled.{fitting_freely}
 use Rattle.link_laws.proofs.Tapped.{payload_accounted, tap_accounted}
-use Rattle.track_laws.specs.Laws.{Received}
-use Rattle.relock_sink.specs.Rivals.{IsRefuted, columns_before}
+use Rattle.relock_sink.specs.Rivals.{IsRefuted, OpensNothing, columns_before}
 use Rattle.relock_laws.specs.Refuted.{EndsOpen, PayloadStands, UntilStands}
 use Rattle.relock_laws.proofs.Announced.{ArePair, of_line, of_island, pair_at}
 use Rattle.relock_laws.proofs.Last.{column_is}
@@ -76,13 +74,11 @@ ends_open ps sent received reception i lt control ends none =
     let are : ArePair (column_at sent (i + 1)) (column_at sent (i + 2)) = subst (λ n. ArePair (column_at sent (i + 1)) (column_at sent n)) next pair in
     pair_opens (column_at sent (i + 1)) (column_at sent (i + 2)) (column_at received (i + 1)) (column_at received (i + 2)) are one none
 
--- lanes whose aligned columns are received columns from the end of a control period on are refuted by no edges
-pub stands_at : (ps : List Period) (sent received : List Column) → ReceivedFreely ps sent received → (x : Fed) (p q r d e f a : ℕ)
-    → IsAccounted ps sent received (aligned_columns x.blue x.green x.red p q r) a → IsRefuted x p q r d e f → ⊥
-stands_at ps sent received reception x p q r d e f a is u =
+-- lanes whose aligned columns are received columns from the end of a control period on: after each control period of them a period opens
+pub columns_open : (ps : List Period) (sent received : List Column) → ReceivedFreely ps sent received → (x : Fed) (p q r a j : ℕ)
+    → IsAccounted ps sent received (aligned_columns x.blue x.green x.red p q r) a → OpensNothing x p q r j → ⊥
+columns_open ps sent received reception x p q r a j is o =
     let cs = aligned_columns x.blue x.green x.red p q r in
-    let j = 11 + columns_before p q r d e f in
-    let o = u.unopened in
     let l = column_is received cs a j o.last is.columns (columns_listed x.blue x.green x.red p q r j ∙ o.is_last) in
     let g = column_is received cs a (j + 1) o.first is.columns (columns_listed x.blue x.green x.red p q r (j + 1) ∙ o.is_first) in
     let h = column_is received cs a (j + 2) o.second is.columns (columns_listed x.blue x.green x.red p q r (j + 2) ∙ o.is_second) in
@@ -94,8 +90,13 @@ stands_at ps sent received reception x p q r d e f a is u =
     ends_open ps sent received reception (a + j) (omega arith) (ap is_control_column l.1 ∙ o.control) (ap is_control_column first ∙ o.ends)
     (ap₂ opened first second ∙ o.nothing)
 
+-- so they are refuted by no edges
+pub stands_at : (ps : List Period) (sent received : List Column) → ReceivedFreely ps sent received → (x : Fed) (p q r d e f a : ℕ)
+    → IsAccounted ps sent received (aligned_columns x.blue x.green x.red p q r) a → IsRefuted x p q r d e f → ⊥
+stands_at ps sent received reception x p q r d e f a is u = columns_open ps sent received reception x p q r a (11 + columns_before p q r d e f) is u.unopened
+
 -- the alignment in use is the first one
-refuted_first : (x : Fed) (p q r d e f s t u : ℕ) → IsFirst x.blue x.green x.red s t u → IsRefuted x p q r d e f → IsRefuted x s t u d e f
+pub refuted_first : (x : Fed) (p q r d e f s t u : ℕ) → IsFirst x.blue x.green x.red s t u → IsRefuted x p q r d e f → IsRefuted x s t u d e f
 refuted_first x p q r d e f s t u first is =
     let same = one_first x.blue x.green x.red p q r s t u is.rival.own.first first in
     subst (λ n. IsRefuted x n t u d e f) same.0 (subst (λ n. IsRefuted x p n u d e f) same.1 (subst (λ n. IsRefuted x p q n d e f) same.2 is))

@@ -1,11 +1,11 @@
 -- Where no edges refute an alignment, epochs end as where alignments are to be confirmed alone.
-use Rattle.std.proofs.Common.{◌≡◌, ◌⊎◌, ℕ, List, inl, inr}
+use Rattle.std.proofs.Common.{ℕ, inl, inr}
 use Rattle.link_sink.specs.Sinks.{Fed}
-use Rattle.relock_sink.specs.Refuting.{IsLastUnrefuted, refuting_rule}
+use Rattle.relock_sink.specs.Refuting.{IsLastUnrefuted}
 use Rattle.relock_sink.specs.Relocks.{IsLastEpoch}
 use Rattle.relock_sink.specs.RefutingEnds.{decided, one}
 use Rattle.relock_sink.specs.Rivals.{IsRefuted}
-use Rattle.relock_laws.specs.RefutingLaws.{EndsBy, PayloadIsLastUnrefuted, UntilIsLastUnrefuted, EndsOrIsUnrefuted, OneRefutingEnd}
+use Rattle.relock_laws.specs.RefutingLaws.{PayloadIsLastUnrefuted, UntilIsLastUnrefuted, EndsOrIsUnrefuted, OneRefutingEnd}
 use Rattle.relock_laws.proofs.Last.{payload_is_last, until_is_last}
 use Rattle.relock_laws.proofs.Standing.{payload_stands, until_stands}
 

@@ -1,13 +1,17 @@
 -- Whatever came before: how lanes are aligned from a good control period on whose guard band is received whole, where alignments are
 -- let go where they are refuted.
-use Rattle.std.specs.Prelude.{◌≡◌, ◌⊎◌, ℕ, ◌+◌, ◌-◌, ◌<◌, ◌≤◌, max, min, true}
+use Rattle.std.specs.Prelude.{◌≡◌, ◌⊎◌, ℕ, ◌+◌, ◌-◌, ◌<◌, ◌≤◌, max, min, true, List}
+use Rattle.tmds_word.specs.Column.{Column}
 use Rattle.lane_deskew.specs.Triples.{IsFirst}
+use Rattle.lane_deskew.specs.Aligned.{aligned_columns}
+use Rattle.island_pack.specs.Periods.{Period}
+use Rattle.link_laws.specs.Laws.{IsAccounted}
 use Rattle.link_sink.specs.Sinks.{Fed}
 use Rattle.track_sink.specs.Epochs.{EpochRule, rest_of, HasNoEnd}
 use Rattle.relock_sink.specs.Relocks.{IsUnconfirmed}
 use Rattle.relock_sink.specs.Rivals.{HaveSameSkew, columns_before, is_guard_band}
-use Rattle.relock_sink.specs.Refuting.{IsSlipFirst, refuting_rule}
-use Rattle.relock_laws.specs.Settled.{IsGoodPeriod, IsCalmFrom}
+use Rattle.relock_sink.specs.Refuting.{IsSlipFirst, IsLastUnrefuted, refuting_rule}
+use Rattle.relock_laws.specs.Settled.{IsGoodPeriod, IsCalmFrom, IsAgain}
 use Rattle.relock_laws.specs.Refuted.{GoesOn, OpensAt}
 use Rattle.relock_laws.specs.RefutingLaws.{EndsBy}
 
@@ -59,3 +63,22 @@ SettledHasSkew =
     (fed : Fed) (d e f : ℕ) → IsWholeGoodPeriod fed d e f → IsCalmFrom fed.blue d → IsCalmFrom fed.green e → IsCalmFrom fed.red f
     → (start p q r : ℕ) → IsSettledBy refuting_rule fed d e f start p q r
     → HasNoEnd (rest_of start fed) × (HaveSameSkew p q r d e f ⊎ OpensThere fed d e f start p q r)
+
+-- a tap of columns received with sparse damage, wherever it lies, after any bits: each such epoch that has the skew of the good
+-- control period is the last
+abbrev pub SameSkewIsLast : Type 0
+SameSkewIsLast =
+    (ps : List Period) (sent received : List Column) (offset : ℕ) (skews counts : List ℕ) (x fed : Fed) (before : List ℕ) (a d e f : ℕ)
+    → IsAgain ps sent received offset skews counts x fed before a d e f → IsWholeGoodPeriod fed d e f
+    → (start p q r : ℕ) → IsSettledBy refuting_rule fed d e f start p q r → HaveSameSkew p q r d e f → IsLastUnrefuted (rest_of start fed)
+
+-- there is such an epoch: it is the last and has that skew, or by its own too something opens there; and where it is aligned there,
+-- what is reported from there on is the account
+abbrev pub RecoversUnrefuted : Type 0
+RecoversUnrefuted =
+    (ps : List Period) (sent received : List Column) (offset : ℕ) (skews counts : List ℕ) (x fed : Fed) (before : List ℕ) (a d e f : ℕ)
+    → IsAgain ps sent received offset skews counts x fed before a d e f → IsWholeGoodPeriod fed d e f
+    → (start : ℕ) × IsStartBy refuting_rule fed start
+    × ((p q r : ℕ) × IsSettledBy refuting_rule fed d e f start p q r
+    × ((HaveSameSkew p q r d e f × IsLastUnrefuted (rest_of start fed)) ⊎ OpensThere fed d e f start p q r)
+    × (start + p ≡ d → IsAccounted ps sent received (aligned_columns (rest_of start fed).blue (rest_of start fed).green (rest_of start fed).red p q r) a))

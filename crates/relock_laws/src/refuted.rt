@@ -1,6 +1,6 @@
 //! Where the epochs of three lanes end whose alignment is let go too where it is refuted.
 ghost use Rattle.relock_laws.specs.RefutingLaws.{PayloadIsLastUnrefuted, UntilIsLastUnrefuted, EndsOrIsUnrefuted, OneRefutingEnd, SlipStands, SlipEndsAlone, HasUnrefutedExample, HasSlipFirstExample};
-ghost use Rattle.relock_laws.specs.RefutingSettled.{SettlesUnrefuted, SettledHasSkew};
+ghost use Rattle.relock_laws.specs.RefutingSettled.{SettlesUnrefuted, SettledHasSkew, SameSkewIsLast, RecoversUnrefuted};
 
 /// The lanes of a tap whose damage lies in pixels and packets alone have one epoch.
 pub fn payload_is_last_unrefuted()
@@ -50,4 +50,15 @@ pub fn settles_unrefuted()
 /// skew, or by it too something opens there.
 pub fn settled_has_skew()
     ensures { SettledHasSkew }
+{}
+
+/// Of a tap of columns received with sparse damage, after any bits, that epoch is the last where it has their skew.
+pub fn same_skew_is_last()
+    ensures { SameSkewIsLast }
+{}
+
+/// So from such a control period on the lanes have one epoch, or by its alignment too something opens there; and what is reported from
+/// there on, where the epoch is aligned there, is the account.
+pub fn recovers_unrefuted()
+    ensures { RecoversUnrefuted }
 {}
