@@ -64,7 +64,7 @@ red_part =
 
 -- The second control period ends on them.
 
-guard_apart : (k : Kind) → k ≡ first_guard → k ≡ control_column → ⊥
+pub guard_apart : (k : Kind) → k ≡ first_guard → k ≡ control_column → ⊥
 guard_apart k e f = cc
 
 ends : EndsAt (kinds_of stream) 75
@@ -74,14 +74,14 @@ ends =
     let same : before.0 ≡ 75 = omega arith in
     record { here = subst (λ i. kind_at (kinds_of stream) i ≡ control_column) same before.2; then = guard_apart (kind_at (kinds_of stream) 76) after_second.opens }
 
-nineteen_at : List Bool → ℕ → Bool
+unfoldable pub nineteen_at : List Bool → ℕ → Bool
 nineteen_at xs e = passes_below 19 (λ k. has (window xs (e - 190 + 10 * k)))
 
 from_has : (xs : List Bool) (p : ℕ) (o : Option ℕ) → window xs p ≡ o → has o ≡ true → HasControl xs p
 unfolding has
 from_has xs p o h k = grind arith
 
-nineteen : (xs : List Bool) (e : ℕ) → 190 ≤ e → nineteen_at xs e ≡ true → EndsNineteen xs e
+pub nineteen : (xs : List Bool) (e : ℕ) → 190 ≤ e → nineteen_at xs e ≡ true → EndsNineteen xs e
 unfolding nineteen_at
 nineteen xs e far test = record {
   begins = far;
@@ -108,7 +108,7 @@ next_test : aligned_column blue green red 750 683 718 13 ≡ Some (column_of vid
 unfolding aligned_column blue green red received values_of control_words video_guard window row_bits word_bits bits_of number
 next_test = refl
 
-announced_test : is_announced (column_of video_guard) (column_of video_guard) ≡ true
+pub announced_test : is_announced (column_of video_guard) (column_of video_guard) ≡ true
 unfolding is_announced video_words island_words closing_words one_if video_guard island_guard is_twelve_or_more value_in terc_words
 announced_test = refl
 

@@ -18,3 +18,4 @@ pub mod RefutingExamples
 pub mod RefutingEnding
 pub mod RefutingSettling
 pub mod RefutingAgain
+pub mod WholeExample

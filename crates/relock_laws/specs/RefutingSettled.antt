@@ -82,3 +82,9 @@ RecoversUnrefuted =
     × ((p q r : ℕ) × IsSettledBy refuting_rule fed d e f start p q r
     × ((HaveSameSkew p q r d e f × IsLastUnrefuted (rest_of start fed)) ⊎ OpensThere fed d e f start p q r)
     × (start + p ≡ d → IsAccounted ps sent received (aligned_columns (rest_of start fed).blue (rest_of start fed).green (rest_of start fed).red p q r) a))
+
+-- there are such a tap and bits before it, an epoch of which has an end
+abbrev pub HasWholeExample : Type 0
+HasWholeExample =
+    (ps : List Period) × (sent received : List Column) × (offset : ℕ) × (skews counts : List ℕ) × (x fed : Fed) × (before : List ℕ) × (a d e f place : ℕ)
+    × IsAgain ps sent received offset skews counts x fed before a d e f × IsWholeGoodPeriod fed d e f × EndsBy refuting_rule fed place

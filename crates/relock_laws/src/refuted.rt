@@ -1,6 +1,6 @@
 //! Where the epochs of three lanes end whose alignment is let go too where it is refuted.
 ghost use Rattle.relock_laws.specs.RefutingLaws.{PayloadIsLastUnrefuted, UntilIsLastUnrefuted, EndsOrIsUnrefuted, OneRefutingEnd, SlipStands, SlipEndsAlone, HasUnrefutedExample, HasSlipFirstExample};
-ghost use Rattle.relock_laws.specs.RefutingSettled.{SettlesUnrefuted, SettledHasSkew, SameSkewIsLast, RecoversUnrefuted};
+ghost use Rattle.relock_laws.specs.RefutingSettled.{SettlesUnrefuted, SettledHasSkew, SameSkewIsLast, RecoversUnrefuted, HasWholeExample};
 
 /// The lanes of a tap whose damage lies in pixels and packets alone have one epoch.
 pub fn payload_is_last_unrefuted()
@@ -61,4 +61,10 @@ pub fn same_skew_is_last()
 /// there on, where the epoch is aligned there, is the account.
 pub fn recovers_unrefuted()
     ensures { RecoversUnrefuted }
+{}
+
+/// The premises can be met: a stream, a tap of it after bits of another phase, and a good control period of it whose guard band is
+/// received whole.
+pub fn whole_example()
+    ensures { HasWholeExample }
 {}
