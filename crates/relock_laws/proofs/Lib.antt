@@ -19,3 +19,4 @@ pub mod RefutingEnding
 pub mod RefutingSettling
 pub mod RefutingAgain
 pub mod WholeExample
+pub mod SkewColumns

@@ -104,7 +104,7 @@ together d e f z i j k own other (later a) (later b) (there c) = let x = own.red
 
 -- The columns of an alignment at the edges of another one of its skew.
 
-column_moved : (fed : Fed) (p q r d e f n j i : ℕ) → 120 ≤ p → 120 ≤ q → 120 ≤ r → p + 10 * n ≡ d → q + 10 * n ≡ e → r + 10 * n ≡ f → j ≡ n + i
+pub column_moved : (fed : Fed) (p q r d e f n j i : ℕ) → 120 ≤ p → 120 ≤ q → 120 ≤ r → p + 10 * n ≡ d → q + 10 * n ≡ e → r + 10 * n ≡ f → j ≡ n + i
     → aligned_column fed.blue fed.green fed.red d e f i ≡ aligned_column fed.blue fed.green fed.red p q r j
 unfolding aligned_column
 column_moved fed p q r d e f n j i a b c x y v at =

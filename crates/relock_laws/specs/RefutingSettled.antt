@@ -1,6 +1,6 @@
 -- Whatever came before: how lanes are aligned from a good control period on whose guard band is received whole, where alignments are
 -- let go where they are refuted.
-use Rattle.std.specs.Prelude.{◌≡◌, ◌⊎◌, ℕ, ◌+◌, ◌-◌, ◌<◌, ◌≤◌, max, min, true, List}
+use Rattle.std.specs.Prelude.{◌≡◌, ◌⊎◌, ℕ, ◌+◌, ◌-◌, ◌*◌, ◌<◌, ◌≤◌, max, min, true, List, drop}
 use Rattle.tmds_word.specs.Column.{Column}
 use Rattle.lane_deskew.specs.Triples.{IsFirst}
 use Rattle.lane_deskew.specs.Aligned.{aligned_columns}
@@ -71,6 +71,15 @@ SameSkewIsLast =
     (ps : List Period) (sent received : List Column) (offset : ℕ) (skews counts : List ℕ) (x fed : Fed) (before : List ℕ) (a d e f : ℕ)
     → IsAgain ps sent received offset skews counts x fed before a d e f → IsWholeGoodPeriod fed d e f
     → (start p q r : ℕ) → IsSettledBy refuting_rule fed d e f start p q r → HaveSameSkew p q r d e f → IsLastUnrefuted (rest_of start fed)
+
+-- and what is reported of its columns from the good control period on is the account
+abbrev pub SameSkewIsAccounted : Type 0
+SameSkewIsAccounted =
+    (ps : List Period) (sent received : List Column) (offset : ℕ) (skews counts : List ℕ) (x fed : Fed) (before : List ℕ) (a d e f : ℕ)
+    → IsAgain ps sent received offset skews counts x fed before a d e f
+    → (start p q r : ℕ) → IsSettledBy refuting_rule fed d e f start p q r → HaveSameSkew p q r d e f
+    → (n : ℕ) × (start + p + 10 * n ≡ d)
+    × IsAccounted ps sent received (drop n (aligned_columns (rest_of start fed).blue (rest_of start fed).green (rest_of start fed).red p q r)) a
 
 -- there is such an epoch: it is the last and has that skew, or by its own too something opens there; and where it is aligned there,
 -- what is reported from there on is the account

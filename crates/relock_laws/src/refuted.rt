@@ -1,6 +1,6 @@
 //! Where the epochs of three lanes end whose alignment is let go too where it is refuted.
 ghost use Rattle.relock_laws.specs.RefutingLaws.{PayloadIsLastUnrefuted, UntilIsLastUnrefuted, EndsOrIsUnrefuted, OneRefutingEnd, SlipStands, SlipEndsAlone, HasUnrefutedExample, HasSlipFirstExample};
-ghost use Rattle.relock_laws.specs.RefutingSettled.{SettlesUnrefuted, SettledHasSkew, SameSkewIsLast, RecoversUnrefuted, HasWholeExample};
+ghost use Rattle.relock_laws.specs.RefutingSettled.{SettlesUnrefuted, SettledHasSkew, SameSkewIsLast, SameSkewIsAccounted, RecoversUnrefuted, HasWholeExample};
 
 /// The lanes of a tap whose damage lies in pixels and packets alone have one epoch.
 pub fn payload_is_last_unrefuted()
@@ -52,9 +52,11 @@ pub fn settled_has_skew()
     ensures { SettledHasSkew }
 {}
 
-/// Of a tap of columns received with sparse damage, after any bits, that epoch is the last where it has their skew.
+/// Of a tap of columns received with sparse damage, after any bits, that epoch is the last where it has their skew; and what is
+/// reported of its columns from there on is the account.
 pub fn same_skew_is_last()
-    ensures { SameSkewIsLast }
+    ensures last { SameSkewIsLast }
+    ensures accounted { SameSkewIsAccounted }
 {}
 
 /// So from such a control period on the lanes have one epoch, or by its alignment too something opens there; and what is reported from
