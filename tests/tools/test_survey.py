@@ -260,7 +260,8 @@ def test_a_worker_that_dies_loses_no_capture(tool, folder, gate, cluster, tmp_pa
     shut.open()
     _, told = survey.communicate(timeout=HANGS)
     assert survey.returncode == 1, told
-    assert told.endswith(b"16 captures, 16 judged now: 12 clean, 2 faulty, 1 refused, 1 unaligned\n")
+    # where the machine is busy the scheduler's own words on the worker that died may come after it
+    assert b"16 captures, 16 judged now: 12 clean, 2 faulty, 1 refused, 1 unaligned\n" in told
     assert {path for _, path in shut.asked()} == {row["path"] for row in rows_of(table).values()}
     again = {str(worker.pid) for worker in workers} - {dead}
     assert [pid for pid, path in shut.asked() if path == lost] == [dead, *again]
