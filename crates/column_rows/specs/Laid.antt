@@ -1,8 +1,9 @@
 -- What a call leaves in three rows that are lent: the columns of a part of a period, or nothing.
-use Rattle.std.specs.Prelude.{◌≡◌, ◌⊎◌, ◌<◌, ◌≤◌, ◌%◌, ℕ, List, All, length, take, drop}
+use Rattle.std.specs.Prelude.{◌≡◌, ◌⊎◌, ◌<◌, ◌≤◌, ◌%◌, ◌*◌, ℕ, List, All, length, take, drop}
 use Rattle.tmds_word.specs.Column.{Column}
 use Rattle.tmds_word.specs.Words.{columns_of}
 use Rattle.island_pack.specs.declared.packet.Packet.{Packet}
+use Rattle.island_pack.specs.declared.ranges.TheConstants.{COLUMN_LIMIT, PIXEL_LIMIT}
 use Rattle.column_rows.specs.declared.laid.Status.{Status}
 use Rattle.column_rows.specs.declared.laid.Status.TheVariants.{Done, Full, Misuse}
 
@@ -42,13 +43,13 @@ pub record IsPacket (bytes : List ℕ) : Type 0 where
   pub whole : length bytes ≡ 63
   pub sync : All (λ value. value < 4) (drop 31 bytes)
 
--- one to 4,096 whole pixels
+-- one to so many whole pixels as a line may have: a limit of this project's own, as that of a run
 pub record AreLine (bytes : List ℕ) : Type 0 where
   pub whole : length bytes % 3 ≡ 0
   pub some : 0 < length bytes
-  pub few : length bytes ≤ 12288
+  pub few : length bytes ≤ 3 * PIXEL_LIMIT
 
 pub record IsRun (value count : ℕ) : Type 0 where
   pub small : value < 64
   pub some : 1 ≤ count
-  pub few : count ≤ 20000000
+  pub few : count ≤ COLUMN_LIMIT

@@ -10,12 +10,10 @@ ghost use Rattle.column_rows.specs.Laid.{AreLine, IsPacket, IsRun, Lays, packet_
 
 use crate::laid::{Laid, Status, has_room};
 use crate::rows::{lay_control, lay_island_guard, lay_packet, lay_pixels, lay_video_guard};
-
-/// The most columns of a run.
-const MOST_COLUMNS: u32 = 20_000_000;
+use island_pack::{COLUMN_LIMIT, PIXEL_LIMIT};
 
 /// The most bytes of a line.
-const MOST_BYTES: usize = 12_288;
+const MOST_BYTES: usize = 3 * PIXEL_LIMIT as usize;
 
 /// Lays control columns of one value.
 pub fn encode_run(
@@ -28,7 +26,7 @@ pub fn encode_run(
     ensures { Lays (IsRun value count) (λ columns. columns ≡ replicate count (control_column value)) count
         result.status result.columns (rows_of blue.old green.old red.old) (rows_of blue.new green.new red.new) }
 {
-    if value >= 64 || count == 0 || count > MOST_COLUMNS {
+    if value >= 64 || count == 0 || count > COLUMN_LIMIT {
         return Laid::misuse();
     }
     let columns = count as usize;
@@ -119,7 +117,7 @@ pub fn encode_packet(
     Laid::done(32)
 }
 
-/// Whether bytes are one to 4,096 whole pixels.
+/// Whether bytes are one to `PIXEL_LIMIT` whole pixels.
 fn is_line(bytes: &[u8]) -> bool
     ensures line { OnTrue result (AreLine bytes.now) }
     ensures none { OnFalse result (AreLine bytes.now → ⊥) }
