@@ -9,7 +9,7 @@ use Rattle.bch_block.specs.Bits.{bit}
 use Rattle.island_pack.specs.Packets.{body_of}
 use Rattle.island_pack.specs.declared.packet.Packet.{Packet}
 use Rattle.island_pack.specs.declared.packet.PacketVerdicts.{PacketVerdicts}
-use Rattle.audio_packets.specs.Faults.{first_lost}
+use Rattle.island_pack.specs.Taken.{first_lost}
 use Rattle.audio_packets.specs.Samples.{IsSample, flags_at, parity_at, is_even, has_many_channels, note_at, sample_body, samples_packet, samples_from, samples_of, even_note}
 use Rattle.audio_packets.specs.Laws.{WrittenSamplesAreRead}
 use Rattle.audio_packets.specs.declared.sample.Sample.{Sample}

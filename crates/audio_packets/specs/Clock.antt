@@ -5,7 +5,8 @@ use Rattle.std.specs.Str.{bytes_eq}
 use Rattle.island_pack.specs.Packets.{body_of}
 use Rattle.island_pack.specs.declared.packet.Packet.{Packet}
 use Rattle.island_pack.specs.declared.packet.PacketVerdicts.{PacketVerdicts}
-use Rattle.audio_packets.specs.Faults.{first_lost, unless_lost}
+use Rattle.island_pack.specs.Taken.{first_lost}
+use Rattle.audio_packets.specs.Faults.{unless_lost}
 use Rattle.audio_packets.specs.declared.clock.Acr.{Acr}
 use Rattle.audio_packets.specs.declared.fault.AudioFault.{AudioFault}
 use Rattle.audio_packets.specs.declared.fault.AudioFault.TheVariants.{Uneven}

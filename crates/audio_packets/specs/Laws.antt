@@ -3,7 +3,7 @@ use Rattle.std.specs.Prelude.{◌≡◌, ℕ, ◌≤◌, List, None, Ok, length,
 use Rattle.island_pack.specs.Packets.{IsPacket}
 use Rattle.island_pack.specs.declared.packet.Packet.{Packet}
 use Rattle.island_pack.specs.declared.packet.PacketVerdicts.{PacketVerdicts}
-use Rattle.audio_packets.specs.Faults.{first_lost}
+use Rattle.island_pack.specs.Taken.{first_lost}
 use Rattle.audio_packets.specs.Clock.{IsAcr, acr_of, acr_packet}
 use Rattle.audio_packets.specs.Samples.{IsSample, samples_from, samples_of, samples_packet, written_notes}
 use Rattle.audio_packets.specs.declared.clock.Acr.{Acr}

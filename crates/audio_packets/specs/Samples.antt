@@ -8,7 +8,8 @@ use Rattle.bch_block.specs.Bits.{bit}
 use Rattle.island_pack.specs.Packets.{body_of}
 use Rattle.island_pack.specs.declared.packet.Packet.{Packet}
 use Rattle.island_pack.specs.declared.packet.PacketVerdicts.{PacketVerdicts}
-use Rattle.audio_packets.specs.Faults.{first_lost, unless_lost}
+use Rattle.island_pack.specs.Taken.{first_lost}
+use Rattle.audio_packets.specs.Faults.{unless_lost}
 use Rattle.audio_packets.specs.declared.sample.Sample.{Sample}
 use Rattle.audio_packets.specs.declared.sample.SampleNote.{SampleNote}
 use Rattle.audio_packets.specs.declared.fault.AudioFault.{AudioFault}

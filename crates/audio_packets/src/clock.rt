@@ -2,7 +2,7 @@
 ghost use Rattle.std.specs.Prelude.{◌≡◌, ◌^◌, ◌<◌, IfOk};
 ghost use Rattle.audio_packets.specs.Clock.{IsClockPacket, IsAcr, twenty_bits, acr_of, acr_packet};
 
-use crate::fault::{AudioFault, lost_block};
+use crate::fault::AudioFault;
 use island_pack::{Packet, PacketRef};
 
 /// The numbers by which a sink makes the audio clock of the TMDS clock: 128 times the sampling rate
@@ -24,7 +24,7 @@ pub fn read_acr(packet: PacketRef<'_>) -> Result<Acr, AudioFault>
     ensures read { result ≡ acr_of packet.entry.packet.now packet.entry.verdicts.now }
     ensures fits { IfOk result IsAcr }
 {
-    if let Some(block) = lost_block(packet) {
+    if let Some(block) = packet.first_lost() {
         return Err(AudioFault::Lost(block));
     }
     let first = packet.body(0);

@@ -4,7 +4,7 @@ ghost use Rattle.std.specs.List.{find};
 ghost use Rattle.bch_block.specs.Bits.{bit};
 ghost use Rattle.audio_packets.specs.Samples.{IsSamplePacket, packet_with, is_even, note_at, samples_of, pair_of, has_pair};
 
-use crate::fault::{AudioFault, lost_block};
+use crate::fault::AudioFault;
 use crate::sample::{Sample, SampleNote};
 use island_pack::PacketRef;
 use std::marker::Model;
@@ -17,7 +17,7 @@ pub fn samples<'a>(packet: PacketRef<'a>) -> Result<SampleIter<'a>, AudioFault>
     requires { IsSamplePacket packet.packet.now }
     ensures { result ≡ samples_of packet.entry.packet.now packet.entry.verdicts.now }
 {
-    if let Some(block) = lost_block(packet) {
+    if let Some(block) = packet.first_lost() {
         return Err(AudioFault::Lost(block));
     }
     let header = packet.header();
@@ -42,7 +42,7 @@ pub fn pair<'a>(packet: PacketRef<'a>, pair: u8) -> Result<SampleIter<'a>, Audio
     requires pairs { pair < 4 }
     ensures { result ≡ pair_of packet.entry.packet.now packet.entry.verdicts.now pair }
 {
-    if let Some(lost) = lost_block(packet) {
+    if let Some(lost) = packet.first_lost() {
         return Err(AudioFault::Lost(lost));
     }
     let header = packet.header();

@@ -1,5 +1,5 @@
 -- What may be said of a list of bits that should have been a block, and what a repair makes of it.
-use Rattle.std.specs.Prelude.{◌≡◌, ℕ, ◌<◌, ◌≤◌, Bool, List, length}
+use Rattle.std.specs.Prelude.{◌≡◌, ℕ, ◌<◌, ◌≤◌, Bool, true, false, List, length}
 use Rattle.bch_block.specs.Bits.{flipped, differences, bits_of_bytes}
 use Rattle.bch_block.specs.Block.{IsBlock}
 use Rattle.bch_block.specs.declared.Verdict.{Verdict}
@@ -11,6 +11,12 @@ abbrev pub IsVerdict : List Bool → Verdict → Type 0
 IsVerdict x Clean = IsBlock x
 IsVerdict x (Mended i) = (¬ IsBlock x) × (i < length x) × IsBlock (flipped x i)
 IsVerdict x Lost = (y : List Bool) → IsBlock y → length y ≡ length x → 2 ≤ differences x y
+
+-- whether no repair could be
+abbrev pub is_lost : Verdict → Bool
+is_lost Clean = false
+is_lost (Mended i) = false
+is_lost Lost = true
 
 -- under a verdict, the bytes become these: bit i is turned over after Mended i, and else nothing changes
 abbrev pub Repairs : List ℕ → List ℕ → Verdict → Type 0

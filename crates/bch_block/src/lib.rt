@@ -28,6 +28,17 @@ pub enum Verdict {
     Lost,
 }
 
+impl Verdict {
+    ghost use Rattle.bch_block.specs.Repair.{is_lost};
+
+    /// Whether no repair was possible.
+    pub fn is_lost(self) -> bool
+        ensures { result ≡ is_lost self }
+    {
+        matches!(self, Verdict::Lost)
+    }
+}
+
 /// The byte that makes a block of 32 bits, after three bytes.
 pub fn parity32(bytes: &[u8; 3]) -> u8
     ensures block { IsBlock (bits_of_bytes (bytes.now ++ result ∷ [])) }

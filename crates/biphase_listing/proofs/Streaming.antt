@@ -11,7 +11,8 @@ use Rattle.std.proofs.lemmas.List.Sums.{count_by-le-length, length-filter, sum_b
 use Rattle.island_pack.specs.Packets.{IsPacket}
 use Rattle.island_pack.specs.declared.packet.Packet.{Packet}
 use Rattle.island_pack.specs.declared.packet.PacketVerdicts.{PacketVerdicts}
-use Rattle.audio_packets.specs.Faults.{first_lost, unless_lost}
+use Rattle.island_pack.specs.Taken.{first_lost}
+use Rattle.audio_packets.specs.Faults.{unless_lost}
 use Rattle.audio_packets.specs.declared.fault.AudioFault.{AudioFault}
 use Rattle.audio_packets.specs.Laws.{ReadSamplesFit}
 use Rattle.audio_packets.specs.Samples.{IsSample, IsSamplePacket, has_pair, note_at, packet_with, pair_of, sample_at}

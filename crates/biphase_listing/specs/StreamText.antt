@@ -3,7 +3,7 @@
 use Rattle.std.specs.Prelude.{◌≡◌, ℕ, ◌<◌, ◌==◌, ◌&&◌, Bool, false, if◌then◌else◌, List, [], ◌∷◌, ◌++◌, length, take, map, flat_map, count_by, slice_index, is_some, Option, Result, Ok, Err}
 use Rattle.std.specs.Io.KnownBytes.{Appends}
 use Rattle.island_pack.specs.declared.packet.Packet.{Packet}
-use Rattle.audio_packets.specs.Faults.{first_lost}
+use Rattle.island_pack.specs.Taken.{first_lost}
 use Rattle.audio_packets.specs.Samples.{pair_of}
 use Rattle.audio_packets.specs.declared.fault.AudioFault.{AudioFault}
 use Rattle.audio_packets.specs.declared.sample.Sample.{Sample}

@@ -1,6 +1,7 @@
 -- The taps of C: the options of `make` that each stands for, and which there are.
 use Rattle.std.specs.Prelude.{◌≡◌, ◌⊎◌, ◌≤◌, ℕ, zero, suc, [], ◌∷◌, Option, Some, None}
 use Rattle.command_line.specs.declared.tap.TapWords.{TapWords}
+use Rattle.command_line.specs.declared.tap.TheConstants.{SKEW_LIMIT}
 use Rattle.c_capture.specs.declared.tap.Skews.{Skews}
 use Rattle.c_capture.specs.declared.tap.Tap.{Tap}
 
@@ -17,9 +18,9 @@ IsVersion version = (version ≡ 1) ⊎ (version ≡ 2)
 
 -- no lane begins more bits later than the command line takes
 pub record AreShort (skews : Skews) : Type 0 where
-  pub blue : skews.blue ≤ 4095
-  pub green : skews.green ≤ 4095
-  pub red : skews.red ≤ 4095
+  pub blue : skews.blue ≤ SKEW_LIMIT
+  pub green : skews.green ≤ SKEW_LIMIT
+  pub red : skews.red ≤ SKEW_LIMIT
 
 -- the command line takes these options
 pub record IsTaken (tap : Tap) : Type 0 where

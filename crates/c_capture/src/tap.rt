@@ -3,10 +3,7 @@ ghost use Rattle.std.specs.Prelude.{◌≡◌, ◌≤◌, MatchOption};
 ghost use Rattle.std.specs.Bool.{OnTrue, OnFalse};
 ghost use Rattle.c_capture.specs.Taps.{AreShort, IsTaken, IsVersion, limit_of, words_of};
 
-use command_line::TapWords;
-
-// The most bits that the command line takes for the skew of a lane.
-const MAX_SKEW: u32 = 4095;
+use command_line::{SKEW_LIMIT, TapWords};
 
 /// How many bits later each lane begins.
 #[repr(C)]
@@ -58,7 +55,7 @@ impl Skews {
         ensures short { OnTrue result (AreShort self.now) }
         ensures long { OnFalse result (AreShort self.now → ⊥) }
     {
-        self.blue <= MAX_SKEW && self.green <= MAX_SKEW && self.red <= MAX_SKEW
+        self.blue <= SKEW_LIMIT && self.green <= SKEW_LIMIT && self.red <= SKEW_LIMIT
     }
 }
 

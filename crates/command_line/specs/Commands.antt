@@ -7,6 +7,7 @@ use Rattle.command_line.specs.Grammar.{Text, IsGiven, AreArranged}
 use Rattle.command_line.specs.declared.options.OptionName.{OptionName}
 use Rattle.command_line.specs.declared.options.OptionName.TheVariants.{Offset, Skew, Bits, Version}
 use Rattle.command_line.specs.declared.tap.TapWords.{TapWords}
+use Rattle.command_line.specs.declared.tap.TheConstants.{SKEW_LIMIT}
 use Rattle.command_line.specs.declared.command.Command.{Command}
 use Rattle.command_line.specs.declared.command.Command.TheVariants.{MakeLink, MakeContent, MakeDvi, RecoverLink, RecoverContent, RecoverTrack, RecoverRelock, RecoverContentRelock, RecoverBiphase, RecoverDvi, Check, Damage, Slip, ReadBiphase, Relay, Sample}
 
@@ -17,7 +18,7 @@ IsOffset (Some text) offset = IsNumber 4294967295 text offset
 IsOffset None offset = offset ≡ 0
 
 abbrev pub AreSkews : Option Text → List ℕ → Type 0
-AreSkews (Some text) skews = (a b c : ℕ) × AreThree 4095 text a b c × (skews ≡ a ∷ b ∷ c ∷ [])
+AreSkews (Some text) skews = (a b c : ℕ) × AreThree SKEW_LIMIT text a b c × (skews ≡ a ∷ b ∷ c ∷ [])
 AreSkews None skews = skews ≡ 0 ∷ 0 ∷ 0 ∷ []
 
 abbrev pub IsLimit : Option Text → Option ℕ → Type 0

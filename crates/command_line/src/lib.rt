@@ -16,4 +16,4 @@ mod tap;
 pub use command::{Command, read_command};
 pub use damage::{DamageWord, Damages};
 pub use slip::SlipWord;
-pub use tap::TapWords;
+pub use tap::{SKEW_LIMIT, TapWords};

@@ -12,8 +12,9 @@ use crate::numbers::{read_number, three_numbers};
 use crate::options::OptionName;
 use clap::ArgMatches;
 
-// The greatest skew, in bits.
-const MAX_SKEW: u32 = 4095;
+/// The most bits that a lane may leave out more than the others: far more than the 70 that lanes are aligned by, so that
+/// captures which do not align can be made too.
+pub const SKEW_LIMIT: u32 = 4_095;
 
 // The greatest version.
 const MAX_VERSION: u32 = 2;
@@ -25,7 +26,7 @@ pub struct TapWords {
     pub version: u8,
     /// How many bits at the front of each lane are left out: 0 where `--offset` is left out.
     pub offset: u32,
-    /// How many bits more each lane leaves out, at most 4095 each: 0 where `--skew` is left out.
+    /// How many bits more each lane leaves out, at most `SKEW_LIMIT` each: 0 where `--skew` is left out.
     pub skews: [u32; 3],
     /// The most bits of a lane, where `--bits` gives them.
     pub bits: Option<u32>,
@@ -62,7 +63,7 @@ fn read_skews(text: Option<&str>) -> Option<[u32; 3]>
     ensures { MatchOption result ((skews : List ℕ) → AreSkews (option_map (λ t. t.now) text.entry) skews → ⊥) (λ skews. AreSkews (option_map (λ t. t.now) text.entry) skews) }
 {
     match text {
-        Some(text) => three_numbers(text, MAX_SKEW),
+        Some(text) => three_numbers(text, SKEW_LIMIT),
         None => Some([0, 0, 0]),
     }
 }

@@ -16,7 +16,8 @@ use Rattle.island_pack.specs.Taken.{spotless}
 use Rattle.island_pack.specs.declared.packet.Packet.{Packet}
 use Rattle.island_pack.proofs.Parts.{three}
 use Rattle.infoframe.specs.Fields.{number_of, field, avi_of, avi_table, avi_fits, avi_reserved, audio_of, audio_table, audio_fits, audio_reserved, spd_of}
-use Rattle.infoframe.specs.Frames.{Frame, frame_in, length_in, sum_of, kind_of, has_length, first_lost}
+use Rattle.island_pack.proofs.Losses.{none_spotless}
+use Rattle.infoframe.specs.Frames.{Frame, frame_in, length_in, sum_of, kind_of, has_length}
 use Rattle.infoframe.specs.Written.{padded, info_as, info_of, type_of, version_of, length_of, is_raw, fits, reserved_of, reserved_in, IsWritten}
 use Rattle.infoframe.specs.Laws.{WrittenIsRead, OneSpelling, OneWriting, ReadFits, ReadIsWritten}
 use Rattle.infoframe.specs.declared.content.InfoKind.{InfoKind}
@@ -305,10 +306,6 @@ unfolding reserved_in frame_in
 reserved_lengths p q e =
     ap suc (ap (λ (h : List ℕ). length (reserved_of (kind_of (slice_index h 0) (slice_index h 1)) (frame_in p).payload)) e
     ∙ same_reserved_length (kind_in q) (frame_in p).payload (frame_in q).payload)
-
-none_spotless : first_lost spotless ≡ None
-unfolding first_lost
-none_spotless = refl
 
 same_length : (p q : Packet) → p.header ≡ q.header → length_in p ≡ length_in q
 unfolding length_in

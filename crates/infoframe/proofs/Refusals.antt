@@ -4,7 +4,8 @@ use Rattle.std.specs.Prelude.{Option, Some, None, Ok, Err, slice_index}
 use Rattle.std.proofs.lemmas.Bool.{leb-true}
 use Rattle.island_pack.specs.declared.packet.Packet.{Packet}
 use Rattle.island_pack.specs.declared.packet.PacketVerdicts.{PacketVerdicts}
-use Rattle.infoframe.specs.Frames.{Frame, frame_in, length_in, sum_of, kind_of, has_length, first_lost, answer, frame_of}
+use Rattle.island_pack.specs.Taken.{first_lost}
+use Rattle.infoframe.specs.Frames.{Frame, frame_in, length_in, sum_of, kind_of, has_length, answer, frame_of}
 use Rattle.infoframe.specs.declared.content.InfoKind.{InfoKind}
 use Rattle.infoframe.specs.declared.content.InfoKind.TheVariants.{Avi, Audio, Spd}
 use Rattle.infoframe.specs.declared.content.InfoFault.TheVariants.{Lost, Length, Checksum}

@@ -1,8 +1,6 @@
 -- What of a packet is read as an InfoFrame: HDMI 1.4, section 5.3.5, and CTA-861, section 6.
-use Rattle.std.specs.Prelude.{ℕ, zero, suc, ◌+◌, ◌%◌, Bool, true, false, ◌==◌, ◌&&◌, if◌then◌else◌, List, [], ◌∷◌, take, drop, sum, find, slice_index, nat_le, Option, Some, None, Result, Ok, Err}
-use Rattle.bch_block.specs.declared.Verdict.{Verdict}
-use Rattle.bch_block.specs.declared.Verdict.TheVariants.{Clean, Mended, Lost as LostBlock}
-use Rattle.island_pack.specs.Taken.{verdict_on}
+use Rattle.std.specs.Prelude.{ℕ, zero, suc, ◌+◌, ◌%◌, Bool, true, false, ◌==◌, ◌&&◌, if◌then◌else◌, List, [], ◌∷◌, take, drop, sum, slice_index, nat_le, Option, Some, None, Result, Ok, Err}
+use Rattle.island_pack.specs.Taken.{first_lost}
 use Rattle.island_pack.specs.declared.packet.Packet.{Packet}
 use Rattle.island_pack.specs.declared.packet.PacketVerdicts.{PacketVerdicts}
 use Rattle.infoframe.specs.Fields.{avi_of, audio_of, spd_of}
@@ -49,15 +47,6 @@ has_length Avi n = n == 13
 has_length Audio n = n == 10
 has_length Spd n = n == 25
 has_length Raw n = nat_le n 27
-
-abbrev pub is_lost : Verdict → Bool
-is_lost Clean = false
-is_lost (Mended i) = false
-is_lost LostBlock = true
-
--- the least block that is lost: blocks 0 to 3 are the bodies, block 4 is the header
-unfoldable pub first_lost : PacketVerdicts → Option ℕ
-first_lost verdicts = find (λ block. is_lost (verdict_on verdicts block)) (0 ∷ 1 ∷ 2 ∷ 3 ∷ 4 ∷ [])
 
 -- the first cause of a refusal, or else the frame
 unfoldable pub answer : Option ℕ → Bool → ℕ → Frame → Result Frame InfoFault

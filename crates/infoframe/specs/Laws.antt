@@ -3,7 +3,8 @@ use Rattle.std.specs.Prelude.{◌≡◌, ◌+◌, ◌-◌, ◌≤◌, length, ta
 use Rattle.island_pack.specs.Packets.{IsPacket}
 use Rattle.island_pack.specs.declared.packet.Packet.{Packet}
 use Rattle.island_pack.specs.declared.packet.PacketVerdicts.{PacketVerdicts}
-use Rattle.infoframe.specs.Frames.{Frame, frame_in, frame_of, first_lost, length_in}
+use Rattle.island_pack.specs.Taken.{first_lost}
+use Rattle.infoframe.specs.Frames.{Frame, frame_in, frame_of, length_in}
 use Rattle.infoframe.specs.Written.{info_of, type_of, version_of, length_of, fits, reserved_in, IsWritten}
 use Rattle.infoframe.specs.declared.content.Info.{Info}
 

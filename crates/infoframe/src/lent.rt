@@ -1,10 +1,9 @@
 //! InfoFrames that are lent from packets.
 ghost use Rattle.std.specs.Prelude.{◌≡◌, ◌<◌, ◌≤◌, ◌+◌, ◌%◌, length, sum, slice_index, All};
-ghost use Rattle.infoframe.specs.Frames.{is_lost, first_lost, frame_of, kind_of, avi_in, audio_in, spd_in};
+ghost use Rattle.infoframe.specs.Frames.{frame_of, kind_of, avi_in, audio_in, spd_in};
 
 use crate::content::{AudioInfo, Avi, InfoFault, InfoKind, Spd};
 use crate::fields::{audio_of, avi_of, has_length, kind_of, spd_of};
-use bch_block::Verdict;
 use island_pack::PacketRef;
 use std::marker::Model;
 
@@ -40,7 +39,7 @@ impl<'a> InfoRef<'a> {
         requires { 0x80 ≤ slice_index packet.packet.now.header 0 }
         ensures { result ≡ frame_of packet.entry.packet.now packet.entry.verdicts.now }
     {
-        if let Some(block) = first_lost(&packet) {
+        if let Some(block) = packet.first_lost() {
             return Err(InfoFault::Lost(block));
         }
         let header = packet.header();
@@ -114,25 +113,6 @@ impl<'a> InfoRef<'a> {
             _ => None,
         }
     }
-}
-
-/// The least block that is lost.
-fn first_lost(packet: &PacketRef<'_>) -> Option<u8>
-    ensures { result ≡ first_lost packet.now.verdicts.now }
-{
-    for block in 0..5 {
-        if is_lost(packet.verdict(block)) {
-            return Some(block);
-        }
-    }
-    None
-}
-
-/// Whether a block is lost.
-fn is_lost(verdict: Verdict) -> bool
-    ensures { result ≡ is_lost verdict }
-{
-    matches!(verdict, Verdict::Lost)
 }
 
 /// The sum of bytes modulo 256.

@@ -13,3 +13,4 @@ mod PacketRanges
 pub mod Repaired
 pub mod RepairedBlocks
 pub mod Apart
+pub mod Losses

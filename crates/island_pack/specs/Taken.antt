@@ -1,7 +1,8 @@
 -- What is taken from 32 columns of a data island, some of whose words may be wrong.
-use Rattle.std.specs.Prelude.{◌≡◌, ℕ, ◌*◌, ◌<◌, Bool, List, [], ◌∷◌, length, take, slice_index_or}
+use Rattle.std.specs.Prelude.{◌≡◌, ℕ, ◌*◌, ◌<◌, Bool, List, [], ◌∷◌, length, take, slice_index_or, Option}
+use Rattle.std.specs.List.{find}
 use Rattle.bch_block.specs.Bits.{bits_of_bytes, flipped}
-use Rattle.bch_block.specs.Repair.{IsVerdict}
+use Rattle.bch_block.specs.Repair.{IsVerdict, is_lost}
 use Rattle.bch_block.specs.declared.Verdict.{Verdict}
 use Rattle.bch_block.specs.declared.Verdict.TheVariants.{Clean, Mended, Lost}
 use Rattle.island_pack.specs.Nibbles.{sync_values, header_bits, body_bits, foreign_words}
@@ -23,6 +24,10 @@ pub record IsTaken (x : List Bool) (bytes : List ℕ) (verdict : Verdict) : Type
 -- the verdict on a block: blocks 0 to 3 are the bodies, block 4 is the header
 abbrev pub verdict_on : PacketVerdicts → ℕ → Verdict
 verdict_on verdicts block = slice_index_or verdicts.blocks block Clean
+
+-- the least block that is lost
+unfoldable pub first_lost : PacketVerdicts → Option ℕ
+first_lost verdicts = find (λ block. is_lost (verdict_on verdicts block)) (0 ∷ 1 ∷ 2 ∷ 3 ∷ 4 ∷ [])
 
 -- the packet and the verdicts that 32 columns give
 pub record Taken (columns : List (List ℕ)) (packet : Packet) (verdicts : PacketVerdicts) : Type 0 where

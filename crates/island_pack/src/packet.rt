@@ -32,7 +32,7 @@ pub struct PacketRef<'a> {
 
 impl<'a> PacketRef<'a> {
     ghost use Rattle.island_pack.specs.Packets.{body_of};
-    ghost use Rattle.island_pack.specs.Taken.{verdict_on};
+    ghost use Rattle.island_pack.specs.Taken.{verdict_on, first_lost};
 
     /// Lends a packet and its verdicts.
     pub fn new(packet: &'a Packet, verdicts: &'a PacketVerdicts) -> PacketRef<'a>
@@ -79,6 +79,13 @@ impl<'a> PacketRef<'a> {
         ensures { result ≡ verdict_on self.now.verdicts.now block }
     {
         self.verdicts.blocks[usize::from(block)]
+    }
+
+    /// The least block that is lost.
+    pub fn first_lost(&self) -> Option<u8>
+        ensures { result ≡ first_lost self.now.verdicts.now }
+    {
+        (0..5).find(|block| self.verdict(*block).is_lost())
     }
 
     /// How many of the 96 words are no TERC4 words.

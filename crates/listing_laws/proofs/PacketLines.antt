@@ -7,16 +7,15 @@ use Rattle.bch_block.specs.declared.Verdict.{Verdict}
 use Rattle.bch_block.specs.declared.Verdict.TheVariants.{Lost}
 use Rattle.island_pack.specs.Packets.{body_of, CarriesFreely}
 use Rattle.island_pack.specs.Spelling.{column_words}
-use Rattle.island_pack.specs.Taken.{verdict_on, spotless}
+use Rattle.island_pack.specs.Taken.{first_lost, spotless}
+use Rattle.island_pack.proofs.Losses.{none_lost, none_spotless}
 use Rattle.island_pack.specs.declared.packet.Packet.{Packet}
 use Rattle.island_pack.specs.declared.packet.PacketVerdicts.{PacketVerdicts}
 use Rattle.island_pack.specs.Repaired.{verdicts_of}
-use Rattle.infoframe.specs.Frames.{answer, frame_in, length_in, sum_of, kind_of, has_length, frame_of, first_lost as first_lost_block}
-use Rattle.infoframe.specs.Frames as info
+use Rattle.infoframe.specs.Frames.{answer, frame_in, length_in, sum_of, kind_of, has_length, frame_of}
 use Rattle.audio_packets.specs.Clock.{are_alike, clock_in}
 use Rattle.audio_packets.specs.Samples.{has_many_channels, samples_from}
-use Rattle.audio_packets.specs.Faults.{first_lost, unless_lost}
-use Rattle.audio_packets.specs.Faults as audio
+use Rattle.audio_packets.specs.Faults.{unless_lost}
 use Rattle.audio_packets.specs.declared.fault.AudioFault.TheVariants.{Uneven, Layout}
 use Rattle.listing_writer.specs.ContentText.{packet_lines, carried_lines, clock_lines, sample_lines, control_lines, info_lines, other_words}
 use Rattle.link_laws.specs.Account.{is_as_sent, packet_row}
@@ -25,18 +24,18 @@ use Rattle.listing_laws.specs.ListingLaws.{LinesOfPayload, as_sent_at, reported_
 use Rattle.listing_laws.proofs.AsSent.{as_sent_freely}
 use Rattle.listing_laws.proofs.EachPlaced.{each_placed}
 
--- the lines of a packet of which these blocks are lost
-abbrev lines_by : Option ℕ → Option ℕ → Packet → ℕ → List (List ℕ)
-lines_by lost missing p column =
+-- the lines of a packet of which this block is lost, or none
+abbrev lines_by : Option ℕ → Packet → ℕ → List (List ℕ)
+lines_by lost p column =
     if is_some lost then [] else
     (if slice_index p.header 0 == 0 then []
-    else (if slice_index p.header 0 == 1 then clock_lines column (unless_lost missing (if are_alike p then Ok (clock_in (body_of p 0)) else Err Uneven))
-    else (if slice_index p.header 0 == 2 then sample_lines column (unless_lost missing (if has_many_channels p then Err Layout else Ok (samples_from p 0)))
+    else (if slice_index p.header 0 == 1 then clock_lines column (unless_lost lost (if are_alike p then Ok (clock_in (body_of p 0)) else Err Uneven))
+    else (if slice_index p.header 0 == 2 then sample_lines column (unless_lost lost (if has_many_channels p then Err Layout else Ok (samples_from p 0)))
     else (if slice_index p.header 0 == 3 then control_lines column p.bodies
     else (if nat_le 0x80 (slice_index p.header 0) then info_lines column (answer lost (has_length (kind_of (frame_in p).type_code (frame_in p).version) (length_in p)) (sum_of p) (frame_in p))
     else other_words p ∷ [])))))
 
-lines_are : (p : Packet) (v : PacketVerdicts) (column : ℕ) → packet_lines p v column ≡ lines_by (first_lost_block v) (first_lost v) p column
+lines_are : (p : Packet) (v : PacketVerdicts) (column : ℕ) → packet_lines p v column ≡ lines_by (first_lost v) p column
 unfolding packet_lines carried_lines frame_of
 lines_are p v column = refl
 
@@ -44,33 +43,9 @@ lines_are p v column = refl
 abbrev bare : List ℕ → List ℕ → Packet
 bare header bodies = record { header = header; bodies = bodies; sync = [] }
 
-lines_bare : (lost missing : Option ℕ) (p : Packet) (column : ℕ) → lines_by lost missing p column ≡ lines_by lost missing (bare p.header p.bodies) column
+lines_bare : (lost : Option ℕ) (p : Packet) (column : ℕ) → lines_by lost p column ≡ lines_by lost (bare p.header p.bodies) column
 unfolding frame_in length_in sum_of other_words
-lines_bare lost missing p column = refl
-
-not_lost : (v : Verdict) → (v ≡ Lost → ⊥) → (audio.is_lost v ≡ false) × (info.is_lost v ≡ false)
-not_lost v h = grind arith
-
-none_found : (p : ℕ → Bool) → p 0 ≡ false → p 1 ≡ false → p 2 ≡ false → p 3 ≡ false → p 4 ≡ false → find p (0 ∷ (1 ∷ (2 ∷ (3 ∷ (4 ∷ []))))) ≡ None
-none_found p a b c d e = rw a (rw b (rw c (rw d (rw e refl))))
-
-none_missing : (v : PacketVerdicts) → ((b : ℕ) → b < 5 → verdict_on v b ≡ Lost → ⊥) → first_lost v ≡ None
-none_missing v h =
-    none_found (λ b. audio.is_lost (verdict_on v b))
-    ((not_lost (verdict_on v 0) (h 0 (omega arith))).0) ((not_lost (verdict_on v 1) (h 1 (omega arith))).0) ((not_lost (verdict_on v 2) (h 2 (omega arith))).0) ((not_lost (verdict_on v 3) (h 3 (omega arith))).0) ((not_lost (verdict_on v 4) (h 4 (omega arith))).0)
-
-none_lost : (v : PacketVerdicts) → ((b : ℕ) → b < 5 → verdict_on v b ≡ Lost → ⊥) → first_lost_block v ≡ None
-unfolding first_lost_block
-none_lost v h =
-    none_found (λ b. info.is_lost (verdict_on v b))
-    ((not_lost (verdict_on v 0) (h 0 (omega arith))).1) ((not_lost (verdict_on v 1) (h 1 (omega arith))).1) ((not_lost (verdict_on v 2) (h 2 (omega arith))).1) ((not_lost (verdict_on v 3) (h 3 (omega arith))).1) ((not_lost (verdict_on v 4) (h 4 (omega arith))).1)
-
-spotless_kept : first_lost_block spotless ≡ None
-unfolding first_lost_block
-spotless_kept = refl
-
-spotless_whole : first_lost spotless ≡ None
-spotless_whole = refl
+lines_bare lost p column = refl
 
 pub lines_of_payload : LinesOfPayload
 lines_of_payload p q v column header bodies = grind (arith, lines_are, lines_bare)
@@ -83,9 +58,9 @@ lines_freely p sent received carries long few column =
     let v = verdicts_of received in
     lines_of_payload reported p v column h.header h.bodies
     ∙ lines_are p v column
-    ∙ lines_bare (first_lost_block v) (first_lost v) p column
+    ∙ lines_bare (first_lost v) p column
     ∙ ap₂ (λ (a b : Option ℕ). lines_by a b (bare p.header p.bodies) column) (none_lost v h.kept ∙ sym spotless_kept) (none_missing v h.kept ∙ sym spotless_whole)
-    ∙ sym (lines_bare (first_lost_block spotless) (first_lost spotless) p column)
+    ∙ sym (lines_bare (first_lost spotless) p column)
     ∙ sym (lines_are p spotless column)
 
 pub packet_lines_as_sent : PacketLinesAsSent

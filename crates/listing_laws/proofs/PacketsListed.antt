@@ -9,7 +9,8 @@ use Rattle.island_pack.specs.declared.packet.PacketVerdicts.{PacketVerdicts}
 use Rattle.period_grammar.specs.Events.{Event}
 use Rattle.frame_build.specs.declared.FrameNote.{FrameNote}
 use Rattle.frame_build.specs.declared.LineNote.{LineNote}
-use Rattle.infoframe.specs.Frames.{Frame, first_lost}
+use Rattle.island_pack.specs.Taken.{first_lost}
+use Rattle.infoframe.specs.Frames.{Frame}
 use Rattle.infoframe.specs.declared.content.InfoKind.{InfoKind}
 use Rattle.infoframe.specs.declared.content.InfoFault.{InfoFault}
 use Rattle.audio_packets.specs.declared.clock.Acr.{Acr}

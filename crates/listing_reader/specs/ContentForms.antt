@@ -14,6 +14,7 @@ use Rattle.source_end.specs.declared.mode.Mode.{Mode}
 use Rattle.listing_reader.specs.Lines.{before_pieces}
 use Rattle.listing_reader.specs.Forms.{number_of, part, is_fault}
 use Rattle.listing_reader.specs.InfoPackets.{info_packet, control_packet, no_sync}
+use Rattle.listing_reader.specs.declared.lines.TheConstants.{LINE_LIMIT}
 
 -- what a line says; none where one of its numbers is outside its range
 pub data ContentLine : Type 0 where
@@ -235,7 +236,7 @@ digits_line line =
 unfoldable pub content_form_of : List ℕ → ContentLine
 content_form_of line =
     if is_fault line then fault_line
-    else if nat_lt 32768 (length line) then no_line
+    else if nat_lt LINE_LIMIT (length line) then no_line
     else if starts_with nat_eq line (codes "row ") then row_form (drop 4 line)
     else if starts_with nat_eq line (codes "s ") then sample_form (drop 2 line)
     else if starts_with nat_eq line (codes "end") && (length line == 3) then end_line

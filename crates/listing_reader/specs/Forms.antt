@@ -4,6 +4,7 @@ use Rattle.std.specs.List.{list_all, starts_with}
 use Rattle.hex.specs.Hex.{decode_of}
 use Rattle.island_pack.specs.declared.packet.Packet.{Packet}
 use Rattle.hex.specs.declared.error.FromHexError.{FromHexError}
+use Rattle.listing_reader.specs.declared.lines.TheConstants.{LINE_LIMIT}
 
 pub data LineForm : Type 0 where
   -- `c HH N`: the value and the number of columns
@@ -85,7 +86,7 @@ is_fault line = starts_with nat_eq line (codes "! ") || starts_with nat_eq line 
 unfoldable pub form_of : List ℕ → LineForm
 form_of line =
     if is_fault line then fault_line
-    else if nat_lt 32768 (length line) then no_line
+    else if nat_lt LINE_LIMIT (length line) then no_line
     else if starts_with nat_eq line (codes "c ") then control_form (drop 2 line)
     else if starts_with nat_eq line (codes "v ") then video_form (drop 2 line)
     else if starts_with nat_eq line (codes "i ") then pair_form island_line (drop 2 line)

@@ -1,9 +1,10 @@
 -- What is seen of a reader of lines, and what it gives of its source's bytes.
-use Rattle.std.specs.Prelude.{◌≡◌, ℕ, ◌<◌, ◌≤◌, Bool, not, ◌==◌, IsTrue, List, [], ◌∷◌, ◌++◌, length, take, slice_index, Option}
+use Rattle.std.specs.Prelude.{◌≡◌, ℕ, ◌+◌, ◌<◌, ◌≤◌, Bool, not, ◌==◌, IsTrue, List, [], ◌∷◌, ◌++◌, length, take, slice_index, Option}
 use Rattle.std.specs.List.{list_all}
 use Rattle.std.specs.Io.KnownBytes.{Consumes, IsAtEnd, Keeps, prepend_known}
 use Rattle.listing_reader.specs.declared.lines.Piece.{Piece}
 use Rattle.listing_reader.specs.declared.lines.Piece.TheVariants.{Line, Last, Long}
+use Rattle.listing_reader.specs.declared.lines.TheConstants.{LINE_LIMIT}
 
 -- the last line, without its line feed, and the bytes that were read and not yet given
 pub record Held : Type 0 where
@@ -28,13 +29,13 @@ pub record IsFeedAt (bytes : List ℕ) (k : ℕ) : Type 0 where
 pub record IsEnded (left rest : Option (List ℕ)) (before now : Held) : Type 0 where
   pub given : Consumes (ahead before left) (ahead now rest) (now.line ++ 10 ∷ [])
   pub feedless : IsTrue (is_feedless now.line)
-  pub short : length now.line ≤ 32768
+  pub short : length now.line ≤ LINE_LIMIT
 
 -- the at most 32,768 bytes after the last line feed, perhaps none
 pub record IsRest (left rest : Option (List ℕ)) (before now : Held) : Type 0 where
   pub given : Consumes (ahead before left) (ahead now rest) now.line
   pub feedless : IsTrue (is_feedless now.line)
-  pub short : length now.line ≤ 32768
+  pub short : length now.line ≤ LINE_LIMIT
   pub ended : IsAtEnd rest
   pub empty : now.pending ≡ []
 
@@ -42,7 +43,7 @@ pub record IsRest (left rest : Option (List ℕ)) (before now : Held) : Type 0 w
 pub record IsTooLong (left rest : Option (List ℕ)) (before now : Held) : Type 0 where
   pub given : Consumes (ahead before left) (ahead now rest) now.line
   pub feedless : IsTrue (is_feedless now.line)
-  pub long : length now.line ≡ 32769
+  pub long : length now.line ≡ LINE_LIMIT + 1
 
 -- what is given of the bytes ahead; `left` and `rest` are the bytes of the source, as far as they are known,
 -- before and after

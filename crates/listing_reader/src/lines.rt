@@ -3,6 +3,7 @@ ghost use Rattle.std.specs.Prelude.{◌≡◌, ℕ, ◌+◌, ◌-◌, ◌<◌, �
 ghost use Rattle.std.specs.Io.KnownBytes.{Consumes, IsAtEnd, Keeps};
 ghost use Rattle.outside_io.specs.Causes.{HasCause};
 ghost use Rattle.listing_reader.specs.Held.{Held, ahead, is_feedless, IsFeedAt, IsNext, IsUngiven};
+ghost use Rattle.listing_reader.specs.declared.lines.TheConstants.{LINE_LIMIT};
 
 use memchr::memchr;
 use outside_io::{Failed, NoMemory, Source};
@@ -144,7 +145,7 @@ impl LineReader {
 
     // Reads once, after the pending bytes, and says how many bytes were read.
     fn fill<S: Source>(&mut self, source: &mut S) -> Result<usize, Failed>
-        requires { length self.old.pending ≤ 32768 }
+        requires { length self.old.pending ≤ LINE_LIMIT }
         ensures more { IfOk result (λ n. (more : List ℕ) × (length more ≡ n)
             × (self.new.pending ≡ self.old.pending ++ more)) }
         ensures end { IfOk result (λ n. n ≡ 0 → IsAtEnd (S.left source.new)) }

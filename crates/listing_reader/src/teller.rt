@@ -2,6 +2,7 @@
 ghost use Rattle.std.specs.Prelude.{◌≡◌, ◌≤◌, ◌<◌, ◌++◌, ℕ, List, length, OnOk, IfOk};
 ghost use Rattle.listing_reader.specs.LineSteps.{LineStep};
 ghost use Rattle.listing_reader.specs.Taken.{Takes, CountsLine};
+ghost use Rattle.listing_reader.specs.declared.lines.TheConstants.{LINE_LIMIT};
 
 use crate::ListCause;
 use outside_io::NoMemory;
@@ -52,6 +53,6 @@ pub(crate) trait Teller: Drop {
         ensures takes { Takes (step self line.now) result }
         ensures counted { IfOk result (CountsLine lines (lines self)) }
         ensures some { OnOk result (1 ≤ length line.now) }
-        ensures short { OnOk result (length line.now ≤ 32768) }
-        ensures long { 32768 < length line.now → (more : List ℕ) → step self (line.now ++ more) ≡ step self line.now };
+        ensures short { OnOk result (length line.now ≤ LINE_LIMIT) }
+        ensures long { LINE_LIMIT < length line.now → (more : List ℕ) → step self (line.now ++ more) ≡ step self line.now };
 }

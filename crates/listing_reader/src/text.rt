@@ -6,6 +6,7 @@ ghost use Rattle.listing_reader.specs.LineSteps.{cut_short, ended_by, read_lines
 ghost use Rattle.listing_reader.specs.Answers.{Answers, IsCaused};
 ghost use Rattle.listing_reader.specs.Taken.{CountsLine, RefusedAs, TakesLine};
 ghost use Rattle.listing_reader.specs.Leaves.{IsPlace, Leaves};
+ghost use Rattle.listing_reader.specs.declared.lines.TheConstants.{LINE_LIMIT};
 
 use crate::lines::{LineReader, Piece};
 use crate::teller::{Refusal, Taken, Teller};
@@ -115,7 +116,7 @@ fn take_line<T: Teller>(
 
 /// The answer for a line that the input ends in.
 fn unended<T: Teller>(teller: T, line: &[u8], place: Place) -> ListError
-    requires short { length line.now ≤ 32768 }
+    requires short { length line.now ≤ LINE_LIMIT }
     requires place { IsPlace place.line place.bytes }
     requires few { T.lines teller ≤ 4294967290 }
     ensures answers { Answers (cut_short place.line line.now (within_text (nat_le (place.bytes + length line.now) 4294967295) (T.step teller line.now))) (Err result) }
@@ -132,7 +133,7 @@ fn unended<T: Teller>(teller: T, line: &[u8], place: Place) -> ListError
 
 /// The answer for the first bytes of a line that is too long.
 fn too_long<T: Teller>(teller: T, line: &[u8], number: u32) -> ListError
-    requires long { 32768 < length line.now }
+    requires long { LINE_LIMIT < length line.now }
     requires few { T.lines teller ≤ 4294967290 }
     ensures takes { (more : List ℕ) → TakesLine number (T.step teller (line.now ++ more)) (Err result) }
     ensures unread { result ≢ ListError.Read }

@@ -8,16 +8,13 @@ use Rattle.period_grammar.specs.declared.event.Fault.TheVariants.{Word}
 use Rattle.frame_build.specs.FrameEvent.{other}
 use Rattle.island_pack.specs.declared.packet.Packet.{Packet}
 use Rattle.island_pack.specs.declared.packet.PacketVerdicts.{PacketVerdicts}
-use Rattle.infoframe.specs.Frames.{Frame, first_lost, frame_in, frame_of, answer, kind_of, avi_in, audio_in, spd_in}
+use Rattle.infoframe.specs.Frames.{Frame, frame_in, frame_of, answer, kind_of, avi_in, audio_in, spd_in}
 use Rattle.infoframe.specs.declared.content.InfoKind.{InfoKind}
 use Rattle.infoframe.specs.declared.content.InfoFault.{InfoFault}
 use Rattle.infoframe.specs.declared.content.Avi.{Avi}
 use Rattle.infoframe.specs.declared.content.AudioInfo.{AudioInfo}
 use Rattle.infoframe.specs.declared.content.Spd.{Spd}
 use Rattle.listing_writer.specs.ContentText.{is_fault_line, frame_event_of, avi_read, avi_words, audio_words, spd_words, raw_words, info_words}
-
-pub option_map-same : {A : Type 0} (x : Option A) → option_map (λ (a : A). a) x ≡ x
-option_map-same x = grind arith
 
 -- a fault of no word is an event like any other
 pub parts_lines : (fault : Fault) → ((lane column : ℕ) → fault ≡ Word lane column → ⊥) → frame_event_of (fault_event fault) ≡ other
@@ -36,15 +33,6 @@ answer_low lost fits total frame h = grind arith
 pub avi_low : (p : Packet) (v : PacketVerdicts) → slice_index p.header 0 < 128 → avi_read (frame_of p v) ≡ None
 unfolding frame_of frame_in
 avi_low p v low = answer_low _ _ _ (frame_in p) (kind_low _ _ _ low)
-
--- a packet of which a block is lost is read as no frame
-answer_lost : (lost : Option ℕ) (fits : Bool) (total : ℕ) (frame : Frame) → is_some lost ≡ true → avi_read (answer lost fits total frame) ≡ None
-unfolding answer avi_read
-answer_lost lost fits total frame some = grind arith
-
-pub avi_lost : (p : Packet) (v : PacketVerdicts) → is_some (first_lost v) ≡ true → avi_read (frame_of p v) ≡ None
-unfolding frame_of
-avi_lost p v some = answer_lost _ _ _ (frame_in p) some
 
 -- the frame that a packet is read as has the packet's type
 abbrev pub HasType : ℕ → Result Frame InfoFault → Type 0

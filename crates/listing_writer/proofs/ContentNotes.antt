@@ -6,7 +6,8 @@ use Rattle.std.proofs.lemmas.Grind.{flat_map-append}
 use Rattle.island_pack.specs.declared.packet.Packet.{Packet}
 use Rattle.island_pack.specs.declared.packet.PacketVerdicts.{PacketVerdicts}
 use Rattle.audio_packets.specs.Samples.{samples_of, samples_from, note_at, is_present, has_many_channels}
-use Rattle.audio_packets.specs.Faults.{first_lost, unless_lost}
+use Rattle.island_pack.specs.Taken.{first_lost}
+use Rattle.audio_packets.specs.Faults.{unless_lost}
 use Rattle.audio_packets.specs.declared.sample.SampleNote.{SampleNote}
 use Rattle.audio_packets.specs.declared.fault.AudioFault.{AudioFault}
 use Rattle.audio_packets.specs.declared.fault.AudioFault.TheVariants.{Layout}

@@ -6,7 +6,8 @@ use Rattle.island_pack.specs.Packets.{body_of}
 use Rattle.island_pack.specs.declared.packet.Packet.{Packet}
 use Rattle.island_pack.specs.declared.packet.PacketVerdicts.{PacketVerdicts}
 use Rattle.infoframe.specs.Fields.{avi_of, audio_of, spd_of}
-use Rattle.infoframe.specs.Frames.{Frame, frame_of, kind_of, avi_in, first_lost}
+use Rattle.island_pack.specs.Taken.{first_lost}
+use Rattle.infoframe.specs.Frames.{Frame, frame_of, kind_of, avi_in}
 use Rattle.infoframe.specs.declared.content.Avi.{Avi}
 use Rattle.infoframe.specs.declared.content.AudioInfo.{AudioInfo}
 use Rattle.infoframe.specs.declared.content.Spd.{Spd}

@@ -1,7 +1,7 @@
 //! The lines of what packets carry.
-ghost use Rattle.std.specs.Prelude.{◌≡◌, ◌+◌, ◌*◌, ◌≤◌, ◌<◌, ◌++◌, ◌∷◌, [], Bool, length, slice_index, is_some, Err, codes};
+ghost use Rattle.std.specs.Prelude.{◌≡◌, ◌≢◌, ◌+◌, ◌*◌, ◌≤◌, ◌<◌, ◌++◌, ◌∷◌, [], Bool, length, slice_index, Err, codes};
 ghost use Rattle.arrayvec.specs.ArrayVec.{array_vec_len};
-ghost use Rattle.infoframe.specs.Frames.{is_lost, first_lost, frame_of};
+ghost use Rattle.infoframe.specs.Frames.{frame_of};
 ghost use Rattle.island_pack.specs.Packets.{body_of};
 ghost use Rattle.audio_packets.specs.Clock.{IsClockPacket, acr_of};
 ghost use Rattle.audio_packets.specs.Samples.{IsSamplePacket, samples_of};
@@ -14,7 +14,6 @@ use crate::line::{
     Line, fields_line, long_line, put, put_bytes, put_field, put_hex, put_long_field,
 };
 use audio_packets::{AudioFault, Sample, SampleNote, read_acr, samples};
-use bch_block::Verdict;
 use infoframe::{Avi, InfoFault, InfoRef};
 use island_pack::PacketRef;
 
@@ -25,18 +24,31 @@ impl Lines {
         ensures avi { result ≡ avi_read (frame_of packet.entry.packet.now packet.entry.verdicts.now) }
         ensures added { Adds self.old self.new (packet_lines packet.entry.packet.now packet.entry.verdicts.now column) }
     {
-        if has_lost(packet) {
-            return None;
+        match packet.header()[0] {
+            1 => self.add_clock(packet, column),
+            2 => self.add_samples(packet, column),
+            128.. => return self.add_info(packet, column),
+            _ => self.add_if_whole(packet, column),
+        }
+        None
+    }
+
+    /// Adds what a packet of another type carries, where none of its blocks is lost.
+    fn add_if_whole(&mut self, packet: PacketRef<'_>, column: u64)
+        requires empty { self.old.text ≡ [] }
+        requires clock { slice_index packet.packet.now.header 0 ≢ 1 }
+        requires samples { slice_index packet.packet.now.header 0 ≢ 2 }
+        requires info { slice_index packet.packet.now.header 0 < 0x80 }
+        ensures { Adds self.old self.new (packet_lines packet.entry.packet.now packet.entry.verdicts.now column) }
+    {
+        if packet.first_lost().is_some() {
+            return;
         }
         match packet.header()[0] {
             0 => {}
-            1 => self.add_clock(packet, column),
-            2 => self.add_samples(packet, column),
             3 => self.add_control(packet.bodies(), column),
-            128.. => return self.add_info(packet, column),
             _ => self.add(other_line(packet)),
         }
-        None
     }
 
     fn add_clock(&mut self, packet: PacketRef<'_>, column: u64)
@@ -142,21 +154,6 @@ fn is_usual(depth: u64) -> bool
     ensures { result ≡ is_usual_depth depth }
 {
     depth == 0 || depth == 4
-}
-
-/// Whether a block is lost.
-fn has_lost(packet: PacketRef<'_>) -> bool
-    ensures { result ≡ is_some (first_lost packet.entry.verdicts.now) }
-{
-    (0..5)
-        .find(|block| is_lost(packet.verdict(*block)))
-        .is_some()
-}
-
-fn is_lost(verdict: Verdict) -> bool
-    ensures { result ≡ is_lost verdict }
-{
-    matches!(verdict, Verdict::Lost)
 }
 
 /// The line of a sample.

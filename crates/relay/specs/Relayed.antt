@@ -1,13 +1,11 @@
 -- What a relay makes of what is reported to it: a list of periods that conforms, by six rules. Each rule is a function
 -- of lists.
-use Rattle.std.specs.Prelude.{ℕ, ◌+◌, ◌-◌, ◌*◌, ◌%◌, Bool, true, false, ◌||◌, cond, List, [], ◌∷◌, ◌++◌, map, length, take, drop, reverse, replicate, Option, Some, None}
+use Rattle.std.specs.Prelude.{ℕ, ◌+◌, ◌-◌, ◌*◌, ◌%◌, Bool, true, false, ◌||◌, cond, List, [], ◌∷◌, ◌++◌, map, length, take, drop, reverse, replicate, Option, Some, None, is_some}
 use Rattle.std.specs.List.{fold}
-use Rattle.bch_block.specs.declared.Verdict.{Verdict}
-use Rattle.bch_block.specs.declared.Verdict.TheVariants.{Clean, Mended, Lost}
 use Rattle.island_pack.specs.Periods.{ControlRun, SyncPair, DataIsland, Period, control, video, island, VIDEO_PREAMBLE, ISLAND_PREAMBLE}
 use Rattle.island_pack.specs.Conforming.{is_run, is_video_period, is_data_island}
 use Rattle.island_pack.specs.Runs.{longest}
-use Rattle.island_pack.specs.Taken.{verdict_on}
+use Rattle.island_pack.specs.Taken.{first_lost}
 use Rattle.island_pack.specs.declared.packet.Packet.{Packet}
 use Rattle.island_pack.specs.declared.packet.PacketVerdicts.{PacketVerdicts}
 use Rattle.period_grammar.specs.Events.{Event, run, line, cut, open_island, packet, close_island}
@@ -103,21 +101,11 @@ kept reported = kept_from None (without_faults reported)
 
 -- A packet with a lost block becomes the Null packet, with its sync values.
 
-abbrev pub is_lost : Verdict → Bool
-is_lost Clean = false
-is_lost (Mended i) = false
-is_lost Lost = true
-
--- blocks 0 to 3 are the bodies, block 4 is the header
-abbrev pub has_lost : PacketVerdicts → Bool
-has_lost v =
-    is_lost (verdict_on v 0) || (is_lost (verdict_on v 1) || (is_lost (verdict_on v 2) || (is_lost (verdict_on v 3) || is_lost (verdict_on v 4))))
-
 abbrev pub null_packet : List ℕ → Packet
 null_packet sync = record { header = replicate 3 0; bodies = replicate 28 0; sync = sync }
 
 abbrev pub sure : Judged → Judged
-sure p = record { packet = cond (has_lost p.verdicts) (null_packet p.packet.sync) p.packet; verdicts = p.verdicts }
+sure p = record { packet = cond (is_some (first_lost p.verdicts)) (null_packet p.packet.sync) p.packet; verdicts = p.verdicts }
 
 abbrev pub with_nulls : RelayedPart → RelayedPart
 with_nulls (some_columns r) = some_columns r

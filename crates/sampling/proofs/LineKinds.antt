@@ -1,13 +1,13 @@
 -- How many lines of each kind an event has.
 use Rattle.std.proofs.Common.{◌≡◌, ◌∙◌, ℕ, ◌+◌, Bool, true, false, if◌then◌else◌, List, [], ◌∷◌, ◌++◌, length, Option, Some, None, refl, ap, ap₂, sym, arith}
 use Rattle.std.specs.Prelude.{◌==◌, codes, count_by, is_some, slice_index, nat_le, Result, Ok, Err}
-use Rattle.std.specs.List.{flat_map, find}
+use Rattle.std.specs.List.{flat_map}
 use Rattle.std.proofs.lemmas.Bool.{ne_eqb}
 use Rattle.island_pack.specs.declared.packet.Packet.{Packet}
 use Rattle.island_pack.specs.declared.packet.PacketVerdicts.{PacketVerdicts}
-use Rattle.bch_block.specs.declared.Verdict.{Verdict}
-use Rattle.infoframe.specs.Frames.{Frame, first_lost, is_lost}
-use Rattle.audio_packets.specs.Faults as audio
+use Rattle.island_pack.specs.Taken.{first_lost}
+use Rattle.infoframe.specs.Frames.{Frame}
+use Rattle.audio_packets.specs.Faults.{unless_lost}
 use Rattle.infoframe.specs.declared.content.InfoKind.{InfoKind}
 use Rattle.infoframe.specs.declared.content.InfoFault.{InfoFault}
 use Rattle.audio_packets.specs.Samples.{samples_of}
@@ -255,17 +255,9 @@ no_samples p v unlike =
     let t = slice_index p.header 0 in
     sym (passed (is_some (first_lost v)) _ (passed (t == 0) _ (passed (t == 1) _ (passed_other (t == 2) _ _ (ne_eqb t 2 unlike) (passed (t == 3) _ (passed (nat_le 0x80 t) 0 refl))))))
 
-is_lost_same : (x : Verdict) → audio.is_lost x ≡ is_lost x
-is_lost_same x = grind arith
-
-find_same : (f g : ℕ → Bool) (xs : List ℕ) → ((x : ℕ) → f x ≡ g x) → find f xs ≡ find g xs
-find_same f g [] same = refl
-find_same f g (x ∷ xs) same = ap₂ (λ (b : Bool) (r : Option ℕ). if b then Some x else r) (same x) (find_same f g xs same)
-
-lost_by : (lost : Option ℕ) (r : Result (List SampleNote) AudioFault) → (if is_some lost then 0 else samples_read (audio.unless_lost lost r)) ≡ samples_read (audio.unless_lost lost r)
+lost_by : (lost : Option ℕ) (r : Result (List SampleNote) AudioFault) → (if is_some lost then 0 else samples_read (unless_lost lost r)) ≡ samples_read (unless_lost lost r)
 lost_by lost r = grind arith
 
 -- a packet of samples gives those that are read
 pub all_samples : (p : Packet) (v : PacketVerdicts) → slice_index p.header 0 ≡ 2 → samples_read (samples_of p v) ≡ samples_in p v
-unfolding first_lost
-all_samples p v is = grind (arith, lost_by, find_same, is_lost_same)
+all_samples p v is = grind (arith, lost_by)

@@ -3,7 +3,8 @@ use Rattle.std.specs.Prelude.{filter}
 use Rattle.bch_block.specs.Bits.{bit}
 use Rattle.island_pack.specs.declared.packet.Packet.{Packet}
 use Rattle.island_pack.specs.declared.packet.PacketVerdicts.{PacketVerdicts}
-use Rattle.audio_packets.specs.Faults.{first_lost, unless_lost}
+use Rattle.island_pack.specs.Taken.{first_lost}
+use Rattle.audio_packets.specs.Faults.{unless_lost}
 use Rattle.audio_packets.specs.Samples.{packet_with, note_at, notes_from, has_pair, pair_of}
 use Rattle.audio_packets.proofs.reading.pair.Goals as goal
 
@@ -25,9 +26,9 @@ pub returns-in-Some : goal.returns-in-Some
 returns-in-Some c =
     let packet = c.args.packet.packet.now in
     let present = slice_index packet.header 1 in
-    ap (λ found. unless_lost found (Ok (map (note_at packet) (filter (has_pair present c.args.pair) (0 ∷ 1 ∷ 2 ∷ 3 ∷ []))))) (sym c.in-Some.is ∙ c.lost_block.ensures)
+    ap (λ found. unless_lost found (Ok (map (note_at packet) (filter (has_pair present c.args.pair) (0 ∷ 1 ∷ 2 ∷ 3 ∷ []))))) (sym c.in-Some.is ∙ c.first_lost.ensures)
 
 pub returns : goal.returns
 returns c =
     let verdicts = c.args.packet.verdicts.now in
-    of_mask c.args.packet.packet.now verdicts _ _ c.pair_mask.result c.args.pair c.header-header.ensures c.bodies.ensures (sym c.lost_block.ensures ∙ no_block _ c.in_default.not-Some) c.pair_mask.ensures
+    of_mask c.args.packet.packet.now verdicts _ _ c.pair_mask.result c.args.pair c.header-header.ensures c.bodies.ensures (sym c.first_lost.ensures ∙ no_block _ c.in_default.not-Some) c.pair_mask.ensures

@@ -1,6 +1,7 @@
 use Rattle.std.proofs.Common.{◌≡◌, ◌≢◌, ℕ, ◌+◌, ◌%◌, List, take, drop, get_or, ap, ap₂, sym, ◌∙◌, arith}
 use Rattle.std.specs.Prelude.{None, Ok}
-use Rattle.infoframe.specs.Frames.{first_lost, frame_in, length_in, sum_of, has_length}
+use Rattle.island_pack.specs.Taken.{first_lost}
+use Rattle.infoframe.specs.Frames.{frame_in, length_in, sum_of, has_length}
 use Rattle.infoframe.proofs.Lists.{after_first}
 use Rattle.infoframe.proofs.Refusals.{kind_in, length_below, refused_lost, refused_length, refused_sum, taken_as}
 use Rattle.infoframe.proofs.lent.InfoRef.read.Goals as goal
