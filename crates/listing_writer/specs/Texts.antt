@@ -46,6 +46,10 @@ line_words (guard column) = codes "! guard" ++ field column
 unfoldable pub slip_text : ℕ → ℕ → List ℕ
 slip_text lane place = codes "! slip" ++ field lane ++ field place ++ codes "\n"
 
+-- the line of an alignment that was refuted: the place of the capture from which on the lanes are searched anew
+unfoldable pub relock_text : ℕ → List ℕ
+relock_text place = codes "! relock" ++ field place ++ codes "\n"
+
 -- the lines of events
 unfoldable pub lines_of : List Event → List ℕ
 lines_of [] = []

@@ -6,11 +6,11 @@ ghost use Rattle.period_grammar.specs.Events.{Event, event_of};
 ghost use Rattle.link_sink.specs.Ears.{both_alone};
 ghost use Rattle.listing_writer.specs.ContentAdded.{Recalls};
 ghost use Rattle.listing_writer.specs.ContentTaken.{Lists, Breaks};
-ghost use Rattle.listing_writer.specs.Texts.{counted, slip_text};
+ghost use Rattle.listing_writer.specs.Texts.{counted, slip_text, relock_text};
 
 use crate::content_lines::Lines;
 use crate::content_state::ContentState;
-use crate::line::slip_line;
+use crate::line::{relock_line, slip_line};
 use crate::lister::{write_line, write_short};
 use link_sink::Ear;
 use outside_io::{Failed, Sink};
@@ -63,6 +63,22 @@ impl<'a, K: Sink> ContentLister<'a, K> {
         ensures cause { HasCause (K.faults self.old.sink.now) (K.faults self.new.sink.now) result }
     {
         write_short(self.sink, slip_line(lane, place))?;
+        self.faults = self.faults.saturating_add(1);
+        Ok(())
+    }
+
+    /// Writes the line of an alignment that was refuted, which is a fault line: the place of the capture from which on the lanes
+    /// are searched anew. What is kept of events stays. Where the sink fails, a part of the line is written, and nothing is counted.
+    pub fn relock(&mut self, place: u64) -> Result<(), Failed>
+        ensures same { self.new.sink.ghost_name ≡ self.old.sink.ghost_name }
+        ensures past { self.new.past ≡ self.old.past }
+        ensures counted { OnOk result (self.new.faults ≡ counted self.old.faults 1) }
+        ensures uncounted { OnErr result (self.new.faults ≡ self.old.faults) }
+        ensures whole { OnOk result (Appends (K.held self.old.sink.now) (K.held self.new.sink.now) (relock_text place)) }
+        ensures part { OnErr result ((n : ℕ) × (n < length (relock_text place)) × Appends (K.held self.old.sink.now) (K.held self.new.sink.now) (take n (relock_text place))) }
+        ensures cause { HasCause (K.faults self.old.sink.now) (K.faults self.new.sink.now) result }
+    {
+        write_short(self.sink, relock_line(place))?;
         self.faults = self.faults.saturating_add(1);
         Ok(())
     }

@@ -4,7 +4,7 @@ ghost use Rattle.arrayvec.specs.ArrayVec.{array_vec_len};
 ghost use Rattle.hex.specs.Hex.{encode_lower};
 ghost use Rattle.period_grammar.specs.Lending.{fault_event};
 ghost use Rattle.period_grammar.specs.Events.{run as run_event, packet as packet_event};
-ghost use Rattle.listing_writer.specs.Texts.{line_words, field, slip_text, sync_digits};
+ghost use Rattle.listing_writer.specs.Texts.{line_words, field, slip_text, relock_text, sync_digits};
 ghost use Rattle.listing_writer.specs.Fields.{with_fields};
 
 use arrayvec::ArrayVec;
@@ -89,6 +89,18 @@ pub(crate) fn slip_line(lane: u8, place: u64) -> Line
     let mut line = Line::new();
     put(&mut line, b"! slip");
     put_field(&mut line, u32::from(lane));
+    put_long_field(&mut line, place);
+    put(&mut line, b"\n");
+    line
+}
+
+/// The line of an alignment that was refuted.
+#[tactic(auto, unfolding(crate::specs::Texts::relock_text))]
+pub(crate) fn relock_line(place: u64) -> Line
+    ensures { result.items ≡ relock_text place }
+{
+    let mut line = Line::new();
+    put(&mut line, b"! relock");
     put_long_field(&mut line, place);
     put(&mut line, b"\n");
     line

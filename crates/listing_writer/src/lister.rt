@@ -5,10 +5,12 @@ ghost use Rattle.outside_io.specs.Causes.{HasCause};
 ghost use Rattle.period_grammar.specs.Events.{event_of};
 ghost use Rattle.link_sink.specs.Ears.{both_alone};
 ghost use Rattle.hex.specs.Hex.{encode_lower};
-ghost use Rattle.listing_writer.specs.Texts.{lines_of, fault_lines, counted, slip_text};
+ghost use Rattle.listing_writer.specs.Texts.{lines_of, fault_lines, counted, slip_text, relock_text};
 
 use crate::digit_pairs::DigitPairs;
-use crate::line::{Line, fault_line, guard_line, long_line, packet_line, run_line, slip_line};
+use crate::line::{
+    Line, fault_line, guard_line, long_line, packet_line, relock_line, run_line, slip_line,
+};
 use link_sink::Ear;
 use outside_io::{Failed, Sink, write_all};
 use period_grammar::EventRef;
@@ -40,8 +42,8 @@ impl<'a, K: Sink> LinkLister<'a, K> {
         }
     }
 
-    /// How many fault lines were written whole: one for each fault that was reported to it, and one for each slip. The
-    /// count stands still at the greatest u64.
+    /// How many fault lines were written whole: one for each fault that was reported to it, and one for each slip
+    /// and each alignment that was refuted. The count stands still at the greatest u64.
     pub fn faults(&self) -> u64
         ensures { result ≡ self.now.faults }
     {
@@ -59,6 +61,21 @@ impl<'a, K: Sink> LinkLister<'a, K> {
         ensures cause { HasCause (K.faults self.old.sink.now) (K.faults self.new.sink.now) result }
     {
         write_short(self.sink, slip_line(lane, place))?;
+        self.faults = self.faults.saturating_add(1);
+        Ok(())
+    }
+
+    /// Writes the line of an alignment that was refuted, which is a fault line: the place of the capture from which on the lanes
+    /// are searched anew. Where the sink fails, a part of the line is written, and nothing is counted.
+    pub fn relock(&mut self, place: u64) -> Result<(), Failed>
+        ensures same { self.new.sink.ghost_name ≡ self.old.sink.ghost_name }
+        ensures counted { OnOk result (self.new.faults ≡ counted self.old.faults 1) }
+        ensures uncounted { OnErr result (self.new.faults ≡ self.old.faults) }
+        ensures whole { OnOk result (Appends (K.held self.old.sink.now) (K.held self.new.sink.now) (relock_text place)) }
+        ensures part { OnErr result ((n : ℕ) × (n < length (relock_text place)) × Appends (K.held self.old.sink.now) (K.held self.new.sink.now) (take n (relock_text place))) }
+        ensures cause { HasCause (K.faults self.old.sink.now) (K.faults self.new.sink.now) result }
+    {
+        write_short(self.sink, relock_line(place))?;
         self.faults = self.faults.saturating_add(1);
         Ok(())
     }

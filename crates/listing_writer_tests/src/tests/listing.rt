@@ -54,8 +54,11 @@ fn link_summary(rt: &impl Abort, alloc: Global, sink: &str, steps: &str) -> Resu
     for (i, step) in steps.split(',').enumerate() {
         let answer = match step.strip_prefix("slip ") {
             Some(words) => slip(alloc, &mut lister, words)?,
-            None if step == "end" => lister.end(),
-            None => tell(rt, alloc, &mut lister, step)?,
+            None => match step.strip_prefix("relock ") {
+                Some(place) => lister.relock(place.parse()?),
+                None if step == "end" => lister.end(),
+                None => tell(rt, alloc, &mut lister, step)?,
+            },
         };
         note(alloc, &mut failed, i, answer)?;
     }

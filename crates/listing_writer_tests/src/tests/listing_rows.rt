@@ -31,7 +31,9 @@ pub(crate) static LINKS: &str = "\
 2 faults: ! guard 9;cut 5;! guard 9;end;|100 100 4|guard 9,cut 5,guard 9,end
 2 faults, step 4 failed: ! guard 9;cut 5;! guard 9;end;|100 100 4|guard 9,cut 5,guard 9,end,guard 9
 2 faults: ! slip 2 437;! slip 0 18446744073709551615;|50 7|slip 2 437,slip 0 18446744073709551615
-2 faults, step 2 failed: ! slip 2 437;! slip 0 18446744073709551615;! slip |50 7|slip 2 437,slip 0 18446744073709551615,slip 1 0";
+2 faults, step 2 failed: ! slip 2 437;! slip 0 18446744073709551615;! slip |50 7|slip 2 437,slip 0 18446744073709551615,slip 1 0
+2 faults: ! relock 437;! relock 18446744073709551615;|50 7|relock 437,relock 18446744073709551615
+2 faults, step 2 failed: ! relock 437;! relock 18446744073709551615;! reloc|50 7|relock 437,relock 18446744073709551615,relock 0";
 
 /// Checks. A cut alone is no fault; runs, lines, guards and packets have no line, and need no write. A fault counts where its line is
 /// written whole.
