@@ -12,9 +12,9 @@ use Rattle.link_sink.specs.Alignment.{reported_by}
 use Rattle.link_sink.specs.Sinks.{Fed}
 use Rattle.listing_writer.specs.Texts.{counted}
 use Rattle.track_sink.specs.Epochs.{EpochRule, IsTrackBy, IsTrackedBy, last_epoch, more_epochs}
-use Rattle.track_sink.specs.TrackEvents.{TrackEvent, track_events_of, slip_if, end_events}
+use Rattle.track_sink.specs.TrackEvents.{TrackEvent, track_events_of, slip_if, relock_if, end_events}
 use Rattle.track_sink.specs.declared.watch.Cause.{Cause}
-use Rattle.track_sink.specs.declared.watch.Cause.TheVariants.{Slip, Unconfirmed}
+use Rattle.track_sink.specs.declared.watch.Cause.TheVariants.{Slip, Unconfirmed, Refuted}
 use Rattle.track_sink.specs.Tracks.{HasTrackedBy}
 use Rattle.command_line.specs.declared.command.Command.{Command}
 use Rattle.capture_commands.specs.ListsCommands.{IsTracks}
@@ -52,6 +52,7 @@ false_or a b first second = ap (λ c. c || b) first ∙ second
 none_at_end : (b : Bool) (cause : Cause) (place : ℕ) → b ≡ false → end_events b cause place ≡ []
 none_at_end b (Slip lane) place is = ap (λ c. slip_if c lane place) is
 none_at_end b Unconfirmed place is = refl
+none_at_end b Refuted place is = ap (λ c. relock_if c place) is
 
 pub nothing_reported : (r : EpochRule) (begun : Bool) (z : ℕ) (fed : Fed) (n m : ℕ) (track_events : List TrackEvent) → IsTrackedBy r begun z fed n m track_events → begun ≡ false → m ≡ 0 → track_events ≡ []
 nothing_reported r begun z fed n m track_events (last_epoch _ _ _ o events none reported) start zeros =

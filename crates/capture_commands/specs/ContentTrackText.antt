@@ -1,33 +1,36 @@
 -- The text of the content of what is reported of lanes that may lose bits: the lines of its events as of one stream, whatever slips
--- lie between, and a line for each slip where it stands.
+-- and refuted alignments lie between, and a line for each of these where it stands.
 use Rattle.std.proofs.Common.{◌≡◌, ◌∙◌, ℕ, suc, ◌+◌, List, [], ◌∷◌, ◌++◌, refl, ap, sym, append-nil, append_assoc, arith}
 use Rattle.std.specs.Prelude.{codes}
 use Rattle.period_grammar.specs.Events.{Event}
-use Rattle.listing_writer.specs.Texts.{slip_text}
+use Rattle.listing_writer.specs.Texts.{relock_text, slip_text}
 use Rattle.listing_writer.specs.ContentText.{content_faults, content_lines, content_text, fault_line_count, lines_after, lines_at, text_of}
 use Rattle.listing_writer.specs.GrowingContent.{fault_count_append, text_append}
-use Rattle.track_sink.specs.TrackEvents.{TrackEvent, event, slip, track_events_of}
+use Rattle.track_sink.specs.TrackEvents.{TrackEvent, event, slip, relock, track_events_of}
 
 -- the events among them
 unfoldable pub events_in : List TrackEvent → List Event
 events_in [] = []
 events_in (event t ∷ track_events) = t ∷ events_in track_events
 events_in (slip lane place ∷ track_events) = events_in track_events
+events_in (relock place ∷ track_events) = events_in track_events
 
 -- the lines of what is reported after these events
 unfoldable pub content_track_lines : List Event → List TrackEvent → List ℕ
 content_track_lines past [] = []
 content_track_lines past (event t ∷ track_events) = text_of (lines_at past t) ++ content_track_lines (past ++ t ∷ []) track_events
 content_track_lines past (slip lane place ∷ track_events) = slip_text lane place ++ content_track_lines past track_events
+content_track_lines past (relock place ∷ track_events) = relock_text place ++ content_track_lines past track_events
 
 unfoldable pub content_track_text : List TrackEvent → List ℕ
 content_track_text track_events = content_track_lines [] track_events ++ codes "end\n"
 
--- how many of these lines are fault lines: each slip's is one
+-- how many of these lines are fault lines: each slip's and each refuted alignment's is one
 unfoldable pub content_track_faults : List Event → List TrackEvent → ℕ
 content_track_faults past [] = 0
 content_track_faults past (event t ∷ track_events) = fault_line_count (lines_at past t) + content_track_faults (past ++ t ∷ []) track_events
 content_track_faults past (slip lane place ∷ track_events) = suc (content_track_faults past track_events)
+content_track_faults past (relock place ∷ track_events) = suc (content_track_faults past track_events)
 
 -- they grow by events
 
@@ -36,6 +39,7 @@ unfolding events_in
 events_in_append [] k = refl
 events_in_append (event t ∷ h) k = ap (λ (ts : List Event). t ∷ ts) (events_in_append h k)
 events_in_append (slip lane place ∷ h) k = events_in_append h k
+events_in_append (relock place ∷ h) k = events_in_append h k
 
 pub content_track_lines_append : (past : List Event) (h k : List TrackEvent) → content_track_lines past (h ++ k) ≡ content_track_lines past h ++ content_track_lines (past ++ events_in h) k
 unfolding content_track_lines events_in
@@ -48,6 +52,9 @@ content_track_lines_append past (event t ∷ h) k =
 content_track_lines_append past (slip lane place ∷ h) k =
     ap (λ (bytes : List ℕ). slip_text lane place ++ bytes) (content_track_lines_append past h k)
     ∙ sym (append_assoc (slip_text lane place) (content_track_lines past h) (content_track_lines (past ++ events_in h) k))
+content_track_lines_append past (relock place ∷ h) k =
+    ap (λ (bytes : List ℕ). relock_text place ++ bytes) (content_track_lines_append past h k)
+    ∙ sym (append_assoc (relock_text place) (content_track_lines past h) (content_track_lines (past ++ events_in h) k))
 
 pub content_track_faults_append : (past : List Event) (h k : List TrackEvent) → content_track_faults past (h ++ k) ≡ content_track_faults past h + content_track_faults (past ++ events_in h) k
 unfolding content_track_faults events_in
@@ -59,6 +66,9 @@ content_track_faults_append past (event t ∷ h) k =
     let e = ap (λ (p : List Event). content_track_faults p k) (append_assoc past (t ∷ []) (events_in h)) in
     omega (arith, later, e)
 content_track_faults_append past (slip lane place ∷ h) k =
+    let later = content_track_faults_append past h k in
+    omega (arith, later)
+content_track_faults_append past (relock place ∷ h) k =
     let later = content_track_faults_append past h k in
     omega (arith, later)
 
@@ -78,15 +88,27 @@ pub one_content_slip : (past : List Event) (lane place : ℕ) → content_track_
 unfolding content_track_lines
 one_content_slip past lane place = append-nil (slip_text lane place)
 
+pub one_content_relock : (past : List Event) (place : ℕ) → content_track_lines past (relock place ∷ []) ≡ relock_text place
+unfolding content_track_lines
+one_content_relock past place = append-nil (relock_text place)
+
 pub one_content_slip_fault : (past : List Event) (lane place : ℕ) → content_track_faults past (slip lane place ∷ []) ≡ 1
 unfolding content_track_faults
 one_content_slip_fault past lane place = refl
+
+pub one_content_relock_fault : (past : List Event) (place : ℕ) → content_track_faults past (relock place ∷ []) ≡ 1
+unfolding content_track_faults
+one_content_relock_fault past place = refl
 
 pub no_events_in_slip : (lane place : ℕ) → events_in (slip lane place ∷ []) ≡ []
 unfolding events_in
 no_events_in_slip lane place = refl
 
--- where no slip is among them they are the content of events
+pub no_events_in_relock : (place : ℕ) → events_in (relock place ∷ []) ≡ []
+unfolding events_in
+no_events_in_relock place = refl
+
+-- where all of them are events they are the content of these
 
 pub events_in_events : (events : List Event) → events_in (track_events_of events) ≡ events
 unfolding events_in

@@ -1,6 +1,7 @@
--- The text of what is reported of lanes that may lose bits: the lines of a link listing, and a line for each slip.
-use Rattle.std.proofs.Common.{◌≡◌, ◌∙◌, ℕ, ◌+◌, Bool, true, List, [], ◌∷◌, ◌++◌, length, refl, ap, sym, subst, append-nil, arith}
-use Rattle.std.specs.Prelude.{codes, count_by, take, ◌<◌, Option, Result, Ok, Err, OnOk, OnErr}
+-- The text of what is reported of lanes that may lose bits: the lines of a link listing, and a line for each slip and each
+-- alignment that was refuted.
+use Rattle.std.proofs.Common.{◌≡◌, ◌∙◌, ℕ, ◌+◌, Bool, true, List, [], ◌∷◌, ◌++◌, refl, ap, sym, subst, append-nil, arith}
+use Rattle.std.specs.Prelude.{codes, count_by, Option, Result, Ok, Err, OnOk}
 use Rattle.std.specs.List.{flat_map}
 use Rattle.std.specs.Io.KnownBytes.{Appends}
 use Rattle.std.proofs.KnownBytes.{Appends-nil, Appends-trans}
@@ -8,13 +9,14 @@ use Rattle.std.proofs.lemmas.Grind.{flat_map-append}
 use Rattle.std.proofs.lemmas.List.Sums.{sum_by-append}
 use Rattle.period_grammar.specs.Exact.{is_fault_event}
 use Rattle.period_grammar.specs.Events.{Event}
-use Rattle.listing_writer.specs.Texts.{lines_of, fault_lines, slip_text, counted}
+use Rattle.listing_writer.specs.Texts.{lines_of, fault_lines, slip_text, counted, relock_text}
 use Rattle.listing_writer.specs.Growing.{lines_append, fault_lines_append}
-use Rattle.track_sink.specs.TrackEvents.{TrackEvent, event, slip, track_events_of}
+use Rattle.track_sink.specs.TrackEvents.{TrackEvent, event, slip, relock, track_events_of}
 
 abbrev pub track_event_text : TrackEvent → List ℕ
 track_event_text (event t) = lines_of (t ∷ [])
 track_event_text (slip lane place) = slip_text lane place
+track_event_text (relock place) = relock_text place
 
 unfoldable pub track_lines : List TrackEvent → List ℕ
 track_lines track_events = flat_map track_event_text track_events
@@ -25,6 +27,7 @@ track_text track_events = track_lines track_events ++ codes "end\n"
 abbrev pub is_fault_track_event : TrackEvent → Bool
 is_fault_track_event (event t) = is_fault_event t
 is_fault_track_event (slip lane place) = true
+is_fault_track_event (relock place) = true
 
 unfoldable pub track_faults : List TrackEvent → ℕ
 track_faults track_events = count_by is_fault_track_event track_events
@@ -50,6 +53,10 @@ one_track_event e = append-nil (track_event_text e)
 pub one_slip_fault : (lane place : ℕ) → track_faults (slip lane place ∷ []) ≡ 1
 unfolding track_faults
 one_slip_fault lane place = refl
+
+pub one_relock_fault : (place : ℕ) → track_faults (relock place ∷ []) ≡ 1
+unfolding track_faults
+one_relock_fault place = refl
 
 no_lines : [] ≡ lines_of []
 unfolding lines_of
@@ -111,18 +118,13 @@ counted_events x y h is = is ∙ sym (ap (λ (n : ℕ). counted x n) (event_faul
 pub events_counted : (x y : ℕ) (h : List Event) → y ≡ counted x (track_faults (track_events_of h)) → y ≡ counted x (fault_lines h)
 events_counted x y h is = is ∙ ap (λ (n : ℕ). counted x n) (event_faults h)
 
--- a slip that was written and counted is an event that was
+-- the line of a slip or of a refuted alignment that was written and counted is an event that was
 
-pub slip_tracked : {E N : Type 0} (r : Result (Unit {0}) E) (lane place x y : ℕ) (a b : Option (List ℕ)) → N → OnOk r (y ≡ counted x 1) → OnOk r (Appends a b (slip_text lane place))
-    → OnOk r (N × (y ≡ counted x (track_faults (slip lane place ∷ []))) × Appends a b (track_lines (slip lane place ∷ [])))
-slip_tracked (Ok done) lane place x y a b same count written = (
+pub line_tracked : {E N : Type 0} (r : Result (Unit {0}) E) (e : TrackEvent) (x y : ℕ) (a b : Option (List ℕ)) → track_faults (e ∷ []) ≡ 1 → N → OnOk r (y ≡ counted x 1) → OnOk r (Appends a b (track_event_text e))
+    → OnOk r (N × (y ≡ counted x (track_faults (e ∷ []))) × Appends a b (track_lines (e ∷ [])))
+line_tracked (Ok done) e x y a b one same count written = (
   same,
-  count ∙ sym (ap (λ (n : ℕ). counted x n) (one_slip_fault lane place)),
-  subst (λ (text : List ℕ). Appends a b text) (sym (one_track_event (slip lane place))) written,
+  count ∙ sym (ap (λ (n : ℕ). counted x n) one),
+  subst (λ (text : List ℕ). Appends a b text) (sym (one_track_event e)) written,
 )
-slip_tracked (Err failed) lane place x y a b same count written = tt
-
-pub slip_lost : {E N : Type 0} (r : Result (Unit {0}) E) (lane place x y : ℕ) (a b : Option (List ℕ)) → N → OnErr r (y ≡ x) → OnErr r ((n : ℕ) × (n < length (slip_text lane place)) × Appends a b (take n (slip_text lane place)))
-    → OnErr r (N × (y ≡ x) × ((n : ℕ) × (n < length (slip_text lane place)) × Appends a b (take n (slip_text lane place))))
-slip_lost (Ok done) lane place x y a b same count written = tt
-slip_lost (Err failed) lane place x y a b same count written = (same, count, written)
+line_tracked (Err failed) e x y a b one same count written = tt

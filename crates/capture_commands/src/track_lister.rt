@@ -21,7 +21,7 @@ pub(crate) trait TrackLister: TrackEar {
     /// What it writes.
     ghost listing: { TrackListing };
 
-    /// What it writes of events and slips after others.
+    /// What it writes of some after others.
     ghost after: { List TrackEvent → List TrackEvent → List ℕ };
 
     /// Nothing was reported to it.
@@ -40,7 +40,7 @@ pub(crate) trait TrackLister: TrackEar {
         ensures part { OnErr result ((n : ℕ) × (n < 4) × Appends (held self.old) (held self.new) (take n (codes "end\n"))) }
         ensures cause { HasCause (Self.faults self.old) (Self.faults self.new) result };
 
-    /// How many of the lines written are of faults, those of slips among them.
+    /// How many of the lines written are of faults, those of slips and refuted alignments among them.
     fn fault_lines(&self) -> u64
         ensures { (first : Self) (track_events : List TrackEvent) → fresh first → Self.tracked first self.now track_events → result ≡ counted 0 (listing.faults track_events) };
 
@@ -56,7 +56,7 @@ pub(crate) trait TrackLister: TrackEar {
     ghost keeps_lost: { (x y : Self) (e : TrackEvent) → Self.lost x y e → name y ≡ name x };
 }
 
-/// Writes a line of a link listing for each event that is reported to it, and for each slip.
+/// Writes a line of a link listing for each event that is reported to it, each slip and each refuted alignment.
 #[derive(Drop)]
 pub(crate) struct LinkTrackLister<'a, K: Sink> {
     pub(crate) lister: LinkLister<'a, K>,
@@ -117,13 +117,13 @@ impl<'a, K: Sink> TrackEar for LinkTrackLister<'a, K> {
     ghost use Rattle.std.proofs.Common.{refl, ◌∙◌};
     ghost use Rattle.capture_commands.specs.TrackText.{tracks_none, tracks_both, grows_none, grows_both, written_events, events_written, counted_events, events_counted};
 
-    // The sink grew by the lines of the events, and the count by those of faults and slips.
+    // The sink grew by the lines, and the count by those of faults, slips and refuted alignments.
     ghost tracked = { λ x y track_events.
         (y.lister.sink.ghost_name ≡ x.lister.sink.ghost_name)
         × (y.lister.faults ≡ counted x.lister.faults (track_faults track_events))
         × Appends (K.held x.lister.sink.now) (K.held y.lister.sink.now) (track_lines track_events) };
 
-    // The sink grew by a part of the event's line, and nothing was counted.
+    // The sink grew by a part of the line, and nothing was counted.
     ghost lost = { λ x y track_event.
         (y.lister.sink.ghost_name ≡ x.lister.sink.ghost_name)
         × (y.lister.faults ≡ x.lister.faults)
@@ -131,6 +131,10 @@ impl<'a, K: Sink> TrackEar for LinkTrackLister<'a, K> {
 
     fn slip(&mut self, lane: u8, place: u64) -> Result<(), Failed> {
         self.lister.slip(lane, place)
+    }
+
+    fn relock(&mut self, place: u64) -> Result<(), Failed> {
+        self.lister.relock(place)
     }
 
     ghost tracked_none = { λ x. (refl, tracks_none x.lister.faults, grows_none (K.held x.lister.sink.now)) };
@@ -183,7 +187,7 @@ impl<'a, K: Sink> TrackLister for LinkTrackLister<'a, K> {
     ghost keeps_lost = { λ x y e lost. lost.0 };
 }
 
-/// Writes the pictures and the sound of what is reported to it, and a line for each slip.
+/// Writes the pictures and the sound of what is reported to it, and a line for each slip and each refuted alignment.
 #[derive(Drop)]
 pub(crate) struct ContentTrackLister<'a, K: Sink> {
     pub(crate) lister: ContentLister<'a, K>,
@@ -242,13 +246,13 @@ impl<'a, K: Sink> TrackEar for ContentTrackLister<'a, K> {
     ghost use Rattle.std.proofs.Common.{refl, ◌∙◌};
     ghost use Rattle.capture_commands.specs.TrackListers.{lists_track_none, lists_track_both, listed_track, track_listed};
 
-    // For all that was reported before: the sink grew by the lines of the events and slips, and the count by the fault lines.
+    // For all that was reported before: the sink grew by the lines, and the count by the fault lines.
     ghost tracked = { λ x y track_events.
         (y.lister.sink.ghost_name ≡ x.lister.sink.ghost_name)
         × ((reported : List Event) → Recalls x.lister.past reported
         → ListsTrack reported track_events y.lister.past x.lister.faults y.lister.faults (K.held x.lister.sink.now) (K.held y.lister.sink.now)) };
 
-    // The sink grew by a part of the lines of the event or the slip, not by all, and nothing was counted.
+    // The sink grew by a part of the lines, not by all, and nothing was counted.
     ghost lost = { λ x y track_event.
         (y.lister.sink.ghost_name ≡ x.lister.sink.ghost_name)
         × (y.lister.faults ≡ x.lister.faults)
@@ -256,6 +260,10 @@ impl<'a, K: Sink> TrackEar for ContentTrackLister<'a, K> {
 
     fn slip(&mut self, lane: u8, place: u64) -> Result<(), Failed> {
         self.lister.slip(lane, place)
+    }
+
+    fn relock(&mut self, place: u64) -> Result<(), Failed> {
+        self.lister.relock(place)
     }
 
     ghost tracked_none = { λ x. (refl, lists_track_none x.lister.past x.lister.faults (K.held x.lister.sink.now)) };

@@ -6,7 +6,7 @@ use Rattle.link_sink.specs.Sinks.{Fed}
 use Rattle.track_sink.specs.Epochs.{IsEnd}
 use Rattle.track_sink.specs.Ends.{one_end}
 use Rattle.track_sink.specs.declared.watch.Cause.{Cause}
-use Rattle.track_sink.specs.declared.watch.Cause.TheVariants.{Slip, Unconfirmed}
+use Rattle.track_sink.specs.declared.watch.Cause.TheVariants.{Slip, Unconfirmed, Refuted}
 use Rattle.relock_sink.specs.Relocks.{IsUnconfirmed, IsLastEpoch, relock_ends}
 use Rattle.relock_sink.specs.Ends.{decided, one, one_unconfirmed}
 use Rattle.relock_laws.specs.Settled.{EndsEpoch}
@@ -33,6 +33,7 @@ unconfirmed_ends fed d e f u = elim (decided fed) [
         let red = same.2 in
         let at = end.forgets in
         (place, (Unconfirmed, end), omega arith)
+    by Refuted place end = absurd end
 
 -- where a lane has a stray it ends, at or before it
 pub stray_ends : (fed : Fed) (lane p : ℕ) → IsEnd fed lane p → (place : ℕ) × EndsEpoch fed place × (place ≤ p)
@@ -44,6 +45,7 @@ stray_ends fed lane p stray = elim (decided fed) [
     by : (cause : Cause) (place : ℕ) → relock_ends fed cause place → (place : ℕ) × EndsEpoch fed place × (place ≤ p)
     by (Slip l) place end = let same = one_end fed l lane place p end.end stray in let at = same.1 in (place, (Slip l, end), omega arith)
     by Unconfirmed place end = let shown = end.before lane p stray in let at = end.forgets in (place, (Unconfirmed, end), omega arith)
+    by Refuted place end = absurd end
 
 pub ends_or_is_last : (fed : Fed) → ((place : ℕ) × EndsEpoch fed place) ⊎ IsLastEpoch fed
 ends_or_is_last fed = elim (decided fed) [

@@ -5,7 +5,7 @@ use Rattle.link_sink.specs.Sinks.{Fed}
 use Rattle.track_sink.specs.Epochs.{most_of, IsEnd}
 use Rattle.track_sink.specs.Ends.{one_end}
 use Rattle.track_sink.specs.declared.watch.Cause.{Cause}
-use Rattle.track_sink.specs.declared.watch.Cause.TheVariants.{Slip, Unconfirmed}
+use Rattle.track_sink.specs.declared.watch.Cause.TheVariants.{Slip, Unconfirmed, Refuted}
 use Rattle.relock_sink.specs.Relocks.{IsUnconfirmed}
 use Rattle.relock_sink.specs.Ends.{one_unconfirmed}
 use Rattle.relock_sink.specs.Rivals.{IsRefuted}
@@ -23,14 +23,14 @@ unconfirmed_leaves fed d e f u = elim (decided fed) [
   where
     by : (cause : Cause) (place : ℕ) → refuting_ends fed cause place → (place : ℕ) × EndsBy refuting_rule fed place × (place + 100 ≤ max d (max e f))
     by (Slip lane) place end = let shown = end.slip.before d e f u in (place, (Slip lane, end), omega arith)
-    by Unconfirmed place (inl end) =
+    by Unconfirmed place end =
         let same = one_unconfirmed fed d e f end.blue end.green end.red u end.unconfirmed in
         let blue = same.0 in
         let green = same.1 in
         let red = same.2 in
         let at = end.forgets in
-        (place, (Unconfirmed, inl end), omega arith)
-    by Unconfirmed place (inr end) = absurd (not_both fed end.own_blue end.own_green end.own_red d e f end.refuted.rival.own u)
+        (place, (Unconfirmed, end), omega arith)
+    by Refuted place end = absurd (not_both fed end.own_blue end.own_green end.own_red d e f end.refuted.rival.own u)
 
 -- where a lane has a stray it ends, at or before it
 pub stray_leaves : (fed : Fed) (lane p : ℕ) → IsEnd fed lane p → (place : ℕ) × EndsBy refuting_rule fed place × (place ≤ p)
@@ -41,8 +41,8 @@ stray_leaves fed lane p stray = elim (decided fed) [
   where
     by : (cause : Cause) (place : ℕ) → refuting_ends fed cause place → (place : ℕ) × EndsBy refuting_rule fed place × (place ≤ p)
     by (Slip l) place end = let same = one_end fed l lane place p end.slip.end stray in let at = same.1 in (place, (Slip l, end), omega arith)
-    by Unconfirmed place (inl end) = let shown = end.before lane p stray in let at = end.forgets in (place, (Unconfirmed, inl end), omega arith)
-    by Unconfirmed place (inr end) = let shown = end.before lane p stray in let at = end.begins in (place, (Unconfirmed, inr end), omega arith)
+    by Unconfirmed place end = let shown = end.before lane p stray in let at = end.forgets in (place, (Unconfirmed, end), omega arith)
+    by Refuted place end = let shown = end.before lane p stray in let at = end.begins in (place, (Refuted, end), omega arith)
 
 -- edges of which the greatest is no greater have no greater least one
 least_not_past : (fed : Fed) (p q r d e f : ℕ) → IsTriple fed.blue fed.green fed.red p q r → IsTriple fed.blue fed.green fed.red d e f
@@ -76,8 +76,8 @@ refuted_leaves fed p q r d e f is shown = elim (decided fed) [
         → ((place : ℕ) × EndsBy refuting_rule fed place × (place + 120 ≤ min d (min e f)))
         ⊎ ((lane place : ℕ) × IsSlipFirst fed lane place × (place + 30 ≤ max d (max e f)))
     by (Slip lane) place end = let before = end.before p q r d e f is in inr (lane, place, end, omega arith)
-    by Unconfirmed place (inl end) = absurd (not_both fed p q r end.blue end.green end.red is.rival.own end.unconfirmed)
-    by Unconfirmed place (inr end) =
+    by Unconfirmed place end = absurd (not_both fed p q r end.blue end.green end.red is.rival.own end.unconfirmed)
+    by Refuted place end =
         let least = least_not_past fed end.blue end.green end.red d e f end.refuted.rival.triple is.rival.triple (end.least p q r d e f is) in
         let at = end.begins in
-        inl (place, (Unconfirmed, inr end), omega arith)
+        inl (place, (Refuted, end), omega arith)

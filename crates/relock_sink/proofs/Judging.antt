@@ -20,7 +20,7 @@ use Rattle.track_sink.specs.declared.watch.LentLanes.{LentLanes}
 use Rattle.track_sink.specs.StrayRule.{stray_is_rule, stray_is_watch}
 use Rattle.track_sink.specs.declared.strays.Strays.{Strays}
 use Rattle.track_sink.specs.declared.watch.Cause.{Cause}
-use Rattle.track_sink.specs.declared.watch.Cause.TheVariants.{Slip, Unconfirmed}
+use Rattle.track_sink.specs.declared.watch.Cause.TheVariants.{Slip, Unconfirmed, Refuted}
 use Rattle.track_sink.specs.declared.watch.End.{End}
 use Rattle.track_sink.specs.Ends.{end_within, one_end}
 use Rattle.relock_sink.specs.Relocks.{IsUnconfirmed, IsLastEpoch, relock_ends}
@@ -145,6 +145,7 @@ none_here w fed limit flag first at long searched =
 pub slip_end : (w : Relock) (fed : Fed) (place : ℕ) (cause : Cause) → stray_ends fed cause place → HasNoDoubt w fed (place + 100) → relock_ends fed cause place
 slip_end w fed place (Slip lane) end doubt = record { end = end; before = λ d e f is. let late = doubt.none d e f is in omega arith }
 slip_end w fed place Unconfirmed end doubt = absurd end
+slip_end w fed place Refuted end doubt = absurd end
 
 -- or by the alignment, where no stray is shown before
 pub doubt_end : (fed : Fed) (limit place : ℕ) → IsDoubt fed limit place → ((lane p : ℕ) → IsEnd fed lane p → limit ≤ p + 100) → relock_ends fed Unconfirmed place
@@ -164,6 +165,7 @@ pub late_after : (fed : Fed) (shown place lane p : ℕ) (cause : Cause) → stra
 late_after fed shown place lane p (Slip l) found end =
     (one_end fed l lane place p (stray_is_rule.stays (front_of shown fed) fed (Slip l) place found (front_grows shown fed)) end).1
 late_after fed shown place lane p Unconfirmed found end = absurd found
+late_after fed shown place lane p Refuted found end = absurd found
 
 -- where the first bits have none
 pub late_past : (fed : Fed) (shown lane p : ℕ) → HasNoEnd (front_of shown fed) → shown ≤ most_of fed → IsEnd fed lane p → shown < p + 120
@@ -179,11 +181,13 @@ late_past fed shown lane p none long end = elim (cases_lt shown (p + 120)) [
 pub slip_within : (fed : Fed) (cause : Cause) (place : ℕ) → stray_ends fed cause place → place + 120 ≤ most_of fed
 slip_within fed (Slip lane) place end = end_within fed lane place end
 slip_within fed Unconfirmed place end = absurd end
+slip_within fed Refuted place end = absurd end
 
 -- it is an end, where the alignment stands
 pub slip_judged : (fed : Fed) (cause : Cause) (place : ℕ) → stray_ends fed cause place → IsJudged fed → relock_ends fed cause place
 slip_judged fed (Slip lane) place end judged = record { end = end; before = λ d e f is. absurd (never_unconfirmed fed d e f judged is) }
 slip_judged fed Unconfirmed place end judged = absurd end
+slip_judged fed Refuted place end judged = absurd end
 
 pub last_judged : (fed : Fed) → HasNoEnd fed → IsJudged fed → IsLastEpoch fed
 last_judged fed none judged = record { no_stray = none; confirmed = λ d e f is. never_unconfirmed fed d e f judged is }

@@ -11,7 +11,7 @@ use Rattle.relock_sink.specs.Growing.{shown_within}
 use Rattle.track_sink.specs.Ends.{end_within, one_end}
 use Rattle.track_sink.specs.Staying.{end_stays}
 use Rattle.track_sink.specs.declared.watch.Cause.{Cause}
-use Rattle.track_sink.specs.declared.watch.Cause.TheVariants.{Slip, Unconfirmed}
+use Rattle.track_sink.specs.declared.watch.Cause.TheVariants.{Slip, Unconfirmed, Refuted}
 use Rattle.track_sink.specs.declared.watch.End.{End}
 use Rattle.relock_sink.specs.Relocks.{IsLastEpoch, relock_ends}
 use Rattle.relock_sink.specs.Ends.{stays as relock_stays, within as relock_within}
@@ -50,6 +50,7 @@ module _ (w : Refuter) (fed : Fed) (shown : ℕ) (looked : HasLooked w fed) (mor
       by : (cause : Cause) → relock_ends (front_of shown fed) cause end.place → (limit_by cause end.place ≡ 0) ⊎ (limit_by cause end.place + 89 ≤ most_of fed)
       by (Slip lane) slip = let h = slip_late lane end.place slip.end in inr (omega (arith, h.1))
       by Unconfirmed is = inl refl
+      by Refuted is = absurd is
 
   pub limit_rises : (now : Relock) (end : Option End) → IsShown now fed shown end → (limit_at end shown ≡ 0) ⊎ (w.rivals.alignments.limit ≤ limit_at end shown)
   limit_rises now None is = let at = looked.limit in inr (omega arith)
@@ -58,6 +59,7 @@ module _ (w : Refuter) (fed : Fed) (shown : ℕ) (looked : HasLooked w fed) (mor
       by : (cause : Cause) → relock_ends (front_of shown fed) cause end.place → (limit_by cause end.place ≡ 0) ⊎ (w.rivals.alignments.limit ≤ limit_by cause end.place)
       by (Slip lane) slip = let h = slip_late lane end.place slip.end in let at = looked.limit in inr (omega (arith, h.0))
       by Unconfirmed is = inl refl
+      by Refuted is = absurd is
 
   pub place_small : (now : Relock) (end : Option End) → IsShown now fed shown end → IfSome end (λ found. found.place < most_of fed)
   place_small now None is = tt
@@ -97,6 +99,7 @@ module _ (fed : Fed) (shown : ℕ) (long : shown ≤ most_of fed) where
           let stays = end_stays (front_of shown fed) fed lane found.place slip.end (front_grows shown fed) in
           refuted_is_end (found.place + 30) place refuted (λ l p end. let same = one_end fed lane l found.place p stays end in let at = same.1 in omega arith)
       by Unconfirmed other refuted = let less = refuted.before in absurd (omega arith)
+      by Refuted other refuted = absurd other
 
   -- where none do, another end is the first, or more is to be looked at
   pub none_found : (w : Refuter) (limit : ℕ) (end : Option End) → IsShown w.relock fed shown end → w.shown ≡ shown → HasSoughtRivals w.rivals fed → w.rivals.alignments.limit ≡ max limit (limit_at end shown) → limit ≤ shown - 89
@@ -121,7 +124,8 @@ module _ (fed : Fed) (shown : ℕ) (long : shown ≤ most_of fed) where
         slip = relock_stays (front_of shown fed) fed (Slip lane) found.place slip (front_grows shown fed);
         before = λ p q r d e f other. let late = rivals.none p q r d e f other in omega arith;
       }
-      by Unconfirmed other is_limit = inl (relock_stays (front_of shown fed) fed Unconfirmed found.place other (front_grows shown fed))
+      by Unconfirmed other is_limit = relock_stays (front_of shown fed) fed Unconfirmed found.place other (front_grows shown fed)
+      by Refuted other is_limit = absurd other
 
 -- where all bits were looked through there is no end
 pub none_left : (w : Refuter) (fed : Fed) → HasLooked w fed → most_of fed ≤ w.shown → IsLastUnrefuted fed

@@ -12,7 +12,7 @@ use Rattle.link_sink.proofs.Decided.{first_decided}
 use Rattle.track_sink.specs.Epochs.{lane_of, most_of, IsEnd, HasNoEnd}
 use Rattle.track_sink.specs.Tracks.{Grows}
 use Rattle.track_sink.specs.declared.watch.Cause.{Cause}
-use Rattle.track_sink.specs.declared.watch.Cause.TheVariants.{Slip, Unconfirmed}
+use Rattle.track_sink.specs.declared.watch.Cause.TheVariants.{Slip, Unconfirmed, Refuted}
 use Rattle.track_sink.specs.Ends.{end_decided, end_is_far, end_within, one_end}
 use Rattle.track_sink.specs.Staying.{end_stays, was_stray}
 use Rattle.relock_sink.specs.Relocks.{is_announced, IsUnconfirmed, shown_at, IsUnconfirmedEnd, IsLastEpoch, relock_ends}
@@ -89,6 +89,7 @@ decided fed = by (end_decided fed) (unconfirmed_decided fed)
 pub excludes : (fed : Fed) (cause : Cause) (place : ℕ) → IsLastEpoch fed → relock_ends fed cause place → ⊥
 excludes fed (Slip lane) place last is = last.no_stray lane is.end.within place is.end.stray
 excludes fed Unconfirmed place last is = last.confirmed is.blue is.green is.red is.unconfirmed
+excludes fed Refuted place last is = is
 
 pub one : (fed : Fed) (c d : Cause) (p q : ℕ) → relock_ends fed c p → relock_ends fed d q → (c ≡ d) × (p ≡ q)
 one fed (Slip l) (Slip m) p q a b = let e = one_end fed l m p q a.end b.end in (λ i. Slip (e.0 i), e.1)
@@ -105,6 +106,8 @@ one fed Unconfirmed Unconfirmed p q a b =
     let x = a.forgets in
     let y = b.forgets in
     (refl, omega arith)
+one fed c Refuted p q a b = absurd b
+one fed Refuted d p q a b = absurd a
 
 -- a stray whose run had arrived was the first before more arrived
 pub end_was : (before now : Fed) (lane place : ℕ) → Grows before now → place + 120 ≤ most_of before → IsEnd now lane place → IsEnd before lane place
@@ -145,6 +148,7 @@ stays before now Unconfirmed place is grows =
         | inr sooner ↦ is.before lane p (end_was before now lane p grows (omega arith) end)
       ];
     }
+stays before now Refuted place is grows = is
 
 pub within : (fed : Fed) (cause : Cause) (place : ℕ) → relock_ends fed cause place → (0 < place) × (place < most_of fed)
 within fed (Slip lane) place is = let far = end_is_far fed lane place is.end in let long = end_within fed lane place is.end in (omega arith, omega arith)
@@ -153,6 +157,7 @@ within fed Unconfirmed place is =
     let long = shown_within fed is.blue is.green is.red is.unconfirmed in
     let at = is.forgets in
     (omega arith, omega arith)
+within fed Refuted place is = absurd is
 
 -- a slip is a lane's
 pub lane_within : (fed : Fed) (lane place : ℕ) → relock_ends fed (Slip lane) place → lane < 3

@@ -6,7 +6,7 @@ use Rattle.track_sink.specs.Epochs.{most_of, front_of, IsEnd}
 use Rattle.track_sink.specs.Tracks.{Grows}
 use Rattle.track_sink.specs.Feds.{most_grows}
 use Rattle.track_sink.specs.declared.watch.Cause.{Cause}
-use Rattle.track_sink.specs.declared.watch.Cause.TheVariants.{Slip, Unconfirmed}
+use Rattle.track_sink.specs.declared.watch.Cause.TheVariants.{Slip, Unconfirmed, Refuted}
 use Rattle.relock_sink.specs.Relocks.{IsUnconfirmed, IsUnconfirmedEnd, IsLastEpoch, shown_at}
 use Rattle.relock_sink.specs.Growing.{unconfirmed_was}
 use Rattle.relock_sink.specs.Ends.{end_was}
@@ -73,8 +73,8 @@ refuted_past w fed place looked is =
 
 pub not_before : (w : Refuter) (fed : Fed) (cause : Cause) (place : ℕ) → HasLooked w fed → refuting_ends fed cause place → refuter_passed w ≤ place
 not_before w fed (Slip lane) place looked is = let late = no_stray_shown fed w.shown lane place looked.within looked.last is.slip.end in omega arith
-not_before w fed Unconfirmed place looked (inl is) = unconfirmed_past w fed place looked is
-not_before w fed Unconfirmed place looked (inr is) = refuted_past w fed place looked is
+not_before w fed Unconfirmed place looked is = unconfirmed_past w fed place looked is
+not_before w fed Refuted place looked is = refuted_past w fed place looked is
 
 pub reaches : (w : Refuter) (fed : Fed) → HasLooked w fed → (refuter_passed w ≡ 0) ⊎ (refuter_passed w + 280 ≤ most_of fed)
 reaches w fed looked = let long = looked.within in elim (cases_lt w.shown 280) [ inl few ↦ inl (omega arith) | inr many ↦ inr (omega arith) ]

@@ -3,7 +3,7 @@ use Rattle.std.specs.Prelude.{◌≡◌, ℕ, ◌+◌, ◌-◌, ◌≤◌, Optio
 use Rattle.link_sink.specs.Sinks.{Fed}
 use Rattle.track_sink.specs.Epochs.{most_of, front_of}
 use Rattle.track_sink.specs.declared.watch.Cause.{Cause}
-use Rattle.track_sink.specs.declared.watch.Cause.TheVariants.{Slip, Unconfirmed}
+use Rattle.track_sink.specs.declared.watch.Cause.TheVariants.{Slip, Unconfirmed, Refuted}
 use Rattle.track_sink.specs.declared.watch.End.{End}
 use Rattle.relock_sink.specs.Relocks.{IsLastEpoch}
 use Rattle.relock_sink.specs.Watches.{HasWatched, passed_of}
@@ -27,6 +27,7 @@ refuter_passed w = w.shown - 280
 abbrev pub limit_by : Cause → ℕ → ℕ
 limit_by (Slip lane) place = place + 30
 limit_by Unconfirmed place = 0
+limit_by Refuted place = 0
 
 -- after the first bits were looked through for another end
 abbrev pub limit_at : Option End → ℕ → ℕ

@@ -1,10 +1,10 @@
 -- When epochs end whose alignment is let go where it is refuted: where they end whose alignment is to be confirmed, or before the
 -- edges that refute it. That an alignment is let go then is this project's own rule.
-use Rattle.std.specs.Prelude.{◌≡◌, ◌⊎◌, ℕ, ◌+◌, ◌<◌, ◌≤◌, max, min}
+use Rattle.std.specs.Prelude.{◌≡◌, ℕ, ◌+◌, ◌<◌, ◌≤◌, max, min}
 use Rattle.link_sink.specs.Sinks.{Fed}
 use Rattle.track_sink.specs.Epochs.{EpochRule, most_of, IsEnd}
 use Rattle.track_sink.specs.declared.watch.Cause.{Cause}
-use Rattle.track_sink.specs.declared.watch.Cause.TheVariants.{Slip, Unconfirmed}
+use Rattle.track_sink.specs.declared.watch.Cause.TheVariants.{Slip, Unconfirmed, Refuted}
 use Rattle.relock_sink.specs.Relocks.{IsSlipEnd, IsUnconfirmedEnd, IsLastEpoch}
 use Rattle.relock_sink.specs.Rivals.{IsRefuted}
 
@@ -40,7 +40,8 @@ pub record IsLastUnrefuted (fed : Fed) : Type 0 where
 
 abbrev pub refuting_ends : Fed → Cause → ℕ → Type 0
 refuting_ends fed (Slip lane) place = IsSlipFirst fed lane place
-refuting_ends fed Unconfirmed place = IsUnconfirmedEnd fed place ⊎ IsRefutedEnd fed place
+refuting_ends fed Unconfirmed place = IsUnconfirmedEnd fed place
+refuting_ends fed Refuted place = IsRefutedEnd fed place
 
 -- an epoch ends so; the bits that show an alignment refuted by edges, which lie 70 bits apart at most, end no more than 280 bits past
 -- the place at which it is left

@@ -10,7 +10,7 @@ use Rattle.track_sink.specs.Ends.{end_within, one_end}
 use Rattle.track_sink.specs.Feds.{most_grows}
 use Rattle.track_sink.specs.Tracks.{Grows}
 use Rattle.track_sink.specs.declared.watch.Cause.{Cause}
-use Rattle.track_sink.specs.declared.watch.Cause.TheVariants.{Slip, Unconfirmed}
+use Rattle.track_sink.specs.declared.watch.Cause.TheVariants.{Slip, Unconfirmed, Refuted}
 use Rattle.relock_sink.specs.Relocks.{IsUnconfirmed, IsSlipEnd, IsUnconfirmedEnd, relock_ends}
 use Rattle.relock_sink.specs.Rivals.{IsConfirmed, IsRefuted}
 use Rattle.relock_sink.specs.Ends.{decided as relock_decided, excludes as relock_excludes, one as one_relock, stays as relock_stays, within as relock_within, end_was}
@@ -70,7 +70,7 @@ pub decided : (fed : Fed) → ((cause : Cause) × (place : ℕ) × refuting_ends
 decided fed = elim (relock_decided fed) [
   | inl end ↦ by end.0 end.1 end.2 (refuted_or_not fed)
   | inr last ↦ elim (refuted_or_not fed) [
-    | inl h ↦ inl (Unconfirmed, min h.3 (min h.4 h.5) - 120, inr (refuted_end fed h.0 h.1 h.2 h.3 h.4 h.5 h.6 (λ lane p end. absurd (last.no_stray lane end.within p end.stray))))
+    | inl h ↦ inl (Refuted, min h.3 (min h.4 h.5) - 120, refuted_end fed h.0 h.1 h.2 h.3 h.4 h.5 h.6 (λ lane p end. absurd (last.no_stray lane end.within p end.stray)))
     | inr none ↦ inr (record { last = last; unrefuted = none })
   ]
 ]
@@ -78,7 +78,7 @@ decided fed = elim (relock_decided fed) [
     sooner : (lane place p q r d e f : ℕ) → IsSlipEnd fed lane place → IsFirstRefuted fed p q r d e f → (refuted_at d e f < place + 120) ⊎ (place + 120 ≤ refuted_at d e f)
         → ((cause : Cause) × (place : ℕ) × refuting_ends fed cause place) ⊎ IsLastUnrefuted fed
     sooner lane place p q r d e f slip first (inl less) =
-        inl (Unconfirmed, min d (min e f) - 120, inr (refuted_end fed p q r d e f first (λ l m end. let s = one_end fed lane l place m slip.end end in omega arith)))
+        inl (Refuted, min d (min e f) - 120, refuted_end fed p q r d e f first (λ l m end. let s = one_end fed lane l place m slip.end end in omega arith))
     sooner lane place p q r d e f slip first (inr more) =
         inl (Slip lane, place, record { slip = slip; before = λ u v w i j k is. let least = first.least u v w i j k is in omega arith })
 
@@ -86,12 +86,13 @@ decided fed = elim (relock_decided fed) [
         → ((cause : Cause) × (place : ℕ) × refuting_ends fed cause place) ⊎ IsLastUnrefuted fed
     by (Slip lane) place end (inl h) = sooner lane place h.0 h.1 h.2 h.3 h.4 h.5 end h.6 (cases_lt (refuted_at h.3 h.4 h.5) (place + 120))
     by (Slip lane) place end (inr none) = inl (Slip lane, place, slip_first fed lane place end none)
-    by Unconfirmed place end other = inl (Unconfirmed, place, inl end)
+    by Unconfirmed place end other = inl (Unconfirmed, place, end)
+    by Refuted place end other = absurd end
 
 pub excludes : (fed : Fed) (cause : Cause) (place : ℕ) → IsLastUnrefuted fed → refuting_ends fed cause place → ⊥
 excludes fed (Slip lane) place none is = relock_excludes fed (Slip lane) place none.last is.slip
-excludes fed Unconfirmed place none (inl is) = relock_excludes fed Unconfirmed place none.last is
-excludes fed Unconfirmed place none (inr is) =
+excludes fed Unconfirmed place none is = relock_excludes fed Unconfirmed place none.last is
+excludes fed Refuted place none is =
     let late = none.unrefuted is.own_blue is.own_green is.own_red is.blue is.green is.red is.refuted in
     let shown = is.shown in
     omega arith
@@ -120,14 +121,14 @@ one_refuted fed p q a b =
 
 pub one : (fed : Fed) (c d : Cause) (p q : ℕ) → refuting_ends fed c p → refuting_ends fed d q → (c ≡ d) × (p ≡ q)
 one fed (Slip l) (Slip m) p q a b = one_relock fed (Slip l) (Slip m) p q a.slip b.slip
-one fed (Slip l) Unconfirmed p q a (inl b) = one_relock fed (Slip l) Unconfirmed p q a.slip b
-one fed (Slip l) Unconfirmed p q a (inr b) = absurd (slip_or_refuted fed l p q a b)
-one fed Unconfirmed (Slip m) p q (inl a) b = one_relock fed Unconfirmed (Slip m) p q a b.slip
-one fed Unconfirmed (Slip m) p q (inr a) b = absurd (slip_or_refuted fed m q p b a)
-one fed Unconfirmed Unconfirmed p q (inl a) (inl b) = one_relock fed Unconfirmed Unconfirmed p q a b
-one fed Unconfirmed Unconfirmed p q (inl a) (inr b) = absurd (unconfirmed_or_refuted fed p q a b)
-one fed Unconfirmed Unconfirmed p q (inr a) (inl b) = absurd (unconfirmed_or_refuted fed q p b a)
-one fed Unconfirmed Unconfirmed p q (inr a) (inr b) = (refl, one_refuted fed p q a b)
+one fed (Slip l) Unconfirmed p q a b = one_relock fed (Slip l) Unconfirmed p q a.slip b
+one fed (Slip l) Refuted p q a b = absurd (slip_or_refuted fed l p q a b)
+one fed Unconfirmed (Slip m) p q a b = one_relock fed Unconfirmed (Slip m) p q a b.slip
+one fed Unconfirmed Unconfirmed p q a b = one_relock fed Unconfirmed Unconfirmed p q a b
+one fed Unconfirmed Refuted p q a b = absurd (unconfirmed_or_refuted fed p q a b)
+one fed Refuted (Slip m) p q a b = absurd (slip_or_refuted fed m q p b a)
+one fed Refuted Unconfirmed p q a b = absurd (unconfirmed_or_refuted fed q p b a)
+one fed Refuted Refuted p q a b = (refl, one_refuted fed p q a b)
 
 pub slip_stays : (before now : Fed) (lane place : ℕ) → IsSlipFirst before lane place → Grows before now → IsSlipFirst now lane place
 slip_stays before now lane place is grows =
@@ -166,13 +167,13 @@ refuted_end_stays before now place is grows =
 
 pub stays : (before now : Fed) (cause : Cause) (place : ℕ) → refuting_ends before cause place → Grows before now → refuting_ends now cause place
 stays before now (Slip lane) place is grows = slip_stays before now lane place is grows
-stays before now Unconfirmed place (inl is) grows = inl (relock_stays before now Unconfirmed place is grows)
-stays before now Unconfirmed place (inr is) grows = inr (refuted_end_stays before now place is grows)
+stays before now Unconfirmed place is grows = relock_stays before now Unconfirmed place is grows
+stays before now Refuted place is grows = refuted_end_stays before now place is grows
 
 pub within : (fed : Fed) (cause : Cause) (place : ℕ) → refuting_ends fed cause place → (0 < place) × (place < most_of fed)
 within fed (Slip lane) place is = relock_within fed (Slip lane) place is.slip
-within fed Unconfirmed place (inl is) = relock_within fed Unconfirmed place is
-within fed Unconfirmed place (inr is) =
+within fed Unconfirmed place is = relock_within fed Unconfirmed place is
+within fed Refuted place is =
     let far = far_refuted fed is.own_blue is.own_green is.own_red is.blue is.green is.red is.refuted in
     let shown = is.shown in
     let at = is.begins in

@@ -9,7 +9,7 @@ use Rattle.lane_deskew.specs.Aligned.{aligned_column}
 use Rattle.link_sink.specs.Sinks.{Fed}
 use Rattle.track_sink.specs.Epochs.{EpochRule, IsEnd, HasNoEnd}
 use Rattle.track_sink.specs.declared.watch.Cause.{Cause}
-use Rattle.track_sink.specs.declared.watch.Cause.TheVariants.{Slip, Unconfirmed}
+use Rattle.track_sink.specs.declared.watch.Cause.TheVariants.{Slip, Unconfirmed, Refuted}
 
 -- whether two columns are the guard band of a period, the first of them as it is sent, of the second all characters but one
 unfoldable pub is_announced : Column → Column → Bool
@@ -51,6 +51,7 @@ pub record IsLastEpoch (fed : Fed) : Type 0 where
 abbrev pub relock_ends : Fed → Cause → ℕ → Type 0
 relock_ends fed (Slip lane) place = IsSlipEnd fed lane place
 relock_ends fed Unconfirmed place = IsUnconfirmedEnd fed place
+relock_ends fed Refuted place = ⊥
 
 -- an epoch ends so; the two columns at an alignment, whose edges lie 70 bits apart at most, end no more than 209 bits past the
 -- place at which it is left

@@ -9,7 +9,7 @@ use Rattle.track_sink.specs.Epochs.{most_of}
 use Rattle.track_sink.specs.Tracks.{Grows}
 use Rattle.track_sink.specs.StrayRule.{stray_is_watch}
 use Rattle.track_sink.specs.declared.watch.Cause.{Cause}
-use Rattle.track_sink.specs.declared.watch.Cause.TheVariants.{Slip, Unconfirmed}
+use Rattle.track_sink.specs.declared.watch.Cause.TheVariants.{Slip, Unconfirmed, Refuted}
 use Rattle.track_sink.specs.Feds.{grows_twice, same_grows, most_grows}
 use Rattle.relock_sink.specs.Relocks.{IsUnconfirmed, relock_ends}
 use Rattle.relock_sink.specs.Watches.{IsJudged, HasNoneWhatever, IsSeeking, HasWatched, passed_of}
@@ -71,6 +71,7 @@ not_before w fed Unconfirmed place looked is = by w.is_judged looked.judged
           | inl none ↦ let z = none.0 in omega arith
           | inr some ↦ omega arith
         ]
+not_before w fed Refuted place looked is = absurd is
 
 pub reaches : (w : Relock) (fed : Fed) → HasWatched w fed → (passed_of w ≡ 0) ⊎ (passed_of w + 209 ≤ most_of fed)
 reaches w fed looked = elim looked.sought.decided [

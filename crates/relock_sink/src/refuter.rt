@@ -92,7 +92,7 @@ impl Refuter {
         self.shown = shown;
         match self.rivals.look(lanes, limit) {
             Some(place) => Some(End {
-                cause: Cause::Unconfirmed,
+                cause: Cause::Refuted,
                 place,
             }),
             None => end,
@@ -108,7 +108,7 @@ fn limit_of(end: Option<End>, shown: u64) -> u64
     match end {
         Some(found) => match found.cause {
             Cause::Slip(_) => found.place + AHEAD,
-            Cause::Unconfirmed => 0,
+            Cause::Unconfirmed | Cause::Refuted => 0,
         },
         None => shown.saturating_sub(SHOWN - 1),
     }

@@ -3,15 +3,15 @@ ghost use Rattle.std.specs.Prelude.{◌≡◌, ◌+◌, ◌≤◌, ◌%◌, true
 ghost use Rattle.track_sink.specs.TrackSinks.{bits_fed};
 
 mod cases;
+mod ends;
 mod refuted_rows;
 mod rows;
-mod slips;
 
 use crate::{Refuter, Relock};
 use cases::{Case, case_of};
+use ends::Ends;
 use outside_io::Failed;
 use rows::CASES;
-use slips::Slips;
 use std::alloc::Global;
 use std::process::Abort;
 use std::test::*;
@@ -29,7 +29,7 @@ fn feed_next<R: Threads, W: Watch>(
     case: &Case,
     from: u32,
     most: u32,
-    slips: &mut Slips,
+    ends: &mut Ends,
 ) -> Result<(), Failed>
     requires open { sink.old.is_open ≡ true }
     requires whole { from % 8 ≡ 0 }
@@ -60,7 +60,7 @@ fn feed_next<R: Threads, W: Watch>(
         red,
         bits: [x, y, z],
     };
-    sink.feed(rt, lanes, slips)
+    sink.feed(rt, lanes, ends)
 }
 
 /// The bytes of so many bits from a place on.
@@ -78,7 +78,7 @@ fn feed_all<R: Threads, W: Watch>(
     sink: &mut EpochSink<W>,
     case: &Case,
     most: u32,
-    slips: &mut Slips,
+    ends: &mut Ends,
 ) -> Result<TrackOutcome, Failed>
     requires open { sink.old.is_open ≡ true }
     requires blue { bits_fed sink.old 0 ≡ 0 }
@@ -91,27 +91,25 @@ fn feed_all<R: Threads, W: Watch>(
         if most == 0 || most > 32768 || most % 8 != 0 || from > 1_000_000 {
             return Err(Failed);
         }
-        feed_next(rt, sink, case, from, most, slips)?;
+        feed_next(rt, sink, case, from, most, ends)?;
         from += most;
     }
-    sink.finish(rt, slips)
+    sink.finish(rt, ends)
 }
 
 /// That three lanes have these epochs, in feeds of each size.
 fn expect<R: Threads + Abort, W: Watch>(rt: &R, alloc: Global, case: &Case) -> Result<(), Fail> {
     for most in PIECES {
-        let mut slips = Slips::new();
+        let mut ends = Ends::new();
         let mut sink = EpochSink::<W>::open(alloc)?;
         let outcome = TrackOutcome {
             epochs: case.epochs,
             aligned: case.aligned,
         };
-        assert_eq!(rt;
-            feed_all(rt, &mut sink, case, most, &mut slips),
-            Ok(outcome)
-        );
+        assert_eq!(rt; feed_all(rt, &mut sink, case, most, &mut ends), Ok(outcome));
         assert!(rt; !sink.is_open());
-        assert_eq!(rt; slips.count, case.slips);
+        assert_eq!(rt; ends.slips, case.slips);
+        assert_eq!(rt; ends.refuted, case.refuted);
     }
     Ok(())
 }

@@ -11,7 +11,7 @@ use Rattle.track_sink.specs.Rules.{IsRule}
 use Rattle.track_sink.specs.StrayRule.{stray_is_rule}
 use Rattle.track_sink.specs.Tracks.{Grows, TracksBy, HasTrackedBy, HasTracked}
 use Rattle.track_sink.specs.declared.watch.Cause.{Cause}
-use Rattle.track_sink.specs.declared.watch.Cause.TheVariants.{Slip, Unconfirmed}
+use Rattle.track_sink.specs.declared.watch.Cause.TheVariants.{Slip, Unconfirmed, Refuted}
 use Rattle.track_sink.specs.Feds.{no_longer, longest_is, fronts_stay, rest_grows, whole_front}
 use Rattle.track_sink.specs.Staying.{was_stray}
 use Rattle.track_sink.proofs.Following.{track_events_both}
@@ -114,6 +114,7 @@ stray_shown before now (Slip lane) place none grows end = elim (cases_lt (place 
       absurd (none lane end.within place (was_stray (lane_of before lane) (lane_of now lane) g.0 place g.1 known end.stray))
 ]
 stray_shown before now Unconfirmed place none grows end = absurd end
+stray_shown before now Refuted place none grows end = absurd end
 
 pub reported_starts : (fed : Fed) (reported : List TrackEvent) → HasTracked fed reported
     → (later : Fed) → Grows fed later → (n m : ℕ) (all : List TrackEvent) → IsTrack later n m all → (rest : List TrackEvent) × (all ≡ reported ++ rest)

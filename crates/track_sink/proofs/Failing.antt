@@ -12,7 +12,7 @@ use Rattle.link_sink.specs.LinkHearing.{link_is_grammar}
 use Rattle.link_sink.specs.Sinks.{Fed, IsReportedSoFar, IsGain, IsLast}
 use Rattle.link_sink.specs.declared.hear.Outcome.{Outcome}
 use Rattle.link_sink.proofs.Following.{reported_one}
-use Rattle.track_sink.specs.TrackEvents.{TrackEvent, event, slip, track_events_of, slip_if, end_events}
+use Rattle.track_sink.specs.TrackEvents.{TrackEvent, event, slip, relock, track_events_of, slip_if, relock_if, end_events}
 use Rattle.track_sink.specs.Epochs.{EpochRule, most_of, rest_of, front_of, IsTrackBy}
 use Rattle.track_sink.specs.Rules.{IsRule, IsWatch}
 use Rattle.track_sink.specs.Trackers.{HasReported, Carries, HasLooked, CanClose, CanTurn, IsSettled, Stops, Passes}
@@ -43,19 +43,29 @@ LostMore r tracked lost x z fed reported = (more : List TrackEvent) × Stops tra
 abbrev pub LostLast : EpochRule → {A : Type 0} → (A → A → List TrackEvent → Type 0) → (A → A → TrackEvent → Type 0) → A → A → Fed → List TrackEvent → Type 0
 LostLast r tracked lost x z fed reported = (epochs aligned : ℕ) × (last : List TrackEvent) × Stops tracked lost x z last × IsTrackBy r fed epochs aligned (reported ++ last)
 
--- it failed in a slip, where one is reported
-pub stops_slip : {A T E : Type 0} (tracked : A → A → List TrackEvent → Type 0) (lost : A → A → TrackEvent → Type 0) → ((x : A) → tracked x x []) → (x z : A) (begun : Bool) (lane place : ℕ) (r : Result T E) → begun ≡ true
-    → OnErr r (lost x z (slip lane place)) → OnErr r (Stops tracked lost x z (slip_if begun lane place))
-stops_slip tracked lost none x z begun lane place (Ok y) some l = tt
-stops_slip tracked lost none x z begun lane place (Err e) some l = record {
+-- it failed in what is reported alone
+stops_alone : {A T E : Type 0} (tracked : A → A → List TrackEvent → Type 0) (lost : A → A → TrackEvent → Type 0) → ((x : A) → tracked x x []) → (x z : A) (t : TrackEvent) (told : List TrackEvent) (r : Result T E) → told ≡ t ∷ []
+    → OnErr r (lost x z t) → OnErr r (Stops tracked lost x z told)
+stops_alone tracked lost none x z t told (Ok y) are l = tt
+stops_alone tracked lost none x z t told (Err e) are l = record {
   taken = [];
-  next = slip lane place;
+  next = t;
   rest = [];
-  track_events_are = ap (λ b. slip_if b lane place) some;
+  track_events_are = are;
   between = x;
   took_some = none x;
   lost_then = l;
 }
+
+-- in a slip, where one is reported
+pub stops_slip : {A T E : Type 0} (tracked : A → A → List TrackEvent → Type 0) (lost : A → A → TrackEvent → Type 0) → ((x : A) → tracked x x []) → (x z : A) (begun : Bool) (lane place : ℕ) (r : Result T E) → begun ≡ true
+    → OnErr r (lost x z (slip lane place)) → OnErr r (Stops tracked lost x z (slip_if begun lane place))
+stops_slip tracked lost none x z begun lane place r some l = stops_alone tracked lost none x z (slip lane place) (slip_if begun lane place) r (ap (λ b. slip_if b lane place) some) l
+
+-- in a refuted alignment, where one is reported
+pub stops_relock : {A T E : Type 0} (tracked : A → A → List TrackEvent → Type 0) (lost : A → A → TrackEvent → Type 0) → ((x : A) → tracked x x []) → (x z : A) (begun : Bool) (place : ℕ) (r : Result T E) → begun ≡ true
+    → OnErr r (lost x z (relock place)) → OnErr r (Stops tracked lost x z (relock_if begun place))
+stops_relock tracked lost none x z begun place r some l = stops_alone tracked lost none x z (relock place) (relock_if begun place) r (ap (λ b. relock_if b place) some) l
 
 module _ {A : Type 0} (took : A → A → List Event → Type 0) (broke : A → A → Event → Type 0) (tracked : A → A → List TrackEvent → Type 0) (lost : A → A → TrackEvent → Type 0)
     (events : (x y : A) (h : List Event) → took x y h ↔ tracked x y (track_events_of h)) (lost_event : (x y : A) (t : Event) → broke x y t ↔ lost x y (event t))

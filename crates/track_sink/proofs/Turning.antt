@@ -17,7 +17,7 @@ use Rattle.track_sink.specs.declared.lane.Lane.{Lane}
 use Rattle.track_sink.specs.declared.lanes.Lanes.{Lanes}
 use Rattle.track_sink.specs.declared.tracker.Tracker.{Tracker}
 use Rattle.track_sink.specs.declared.watch.Cause.{Cause}
-use Rattle.track_sink.specs.declared.watch.Cause.TheVariants.{Slip, Unconfirmed}
+use Rattle.track_sink.specs.declared.watch.Cause.TheVariants.{Slip, Unconfirmed, Refuted}
 use Rattle.track_sink.specs.declared.watch.End.{End}
 use Rattle.track_sink.specs.Feds.{most_rest}
 use Rattle.track_sink.proofs.Following.{follows_closed, follows_handed}
@@ -41,6 +41,7 @@ end_place is fed start cause place reached end = let inside = is.within (rest_of
 pub is_lane : {r : EpochRule} → IsRule r → (fed : Fed) (cause : Cause) (place : ℕ) → r.ends fed cause place → IsLane cause
 is_lane is fed (Slip lane) place end = is.lane fed lane place end
 is_lane is fed Unconfirmed place end = tt
+is_lane is fed Refuted place end = tt
 
 one_at_most : (b : Bool) → one_if b ≤ 1
 unfolding one_if

@@ -9,7 +9,7 @@ use Rattle.link_sink.specs.declared.hear.Outcome.{Outcome}
 use Rattle.lane_track.specs.Strays.{IsStray, HasNoStray}
 use Rattle.track_sink.specs.TrackEvents.{TrackEvent, track_events_of, end_events}
 use Rattle.track_sink.specs.declared.watch.Cause.{Cause}
-use Rattle.track_sink.specs.declared.watch.Cause.TheVariants.{Slip, Unconfirmed}
+use Rattle.track_sink.specs.declared.watch.Cause.TheVariants.{Slip, Unconfirmed, Refuted}
 
 abbrev pub lane_of : Fed → ℕ → List Bool
 lane_of fed zero = fed.blue
@@ -50,6 +50,7 @@ HasNoEnd fed = (l : ℕ) → l < 3 → HasNoStray (lane_of fed l)
 abbrev pub stray_ends : Fed → Cause → ℕ → Type 0
 stray_ends fed (Slip lane) place = IsEnd fed lane place
 stray_ends fed Unconfirmed place = ⊥
+stray_ends fed Refuted place = ⊥
 
 -- an epoch ends at the first stray: the bits of a run from there on show it, all but the last one beyond the place itself
 abbrev pub stray_rule : EpochRule

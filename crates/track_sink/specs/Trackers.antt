@@ -16,7 +16,7 @@ use Rattle.track_sink.specs.declared.lane.Lane.{Lane}
 use Rattle.track_sink.specs.declared.lanes.Lanes.{Lanes}
 use Rattle.track_sink.specs.declared.tracker.Tracker.{Tracker}
 use Rattle.track_sink.specs.declared.watch.Cause.{Cause}
-use Rattle.track_sink.specs.declared.watch.Cause.TheVariants.{Slip, Unconfirmed}
+use Rattle.track_sink.specs.declared.watch.Cause.TheVariants.{Slip, Unconfirmed, Refuted}
 use Rattle.track_sink.specs.declared.watch.End.{End}
 
 -- these events are reported: so many epochs are closed, so many of them aligned, the next begins at a place, and of
@@ -97,6 +97,7 @@ pub record CanTurn (r : EpochRule) (t : Tracker) (fed : Fed) (end : End) : Type 
 abbrev pub IsLane : Cause → Type 0
 IsLane (Slip lane) = lane < 3
 IsLane Unconfirmed = ⊤
+IsLane Refuted = ⊤
 
 -- it has reported these events, and goes on
 pub record Stands {W : Type 0} (r : EpochRule) (looked : W → Fed → Type 0) (passed : W → ℕ) (t : Tracker) (w : W) (fed : Fed) (reported : List TrackEvent) : Type 0 where

@@ -156,6 +156,7 @@ fn tell_end<E: TrackEar>(ear: &mut E, begun: bool, cause: Cause, place: u64) -> 
 {
     match cause {
         Cause::Slip(lane) if begun => ear.slip(lane, place),
+        Cause::Refuted if begun => ear.relock(place),
         _ => Ok(()),
     }
 }

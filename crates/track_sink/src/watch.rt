@@ -12,6 +12,8 @@ pub enum Cause {
     Slip(u8),
     /// The alignment was not confirmed.
     Unconfirmed,
+    /// The alignment was refuted by a later one.
+    Refuted,
 }
 
 /// An end of an epoch: why, and the place of the epoch at which the next one begins.

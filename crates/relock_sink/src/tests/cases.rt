@@ -3,7 +3,8 @@
 use std::alloc::Global;
 use std::test::*;
 
-/// Three lanes, how many epochs they have, how many of these are aligned, and how many slips are reported.
+/// Three lanes, how many epochs they have, how many of these are aligned, and how many slips and refuted alignments
+/// are reported.
 #[derive(Drop)]
 pub struct Case {
     pub bits: [u32; 3],
@@ -11,6 +12,7 @@ pub struct Case {
     pub epochs: u64,
     pub aligned: u64,
     pub slips: u64,
+    pub refuted: u64,
 }
 
 /// How many bits a lane has, and its bytes.
@@ -26,6 +28,7 @@ pub fn case_of(alloc: Global, text: &str) -> Result<Case, Fail> {
     let epochs = head.next().ok_or("no epochs")?.parse()?;
     let aligned = head.next().ok_or("none aligned")?.parse()?;
     let slips = head.next().ok_or("no slips")?.parse()?;
+    let refuted = head.next().unwrap_or("0").parse()?;
     let (x, a) = lane_of(alloc, lines.next().ok_or("no lane")?)?;
     let (y, b) = lane_of(alloc, lines.next().ok_or("one lane")?)?;
     let (z, c) = lane_of(alloc, lines.next().ok_or("two lanes")?)?;
@@ -35,5 +38,6 @@ pub fn case_of(alloc: Global, text: &str) -> Result<Case, Fail> {
         epochs,
         aligned,
         slips,
+        refuted,
     })
 }

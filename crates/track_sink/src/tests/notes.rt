@@ -102,6 +102,10 @@ impl TrackEar for Notes {
         self.note([10, u64::from(lane), place])
     }
 
+    fn relock(&mut self, place: u64) -> Result<(), Failed> {
+        self.note([11, place, 0])
+    }
+
     ghost tracked_none = { λ _. tt };
 
     ghost tracked_both = { λ _ _ _ _ _ _ _. tt };

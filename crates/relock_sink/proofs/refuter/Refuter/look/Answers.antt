@@ -1,4 +1,4 @@
-use Rattle.std.proofs.Common.{◌≡◌, ◌⊎◌, ℕ, ◌+◌, ◌≤◌, max, refl, sym, subst, arith, inr}
+use Rattle.std.proofs.Common.{◌≡◌, ◌⊎◌, ℕ, ◌+◌, ◌≤◌, max, refl, sym, subst, arith}
 use Rattle.track_sink.specs.Epochs.{most_of, front_of}
 use Rattle.relock_sink.specs.RivalSearches.{IsRefutedBefore}
 use Rattle.relock_sink.specs.declared.refuter.Refuter.{Refuter}
@@ -35,8 +35,8 @@ returns-in-Some-clause-found c = λ fed lent looked long.
     let is = c.next_end-end.ensures.found (front_of c.args.shown fed) (c.front.ensures.lent fed lent) (watched_on c.args.self.now fed c.args.shown looked c.requires.more) in
     let P : ℕ → Type 0 = λ n. (n ≡ 0) ⊎ (n + 89 ≤ most_of fed) in
     let within = subst P (sym c.limit_of-limit.ensures) (limit_within c.args.self.now fed c.args.shown looked c.requires.more long c.next_end-end.new.self c.next_end-end.result is) in
-    inr (refuted_found fed c.args.shown long c.next_end-end.new.self c.next_end-end.result c.in-Some.place is
-    (subst (λ n. IsRefutedBefore fed n c.in-Some.place) c.limit_of-limit.ensures (c.in-Some.ensures.found fed lent looked.rivals within)))
+    refuted_found fed c.args.shown long c.next_end-end.new.self c.next_end-end.result c.in-Some.place is
+    (subst (λ n. IsRefutedBefore fed n c.in-Some.place) c.limit_of-limit.ensures (c.in-Some.ensures.found fed lent looked.rivals within))
 
 pub returns-in-None-clause-found : goal.returns-in-None-clause-found
 returns-in-None-clause-found c = λ fed lent looked long.

@@ -1,4 +1,4 @@
-//! An ear that counts slips.
+//! An ear that counts the ends of epochs that are reported.
 ghost use Rattle.std.specs.Prelude.{⊤};
 ghost use Rattle.outside_io.specs.Causes.{HasCause};
 
@@ -7,19 +7,23 @@ use outside_io::Failed;
 use period_grammar::EventRef;
 use track_sink::TrackEar;
 
-/// How many slips were reported to it.
+/// How many slips and how many refuted alignments were reported to it.
 #[derive(Drop)]
-pub struct Slips {
-    pub count: u64,
+pub struct Ends {
+    pub slips: u64,
+    pub refuted: u64,
 }
 
-impl Slips {
-    pub fn new() -> Slips {
-        Slips { count: 0 }
+impl Ends {
+    pub fn new() -> Ends {
+        Ends {
+            slips: 0,
+            refuted: 0,
+        }
     }
 }
 
-impl Ear for Slips {
+impl Ear for Ends {
     ghost faults = { λ _. 0 };
 
     ghost took = { λ _ _ _. ⊤ };
@@ -54,13 +58,18 @@ impl Ear for Slips {
     ghost forgets = { λ _ _ _ _. tt };
 }
 
-impl TrackEar for Slips {
+impl TrackEar for Ends {
     ghost tracked = { λ _ _ _. ⊤ };
 
     ghost lost = { λ _ _ _. ⊤ };
 
     fn slip(&mut self, _: u8, _: u64) -> Result<(), Failed> {
-        self.count = self.count.saturating_add(1);
+        self.slips = self.slips.saturating_add(1);
+        Ok(())
+    }
+
+    fn relock(&mut self, _: u64) -> Result<(), Failed> {
+        self.refuted = self.refuted.saturating_add(1);
         Ok(())
     }
 
