@@ -3,7 +3,7 @@ ghost use Rattle.std.specs.Prelude.{◌≡◌, ◌<◌, ◌≤◌, ◌+◌, ◌*
 ghost use Rattle.tmds_word.specs.Bits.{bytes_bits};
 ghost use Rattle.lane_align.specs.Lanes.{IsLock};
 ghost use Rattle.lane_track.specs.Scouts.{HoldsBits};
-ghost use Rattle.lane_edges.specs.Finders.{HasScanned, IsFound, run_after};
+ghost use Rattle.lane_edges.specs.Finders.{HasScanned, HasNoEdge, IsFound, run_after};
 
 use crate::word_at;
 use lane_align::RUN_BITS;
@@ -11,6 +11,12 @@ use terc4::{RUN, is_control_word};
 
 /// How many control words are counted: as many as an edge has before it.
 const ENOUGH: u8 = RUN as u8;
+
+/// How many bits a character has.
+const WORD_BITS: u64 = 10;
+
+/// From the first of so many characters to the last.
+const SPAN: u64 = RUN_BITS as u64 - WORD_BITS;
 
 /// How far the characters of a lane were looked through for its edges.
 #[derive(Clone, Copy, Debug)]
@@ -58,13 +64,76 @@ impl EdgeFinder {
             let place = self.next;
             let run = self.run;
             let control = is_control_word(word_at(bytes, skip + (place - base) as u32));
-            self.next = place + 10;
+            self.next = place + WORD_BITS;
             self.run = counted(run, control);
             if !control && run >= ENOUGH {
                 return Some(place);
             }
+            self.pass(bytes, skip, base, until);
         }
         None
+    }
+
+    /// Passes characters that are no edges, where none or twelve control words run up to the next one.
+    fn pass(&mut self, bytes: &[u8], skip: u32, base: u64, until: u64)
+        requires after { base ≤ self.old.next }
+        requires room { self.old.next < until → skip + until + 23 ≤ base + 8 * length bytes.now }
+        requires small { skip + until < base + 2 ^ 31 }
+        requires total { until + 10 < 2 ^ 64 }
+        ensures rises { self.old.next ≤ self.new.next }
+        ensures near { self.new.next ≤ max self.old.next (until + 9) }
+        ensures passed { (xs : List Bool) (lock count from : ℕ) → HoldsBits (drop skip (bytes_bits bytes.now)) xs base count → until + 9 ≤ base + count
+            → HasScanned xs lock self.old → HasNoEdge xs from self.old.next → HasScanned xs lock self.new × HasNoEdge xs from self.new.next }
+    {
+        if self.run == 0 {
+            self.pass_others(bytes, skip, base, until);
+        } else if self.run == ENOUGH {
+            self.pass_controls(bytes, skip, base, until);
+        }
+    }
+
+    /// The same where none run up to it: twelve characters at a time, of which the last is no control word. No edge is among them,
+    /// since the one before them is none either.
+    fn pass_others(&mut self, bytes: &[u8], skip: u32, base: u64, until: u64)
+        requires none { self.old.run ≡ 0 }
+        requires after { base ≤ self.old.next }
+        requires room { self.old.next < until → skip + until + 23 ≤ base + 8 * length bytes.now }
+        requires small { skip + until < base + 2 ^ 31 }
+        requires total { until + 10 < 2 ^ 64 }
+        ensures rises { self.old.next ≤ self.new.next }
+        ensures near { self.new.next ≤ max self.old.next (until + 9) }
+        ensures passed { (xs : List Bool) (lock count from : ℕ) → HoldsBits (drop skip (bytes_bits bytes.now)) xs base count → until + 9 ≤ base + count
+            → HasScanned xs lock self.old → HasNoEdge xs from self.old.next → HasScanned xs lock self.new × HasNoEdge xs from self.new.next }
+    {
+        let end = until.saturating_sub(SPAN);
+        'stretches: while self.next < end {
+            let last = self.next + SPAN;
+            if is_control_word(word_at(bytes, skip + (last - base) as u32)) {
+                return;
+            }
+            self.next = last + WORD_BITS;
+        }
+    }
+
+    /// The same where twelve do: control words.
+    fn pass_controls(&mut self, bytes: &[u8], skip: u32, base: u64, until: u64)
+        requires full { self.old.run ≡ 12 }
+        requires after { base ≤ self.old.next }
+        requires room { self.old.next < until → skip + until + 23 ≤ base + 8 * length bytes.now }
+        requires small { skip + until < base + 2 ^ 31 }
+        requires total { until + 10 < 2 ^ 64 }
+        ensures rises { self.old.next ≤ self.new.next }
+        ensures near { self.new.next ≤ max self.old.next (until + 9) }
+        ensures passed { (xs : List Bool) (lock count from : ℕ) → HoldsBits (drop skip (bytes_bits bytes.now)) xs base count → until + 9 ≤ base + count
+            → HasScanned xs lock self.old → HasNoEdge xs from self.old.next → HasScanned xs lock self.new × HasNoEdge xs from self.new.next }
+    {
+        'controls: while self.next < until {
+            let next = self.next;
+            if !is_control_word(word_at(bytes, skip + (next - base) as u32)) {
+                return;
+            }
+            self.next = next + WORD_BITS;
+        }
     }
 }
 

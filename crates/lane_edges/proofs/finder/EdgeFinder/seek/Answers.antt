@@ -18,15 +18,17 @@ characters-preserved c =
       | else-not-control-via-then-not-control+else-run-ge-ENOUGH w ↦ let few = w.if-run-ge-ENOUGH.false in omega arith
       | else-not-control-via-else-not-control w ↦ let is = w.if-not-control.false in cc
     ] in
+    let up = c.pass.ensures.rises in
+    let low = c.pass.ensures.near in
     record {
       rises = omega arith;
       near = omega arith;
       none = λ xs lock count holds long was.
           let here = c.characters.invariant.none xs lock count holds long was in
-          let is = read_control (bytes_bits c.args.bytes.now) xs c.args.skip c.args.base count finder.next c.word_at.result control holds after (omega arith) c.word_at.ensures c.is_control_word-control.ensures in (
-            scanned_more xs lock finder _ control here.0 refl c.counted-self.ensures (long_enough xs _ c.args.base count finder.next holds (omega arith)) is,
-            none_more xs lock c.args.self.now.next finder control here.0 is other here.1,
-          );
+          let is = read_control (bytes_bits c.args.bytes.now) xs c.args.skip c.args.base count finder.next c.word_at.result control holds after (omega arith) c.word_at.ensures c.is_control_word-control.ensures in
+          c.pass.ensures.passed xs lock count c.args.self.now.next holds long
+          (scanned_more xs lock finder _ control here.0 refl c.counted-self.ensures (long_enough xs _ c.args.base count finder.next holds (omega arith)) is)
+          (none_more xs lock c.args.self.now.next finder control here.0 is other here.1);
     }
 
 pub returns-then-run-ge-ENOUGH-clause-found : goal.returns-then-run-ge-ENOUGH-clause-found

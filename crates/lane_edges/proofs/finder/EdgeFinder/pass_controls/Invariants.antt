@@ -1,0 +1,18 @@
+use Rattle.std.proofs.Common.{◌≡◌, ◌+◌, ◌-◌, ◌≤◌, ℕ, max, Bool, List, drop}
+use Rattle.tmds_word.specs.Bits.{bytes_bits}
+use Rattle.lane_track.specs.Scouts.{HoldsBits}
+use Rattle.lane_edges.specs.Finders.{HasScanned, HasNoEdge}
+use Rattle.lane_edges.proofs.finder.EdgeFinder.pass_controls.Given as goal
+
+abbrev pub invariant-controls : goal.invariant-controls
+invariant-controls l = record {
+  rises : l.initial.self.next ≤ l.self.next;
+  near : l.self.next ≤ max l.initial.self.next (l.until + 9);
+  full : l.self.run ≡ 12;
+  passed :
+      (xs : List Bool) (lock count from : ℕ) → HoldsBits (drop l.skip (bytes_bits l.bytes)) xs l.base count → l.until + 9 ≤ l.base + count
+      → HasScanned xs lock l.initial.self → HasNoEdge xs from l.initial.self.next → HasScanned xs lock l.self × HasNoEdge xs from l.self.next;
+}
+
+abbrev pub decreases-controls : goal.decreases-controls
+decreases-controls l = l.until - l.self.next
