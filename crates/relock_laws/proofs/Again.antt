@@ -65,7 +65,7 @@ columns_moved z n m k d e f xs ys zs us vs ws a b c dz ez fz dn em fk =
     λ i. columns_of (x i) (y i) (w i)
 
 -- the nineteen characters are there
-long_lane : (xs : List Bool) (e : ℕ) → EndsNineteen xs e → e ≤ length xs
+pub long_lane : (xs : List Bool) (e : ℕ) → EndsNineteen xs e → e ≤ length xs
 long_lane xs e good =
     let begins = good.begins in
     let last = control_within xs (e - 190 + 10 * 18) (good.controls 18 (omega arith)) in

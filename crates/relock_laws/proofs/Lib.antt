@@ -19,4 +19,5 @@ pub mod RefutingEnding
 pub mod RefutingSettling
 pub mod RefutingAgain
 pub mod WholeExample
+pub mod AccountEnds
 pub mod SkewColumns

@@ -1,10 +1,9 @@
 -- A tap after any bits: the epoch that has the skew of a good control period of it is refuted by no edges, neither earlier nor later ones.
-use Rattle.std.proofs.Common.{◌≡◌, ℕ, ◌+◌, ◌-◌, ◌*◌, ◌/◌, ◌<◌, ◌≤◌, Bool, List, drop, ◌∙◌, subst, arith, inl, inr}
+use Rattle.std.proofs.Common.{◌≡◌, ℕ, ◌+◌, ◌-◌, ◌*◌, ◌/◌, ◌≤◌, Bool, List, drop, ◌∙◌, arith, inl, inr, length-drop}
 use Rattle.std.proofs.lemmas.Bool.{cases_lt}
 use Rattle.tmds_word.specs.Bits.{window}
 use Rattle.tmds_word.specs.Column.{Column}
-use Rattle.lane_align.specs.Lanes.{HasControl, IsEdge}
-use Rattle.lane_align.proofs.Controls.{not_both}
+use Rattle.lane_align.specs.Lanes.{IsEdge}
 use Rattle.lane_deskew.specs.Triples.{IsTriple}
 use Rattle.lane_deskew.specs.Aligned.{column_from, aligned_column}
 use Rattle.island_pack.specs.Periods.{Period}
@@ -14,66 +13,38 @@ use Rattle.track_sink.specs.Epochs.{rest_of}
 use Rattle.track_sink.specs.declared.watch.Cause.TheVariants.{Slip}
 use Rattle.relock_sink.specs.Rivals.{HaveSameSkew, IsRefuted, OpensNothing, middle, columns_before}
 use Rattle.relock_sink.specs.Refuting.{refuting_rule}
-use Rattle.relock_laws.specs.Settled.{IsAgain}
-use Rattle.relock_laws.specs.Refuted.{GoesOn}
-use Rattle.relock_laws.specs.RefutingSettled.{IsWholeGoodPeriod, IsSettledBy, SameSkewIsLast, RecoversUnrefuted}
-use Rattle.relock_laws.proofs.Again.{accounted, accounted_there, calm_again}
+use Rattle.relock_laws.specs.Settled.{IsAgain, IsGoodPeriod}
+use Rattle.relock_laws.specs.RefutingSettled.{IsSettledBy, SameSkewIsLast, RecoversUnrefuted}
+use Rattle.relock_laws.proofs.Again.{accounted, accounted_there, calm_again, long_lane}
 use Rattle.relock_laws.proofs.Ending.{none_unconfirmed}
 use Rattle.relock_laws.proofs.GoodPeriod.{HasLast, earlier_edge}
 use Rattle.relock_laws.proofs.Refuting.{whole_apart}
 use Rattle.relock_laws.proofs.RefutingEnding.{refuted_leaves}
-use Rattle.relock_laws.proofs.RefutingSettling.{EndsLateBy, late_by, long_after, rest_goes_on, settles_unrefuted, settled_has_skew, settled_no_stray}
+use Rattle.relock_laws.proofs.RefutingSettling.{EndsLateBy, late_by, settles_unrefuted, settled_has_skew, settled_no_stray}
 use Rattle.relock_laws.proofs.Settling.{least_of, HaveLast, have_last, triple_at}
 use Rattle.relock_laws.proofs.Standing.{columns_open, refuted_first}
 use Rattle.relock_laws.proofs.Unrefuted.{last_unrefuted}
 
 -- Where edges lie.
 
--- after fifteen characters that are no control characters no edge lies before twelve more
-later_edge : (xs : List Bool) (d i : ℕ) → IsEdge xs d → GoesOn xs d → IsEdge xs i → d < i → d + 270 ≤ i
-later_edge xs d i own on edge past =
-    let same = whole_apart xs d i own edge in
-    let far = edge.past in
-    elim (cases_lt i (d + 270)) [
-      | inr done ↦ done
-      | inl near ↦ elim (cases_lt d (i - 120)) [
-        | inl after ↦
-            let k = (i - 120 - d) / 10 in
-            let at : i - 120 + 10 * 0 ≡ d + 10 * k = omega arith in
-            both k (omega arith) (subst (HasControl xs) at (edge.run 0 (omega arith)))
-        | inr before ↦
-            let k = (d + 120 - i) / 10 in
-            let at : i - 120 + 10 * k ≡ d + 10 * 0 = omega arith in
-            both 0 (omega arith) (subst (HasControl xs) at (edge.run k (omega arith)))
-      ]
-    ]
-  where
-    both : (k : ℕ) → k < 15 → HasControl xs (d + 10 * k) → d + 270 ≤ i
-    both k lt has = absurd (not_both xs (d + 10 * k) has.word has.here (on.payload k has.word lt has.here) has)
-
--- an edge of the epoch: before the nineteen characters, at their end, or past the fifteen after them
+-- an edge of the epoch lies before the nineteen characters, or at their end and past it
 data IsPlaced (d z i : ℕ) : Type 0 where
   earlier : z + i + 200 ≤ d → IsPlaced d z i
-  there : z + i ≡ d → IsPlaced d z i
-  later : d + 270 ≤ z + i → IsPlaced d z i
+  later : d ≤ z + i → IsPlaced d z i
 
-placed : (xs : List Bool) (d least z i : ℕ) → HasLast xs d least z → IsEdge (drop z xs) (d - z) → GoesOn xs d → IsEdge (drop z xs) i → IsPlaced d z i
-placed xs d least z i h own on edge =
-    let after = h.after in
-    let low = h.low in
-    elim (cases_lt d (z + i)) [
-      | inl past ↦ let far = later_edge (drop z xs) (d - z) i own (rest_goes_on z xs d (omega arith) on) edge (omega arith) in later (omega arith)
-      | inr before ↦ elim (earlier_edge xs d least z i h edge before) [
-        | inl same ↦ there same
-        | inr far ↦ earlier far
-      ]
-    ]
+placed : (xs : List Bool) (d least z i : ℕ) → HasLast xs d least z → IsEdge (drop z xs) i → IsPlaced d z i
+placed xs d least z i h edge = elim (cases_lt d (z + i)) [
+  | inl past ↦ later (omega arith)
+  | inr before ↦ elim (earlier_edge xs d least z i h edge before) [
+    | inl same ↦ later (omega arith)
+    | inr far ↦ earlier far
+  ]
+]
 
 -- a triple of the epoch lies so on all three lanes
 data ArePlaced (d e f z i j k : ℕ) : Type 0 where
   all_earlier : z + i + 200 ≤ d → z + j + 200 ≤ e → z + k + 200 ≤ f → ArePlaced d e f z i j k
-  all_there : z + i ≡ d → z + j ≡ e → z + k ≡ f → ArePlaced d e f z i j k
-  all_later : d + 270 ≤ z + i → e + 270 ≤ z + j → f + 270 ≤ z + k → ArePlaced d e f z i j k
+  all_later : d ≤ z + i → e ≤ z + j → f ≤ z + k → ArePlaced d e f z i j k
 
 -- three places, any two near each other
 record AreClose (d e f : ℕ) : Type 0 where
@@ -87,20 +58,11 @@ close fed d e f t = record { blue_green = t.blue_green.0; green_blue = t.blue_gr
 
 together : (d e f z i j k : ℕ) → AreClose d e f → AreClose i j k → IsPlaced d z i → IsPlaced e z j → IsPlaced f z k → ArePlaced d e f z i j k
 together d e f z i j k own other (earlier a) (earlier b) (earlier c) = all_earlier a b c
-together d e f z i j k own other (there a) (there b) (there c) = all_there a b c
 together d e f z i j k own other (later a) (later b) (later c) = all_later a b c
-together d e f z i j k own other (earlier a) (there b) c = let x = own.blue_green in let y = other.green_blue in absurd (omega arith)
 together d e f z i j k own other (earlier a) (later b) c = let x = own.blue_green in let y = other.green_blue in absurd (omega arith)
-together d e f z i j k own other (earlier a) (earlier b) (there c) = let x = own.blue_red in let y = other.red_blue in absurd (omega arith)
 together d e f z i j k own other (earlier a) (earlier b) (later c) = let x = own.blue_red in let y = other.red_blue in absurd (omega arith)
-together d e f z i j k own other (there a) (earlier b) c = let x = own.green_blue in let y = other.blue_green in absurd (omega arith)
-together d e f z i j k own other (there a) (later b) c = let x = own.blue_green in let y = other.green_blue in absurd (omega arith)
-together d e f z i j k own other (there a) (there b) (earlier c) = let x = own.red_blue in let y = other.blue_red in absurd (omega arith)
-together d e f z i j k own other (there a) (there b) (later c) = let x = own.blue_red in let y = other.red_blue in absurd (omega arith)
 together d e f z i j k own other (later a) (earlier b) c = let x = own.green_blue in let y = other.blue_green in absurd (omega arith)
-together d e f z i j k own other (later a) (there b) c = let x = own.green_blue in let y = other.blue_green in absurd (omega arith)
 together d e f z i j k own other (later a) (later b) (earlier c) = let x = own.red_blue in let y = other.blue_red in absurd (omega arith)
-together d e f z i j k own other (later a) (later b) (there c) = let x = own.red_blue in let y = other.blue_red in absurd (omega arith)
 
 -- The columns of an alignment at the edges of another one of its skew.
 
@@ -131,17 +93,20 @@ nothing_moved fed p q r d e f n j i a b c x y v at o = record {
 more_before : (a b c n : ℕ) → n ≤ a → n ≤ b → n ≤ c → n ≤ middle a b c
 more_before a b c n x y z = omega arith
 
-few_columns : (p d z i n : ℕ) → p + 10 * n ≡ d - z → d + 270 ≤ z + i → n ≤ (i - p) / 10
+few_columns : (p d z i n : ℕ) → p + 10 * n ≡ d - z → d ≤ z + i → n ≤ (i - p) / 10
 few_columns p d z i n at past = omega arith
 
 -- Neither earlier nor later edges refute it.
 
-not_earlier : (fed : Fed) (d e f z p q r i j k : ℕ) → IsWholeGoodPeriod fed d e f → HaveLast fed d e f z → EndsLateBy refuting_rule fed z (least_of d e f)
+not_earlier : (fed : Fed) (d e f z p q r i j k : ℕ) → IsGoodPeriod fed d e f → HaveLast fed d e f z → EndsLateBy refuting_rule fed z (least_of d e f)
     → z + i + 200 ≤ d → z + j + 200 ≤ e → z + k + 200 ≤ f → IsRefuted (rest_of z fed) p q r i j k → ⊥
-not_earlier fed d e f z p q r i j k w h late x y v is =
-    let b = long_after z fed.blue d (omega arith) w.blue_on in
-    let g = long_after z fed.green e (omega arith) w.green_on in
-    let a = long_after z fed.red f (omega arith) w.red_on in
+not_earlier fed d e f z p q r i j k good h late x y v is =
+    let b = long_lane fed.blue d good.blue in
+    let g = long_lane fed.green e good.green in
+    let a = long_lane fed.red f good.red in
+    let lb = length-drop z fed.blue in
+    let lg = length-drop z fed.green in
+    let la = length-drop z fed.red in
     let b1 = h.blue.high in
     let g1 = h.green.high in
     let r1 = h.red.high in
@@ -152,7 +117,7 @@ not_earlier fed d e f z p q r i j k w h late x y v is =
 
 not_later : (ps : List Period) (sent received : List Column) (offset : ℕ) (skews counts : List ℕ) (x fed : Fed) (before : List ℕ) (a d e f z p q r i j k : ℕ)
     → IsAgain ps sent received offset skews counts x fed before a d e f → z + 120 ≤ least_of d e f → (IsTriple (drop z fed.blue) (drop z fed.green) (drop z fed.red) (d - z) (e - z) (f - z))
-    → p + z ≤ d → q + z ≤ e → r + z ≤ f → HaveSameSkew p q r d e f → d + 270 ≤ z + i → e + 270 ≤ z + j → f + 270 ≤ z + k → IsRefuted (rest_of z fed) p q r i j k → ⊥
+    → p + z ≤ d → q + z ≤ e → r + z ≤ f → HaveSameSkew p q r d e f → d ≤ z + i → e ≤ z + j → f ≤ z + k → IsRefuted (rest_of z fed) p q r i j k → ⊥
 not_later ps sent received offset skews counts x fed before a d e f z p q r i j k h after own pb pg pr same u v w is =
     let t = is.rival.own.first.triple in
     let past_b = t.blue.past in
@@ -173,19 +138,19 @@ not_later ps sent received offset skews counts x fed before a d e f z p q r i j 
     (nothing_moved (rest_of z fed) p q r (d - z) (e - z) (f - z) n (11 + c) (11 + (c - n)) (omega arith) (omega arith) (omega arith) nb ng nr (omega arith) is.unopened)
 
 same_skew_stands : (ps : List Period) (sent received : List Column) (offset : ℕ) (skews counts : List ℕ) (x fed : Fed) (before : List ℕ) (a d e f : ℕ)
-    → IsAgain ps sent received offset skews counts x fed before a d e f → IsWholeGoodPeriod fed d e f
+    → IsAgain ps sent received offset skews counts x fed before a d e f
     → (z p q r : ℕ) → IsSettledBy refuting_rule fed d e f z p q r → HaveSameSkew p q r d e f
     → (i j k : ℕ) → IsRefuted (rest_of z fed) p q r i j k → ⊥
-same_skew_stands ps sent received offset skews counts x fed before a d e f again w z p q r is same i j k u =
-    let h = have_last fed d e f z w.good is.begins (late_by fed z (least_of d e f) is.ends) in
-    let own = triple_at fed d e f z w.good h in
+same_skew_stands ps sent received offset skews counts x fed before a d e f again z p q r is same i j k u =
+    let good = again.good in
+    let h = have_last fed d e f z good is.begins (late_by fed z (least_of d e f) is.ends) in
+    let own = triple_at fed d e f z good h in
     let other = u.rival.triple in
-    let good = w.good in
     let near : AreClose d e f = record { blue_green = good.blue_green.0; green_blue = good.blue_green.1; blue_red = good.blue_red.0; red_blue = good.blue_red.1 } in
     by h own (together d e f z i j k near (close (rest_of z fed) i j k other)
-    (placed fed.blue d (least_of d e f) z i h.blue own.blue w.blue_on other.blue)
-    (placed fed.green e (least_of d e f) z j h.green own.green w.green_on other.green)
-    (placed fed.red f (least_of d e f) z k h.red own.red w.red_on other.red))
+    (placed fed.blue d (least_of d e f) z i h.blue other.blue)
+    (placed fed.green e (least_of d e f) z j h.green other.green)
+    (placed fed.red f (least_of d e f) z k h.red other.red))
   where
     before_it : (p + z ≤ d) × (q + z ≤ e) × (r + z ≤ f)
     before_it = elim is.place [
@@ -194,19 +159,18 @@ same_skew_stands ps sent received offset skews counts x fed before a d e f again
     ]
 
     by : HaveLast fed d e f z → IsTriple (drop z fed.blue) (drop z fed.green) (drop z fed.red) (d - z) (e - z) (f - z) → ArePlaced d e f z i j k → ⊥
-    by h own (all_earlier b g v) = not_earlier fed d e f z p q r i j k w h is.ends b g v u
-    by h own (all_there b g v) = let s0 = same.0 in let s1 = same.1 in u.rival.other_skew (omega arith, omega arith)
+    by h own (all_earlier b g v) = not_earlier fed d e f z p q r i j k again.good h is.ends b g v u
     by h own (all_later b g v) =
         not_later ps sent received offset skews counts x fed before a d e f z p q r i j k again is.begins own before_it.0 before_it.1 before_it.2 same b g v u
 
 pub same_skew_is_last : SameSkewIsLast
-same_skew_is_last ps sent received offset skews counts x fed before a d e f again w z p q r is same =
+same_skew_is_last ps sent received offset skews counts x fed before a d e f again z p q r is same =
     let calm = calm_again ps sent received offset skews counts x fed before a d e f again in
-    let none = settled_no_stray fed d e f z p q r w.good calm.blue calm.green calm.red is in
+    let none = settled_no_stray fed d e f z p q r again.good calm.blue calm.green calm.red is in
     last_unrefuted (rest_of z fed)
     (record { no_stray = none; confirmed = none_unconfirmed (rest_of z fed) p q r is.first is.confirmed })
     (λ s t v i j k u.
-    same_skew_stands ps sent received offset skews counts x fed before a d e f again w z p q r is same i j k
+    same_skew_stands ps sent received offset skews counts x fed before a d e f again z p q r is same i j k
     (refuted_first (rest_of z fed) s t v i j k p q r is.first u))
 
 pub recovers_unrefuted : RecoversUnrefuted
@@ -227,7 +191,7 @@ recovers_unrefuted ps sent received offset skews counts x fed before a d e f aga
         r,
         is,
         elim skew.1 [
-          | inl same ↦ inl (same, same_skew_is_last ps sent received offset skews counts x fed before a d e f again w z p q r is same)
+          | inl same ↦ inl (same, same_skew_is_last ps sent received offset skews counts x fed before a d e f again z p q r is same)
           | inr opens ↦ inr opens
         ],
         accounted_there ps sent received offset skews counts x fed before a d e f z p q r again is.first is.place,

@@ -18,7 +18,7 @@ use Rattle.relock_sink.specs.RefuterRule.{refuting_is_rule}
 use Rattle.relock_laws.specs.Settled.{EndsNineteen, IsGoodPeriod, IsCalmFrom}
 use Rattle.relock_laws.specs.Refuted.{GoesOn, IsWholePeriod}
 use Rattle.relock_laws.specs.RefutingLaws.{EndsBy}
-use Rattle.relock_laws.specs.RefutingSettled.{IsStartBy, first_start, next_start, IsWholeGoodPeriod, IsSettledBy, OpensThere, SlipsThere, SettlesUnrefuted, SettledHasSkew}
+use Rattle.relock_laws.specs.RefutingSettled.{IsStartBy, first_start, next_start, IsWholeGoodPeriod, IsSettledBy, OpensThere, SlipsThere, SettlesByRefuting, SettlesUnrefuted, SettledHasSkew}
 use Rattle.relock_laws.proofs.GoodPeriod.{calm_none}
 use Rattle.relock_laws.proofs.Refuting.{column_of_windows, period_refutes}
 use Rattle.relock_laws.proofs.RefutingEnding.{unconfirmed_leaves, stray_leaves, refuted_leaves}
@@ -71,7 +71,7 @@ rest_nineteen z xs d after good = record {
       record { word = c.word; here = subst (λ n. window (drop z xs) n ≡ Some c.word) at (rest_window z xs (d - 190 + 10 * k) c.word (omega arith) c.here); control = c.control };
 }
 
-pub rest_goes_on : (z : ℕ) (xs : List Bool) (d : ℕ) → z ≤ d → GoesOn xs d → GoesOn (drop z xs) (d - z)
+rest_goes_on : (z : ℕ) (xs : List Bool) (d : ℕ) → z ≤ d → GoesOn xs d → GoesOn (drop z xs) (d - z)
 rest_goes_on z xs d after on = record {
   whole = λ k lt.
       let w = on.whole k lt in
@@ -83,7 +83,7 @@ rest_goes_on z xs d after on = record {
 }
 
 -- sixteen characters of the lane follow in the epoch
-pub long_after : (z : ℕ) (xs : List Bool) (d : ℕ) → z ≤ d → GoesOn xs d → d - z + 160 ≤ length (drop z xs)
+long_after : (z : ℕ) (xs : List Bool) (d : ℕ) → z ≤ d → GoesOn xs d → d - z + 160 ≤ length (drop z xs)
 long_after z xs d after on =
     let w = on.whole 15 (omega arith) in
     let is = window_is xs (d + 10 * 15) w.0 w.1 in
@@ -198,9 +198,8 @@ skew_of fed d e f z p q r w after late h first none (inr before) = elim (same_or
   | inr apart ↦ earlier_skew fed d e f z p q r w after late h first none before.0 before.1 before.2 apart
 ]
 
-pub settles_unrefuted : SettlesUnrefuted
-settles_unrefuted fed d e f w =
-    let good = w.good in
+pub settles_by_refuting : SettlesByRefuting
+settles_by_refuting fed d e f good =
     let s = spread d e f good.blue_green good.green_red good.blue_red in
     let b = good.blue.begins in
     let high = s.blue_high in
@@ -217,9 +216,19 @@ settles_unrefuted fed d e f w =
         found.1,
         found.2,
         record { begins = after; ends = late; first = is.first; place = is.place; confirmed = is.confirmed },
-        skew_of fed d e f z found.0 found.1 found.2 w after late is.last is.first is.confirmed is.place,
       ),
     )
+
+pub settles_unrefuted : SettlesUnrefuted
+settles_unrefuted fed d e f w =
+    let s = settles_by_refuting fed d e f w.good in
+    let z = s.0 in
+    let p = s.2.0 in
+    let q = s.2.1 in
+    let r = s.2.2 in
+    let is = s.2.3 in
+    let h = have_last fed d e f z w.good is.begins (late_by fed z (least_of d e f) is.ends) in
+    (z, s.1, (p, q, r, is, skew_of fed d e f z p q r w is.begins is.ends h is.first is.confirmed is.place))
 
 -- Where the lanes have few damaged characters from there on.
 

@@ -1,16 +1,19 @@
 -- The columns of an alignment from later edges of its skew on are those of an alignment there.
-use Rattle.std.proofs.Common.{◌≡◌, ℕ, suc, zero, ◌+◌, ◌-◌, ◌*◌, ◌/◌, ◌≤◌, List, [], ◌∷◌, drop, refl, ap, ◌∙◌, sym, subst, arith, inl, inr, Some, None, slice_get}
+use Rattle.std.proofs.Common.{◌≡◌, ℕ, suc, zero, ◌+◌, ◌-◌, ◌*◌, ◌/◌, ◌≤◌, List, [], ◌∷◌, length, drop, refl, ap, ◌∙◌, sym, subst, arith, inl, inr, Some, None, slice_get}
+use Rattle.std.proofs.lemmas.Option.{slice_get_within}
 use Rattle.lane_deskew.specs.Aligned.{aligned_columns}
 use Rattle.lane_deskew.proofs.Listed.{columns_listed}
 use Rattle.link_laws.specs.Laws.{IsAccounted}
+use Rattle.link_laws.proofs.Freely.{free_received}
 use Rattle.link_sink.specs.Sinks.{Fed}
 use Rattle.track_sink.specs.Epochs.{rest_of}
 use Rattle.relock_laws.specs.RefutingSettled.{SameSkewIsAccounted}
+use Rattle.relock_laws.proofs.AccountEnds.{ends_accounted}
 use Rattle.relock_laws.proofs.Again.{accounted}
 use Rattle.relock_laws.proofs.Refuting.{whole_apart}
 use Rattle.relock_laws.proofs.RefutingAgain.{column_moved}
 use Rattle.relock_laws.proofs.RefutingSettling.{late_by}
-use Rattle.relock_laws.proofs.Settling.{least_of, have_last, triple_at}
+use Rattle.relock_laws.proofs.Settling.{column_at, least_of, have_last, triple_at}
 
 -- what is left of a list has its later elements
 get_left : {X : Type 0} (n : ℕ) (xs : List X) (j i : ℕ) → i ≡ n + j → slice_get (drop n xs) j ≡ slice_get xs i
@@ -59,4 +62,10 @@ same_skew_is_accounted ps sent received offset skews counts x fed before a d e f
     let g : q + 10 * n ≡ e - z = omega arith in
     let v : r + 10 * n ≡ f - z = omega arith in
     let left = columns_left (rest_of z fed) p q r (d - z) (e - z) (f - z) n (omega arith) (omega arith) (omega arith) b g v in
-    (n, omega arith, subst (λ cs. IsAccounted ps sent received cs a) (sym left) (accounted ps sent received offset skews counts x fed before a d e f z again (omega arith) (omega arith) (omega arith)))
+    let columns = aligned_columns (drop z fed.blue) (drop z fed.green) (drop z fed.red) p q r in
+    let told = subst (λ cs. IsAccounted ps sent received cs a) (sym left) (accounted ps sent received offset skews counts x fed before a d e f z again (omega arith) (omega arith) (omega arith)) in
+    let twelfth = columns_listed (drop z fed.blue) (drop z fed.green) (drop z fed.red) (d - z) (e - z) (f - z) 12
+    ∙ column_at fed d e f z (d - z) (e - z) (f - z) 12 good.here (omega arith) (omega arith) (omega arith) (omega arith) (omega arith) (omega arith) good.is_here in
+    let long = slice_get_within (aligned_columns (drop z fed.blue) (drop z fed.green) (drop z fed.red) (d - z) (e - z) (f - z)) 12 good.here twelfth in
+    let same = ap length left in
+    (n, omega arith, told, ends_accounted ps sent received (free_received ps sent received again.reception.reception) columns n a told.ends told.columns (omega arith))

@@ -1,8 +1,8 @@
 -- When an alignment is refuted: never a true one, and each other one at a good control period by which no period opens.
-use Rattle.std.specs.Prelude.{◌≡◌, ◌⊎◌, ℕ, ◌+◌, ◌*◌, ◌<◌, ◌≤◌, Bool, true, false, List, length, Some}
+use Rattle.std.specs.Prelude.{◌≡◌, ◌⊎◌, ℕ, ◌+◌, ◌*◌, ◌<◌, Bool, true, false, List, length, Some}
 use Rattle.tmds_word.specs.Bits.{window}
 use Rattle.tmds_word.specs.Column.{Column}
-use Rattle.tmds_word.specs.Taps.{IsTap, HasSmallSkew}
+use Rattle.tmds_word.specs.Taps.{HasSmallSkew}
 use Rattle.terc4.specs.Tables.{is_control}
 use Rattle.terc4.specs.Columns.{is_control_column}
 use Rattle.island_pack.specs.Periods.{Period}

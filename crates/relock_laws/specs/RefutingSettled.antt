@@ -1,11 +1,15 @@
 -- Whatever came before: how lanes are aligned from a good control period on whose guard band is received whole, where alignments are
 -- let go where they are refuted.
-use Rattle.std.specs.Prelude.{◌≡◌, ◌⊎◌, ℕ, ◌+◌, ◌-◌, ◌*◌, ◌<◌, ◌≤◌, max, min, true, List, drop}
+use Rattle.std.specs.Prelude.{◌≡◌, ◌⊎◌, ℕ, ◌+◌, ◌-◌, ◌*◌, ◌<◌, ◌≤◌, max, min, true, List, ◌++◌, length, drop}
 use Rattle.tmds_word.specs.Column.{Column}
 use Rattle.lane_deskew.specs.Triples.{IsFirst}
 use Rattle.lane_deskew.specs.Aligned.{aligned_columns}
-use Rattle.island_pack.specs.Periods.{Period}
+use Rattle.island_pack.specs.Periods.{Period, columns_of}
+use Rattle.period_grammar.specs.Events.{Event}
+use Rattle.period_grammar.specs.Heard.{heard}
+use Rattle.link_laws.specs.Account.{account_from}
 use Rattle.link_laws.specs.Laws.{IsAccounted}
+use Rattle.link_laws.specs.Local.{twelve_before}
 use Rattle.link_sink.specs.Sinks.{Fed}
 use Rattle.track_sink.specs.Epochs.{EpochRule, rest_of, HasNoEnd}
 use Rattle.relock_sink.specs.Relocks.{IsUnconfirmed}
@@ -39,6 +43,12 @@ pub record IsSettledBy (r : EpochRule) (fed : Fed) (d e f start p q s : ℕ) : T
       ⊎ ((start + p + 200 ≤ d) × (start + q + 200 ≤ e) × (start + s + 200 ≤ f))
   pub confirmed : IsUnconfirmed (rest_of start fed) p q s → ⊥
 
+-- there is such an epoch
+abbrev pub SettlesByRefuting : Type 0
+SettlesByRefuting =
+    (fed : Fed) (d e f : ℕ) → IsGoodPeriod fed d e f
+    → (start : ℕ) × IsStartBy refuting_rule fed start × ((p q r : ℕ) × IsSettledBy refuting_rule fed d e f start p q r)
+
 -- by the alignment of an epoch something opens where the good control period ends
 abbrev pub OpensThere : Fed → (d e f start p q r : ℕ) → Type 0
 OpensThere fed d e f start p q r = OpensAt (rest_of start fed) p q r (12 + columns_before p q r (d - start) (e - start) (f - start))
@@ -47,8 +57,8 @@ OpensThere fed d e f start p q r = OpensAt (rest_of start fed) p q r (12 + colum
 abbrev pub SlipsThere : Fed → (d e f start : ℕ) → Type 0
 SlipsThere fed d e f start = (lane place : ℕ) × IsSlipFirst (rest_of start fed) lane place × (start + place + 30 ≤ max d (max e f))
 
--- there is such an epoch, and it has the skew of the good control period, or by its own too something opens there, or it ends there
--- at a stray
+-- where the guard band is received whole there is one that has the skew of the good control period, or by its own too something opens
+-- there, or it ends there at a stray
 abbrev pub SettlesUnrefuted : Type 0
 SettlesUnrefuted =
     (fed : Fed) (d e f : ℕ) → IsWholeGoodPeriod fed d e f
@@ -69,10 +79,20 @@ SettledHasSkew =
 abbrev pub SameSkewIsLast : Type 0
 SameSkewIsLast =
     (ps : List Period) (sent received : List Column) (offset : ℕ) (skews counts : List ℕ) (x fed : Fed) (before : List ℕ) (a d e f : ℕ)
-    → IsAgain ps sent received offset skews counts x fed before a d e f → IsWholeGoodPeriod fed d e f
+    → IsAgain ps sent received offset skews counts x fed before a d e f
     → (start p q r : ℕ) → IsSettledBy refuting_rule fed d e f start p q r → HaveSameSkew p q r d e f → IsLastUnrefuted (rest_of start fed)
 
--- and what is reported of its columns from the good control period on is the account
+-- what is reported of columns ends with the account of the periods of a stream after a control period: it ends before column n + 12
+-- of these columns, and before column a + 12 of the stream
+pub record EndsAccounted (ps : List Period) (sent received columns : List Column) (n a : ℕ) : Type 0 where
+  pub front : List Period
+  pub tail : List Period
+  pub are : ps ≡ front ++ tail
+  pub upto : columns_of front ≡ a + 12
+  pub earlier : List Event
+  pub reported : heard columns ≡ earlier ++ account_from (n + 12) (length columns - (n + 12)) (twelve_before (a + 12) received) tail (drop (a + 12) sent) (drop (a + 12) received)
+
+-- and what is reported of its columns from the good control period on is the account; so what is reported of all of them ends with it
 abbrev pub SameSkewIsAccounted : Type 0
 SameSkewIsAccounted =
     (ps : List Period) (sent received : List Column) (offset : ℕ) (skews counts : List ℕ) (x fed : Fed) (before : List ℕ) (a d e f : ℕ)
@@ -80,6 +100,7 @@ SameSkewIsAccounted =
     → (start p q r : ℕ) → IsSettledBy refuting_rule fed d e f start p q r → HaveSameSkew p q r d e f
     → (n : ℕ) × (start + p + 10 * n ≡ d)
     × IsAccounted ps sent received (drop n (aligned_columns (rest_of start fed).blue (rest_of start fed).green (rest_of start fed).red p q r)) a
+    × EndsAccounted ps sent received (aligned_columns (rest_of start fed).blue (rest_of start fed).green (rest_of start fed).red p q r) n a
 
 -- there is such an epoch: it is the last and has that skew, or by its own too something opens there; and where it is aligned there,
 -- what is reported from there on is the account

@@ -1,6 +1,6 @@
 //! Where the epochs of three lanes end whose alignment is let go too where it is refuted.
 ghost use Rattle.relock_laws.specs.RefutingLaws.{PayloadIsLastUnrefuted, UntilIsLastUnrefuted, EndsOrIsUnrefuted, OneRefutingEnd, SlipStands, SlipEndsAlone, HasUnrefutedExample, HasSlipFirstExample};
-ghost use Rattle.relock_laws.specs.RefutingSettled.{SettlesUnrefuted, SettledHasSkew, SameSkewIsLast, SameSkewIsAccounted, RecoversUnrefuted, HasWholeExample};
+ghost use Rattle.relock_laws.specs.RefutingSettled.{SettlesByRefuting, SettlesUnrefuted, SettledHasSkew, SameSkewIsLast, SameSkewIsAccounted, RecoversUnrefuted, HasWholeExample};
 
 /// The lanes of a tap whose damage lies in pixels and packets alone have one epoch.
 pub fn payload_is_last_unrefuted()
@@ -39,11 +39,13 @@ pub fn slip_first_example()
     ensures { HasSlipFirstExample }
 {}
 
-/// Whatever came before a control period of nineteen characters on each lane whose guard band is received whole and after which no
-/// control character comes for fifteen: an epoch has the last twelve of them and does not end before them, and its alignment has
-/// their skew, or by it too something opens there, or the epoch ends there at a stray.
+/// Whatever came before a control period of nineteen characters on each lane after which a period opens: an epoch has the last
+/// twelve of them and does not end before them, and its alignment is there, or was confirmed before. Where the guard band is received
+/// whole and no control character comes for fifteen after it, its alignment has their skew, or by it too something opens there, or the
+/// epoch ends there at a stray.
 pub fn settles_unrefuted()
-    ensures { SettlesUnrefuted }
+    ensures some { SettlesByRefuting }
+    ensures skew { SettlesUnrefuted }
 {}
 
 /// That epoch has no stray where of any eleven characters of a lane at most two are damaged from there on: so its alignment has their
