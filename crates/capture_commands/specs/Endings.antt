@@ -18,7 +18,7 @@ use Rattle.period_grammar.specs.Exact.{faultless}
 use Rattle.relay.specs.Relayed.{relayed}
 use Rattle.relay.specs.declared.relaying.RelayFault.{RelayFault}
 use Rattle.relay.specs.declared.relaying.RelayFault.TheVariants as relay_faults
-use Rattle.relock_sink.specs.Relocks.{relock_rule}
+use Rattle.relock_sink.specs.Refuting.{refuting_rule}
 use Rattle.track_sink.specs.Epochs.{EpochRule, stray_rule, IsTrackBy}
 use Rattle.track_sink.specs.TrackEvents.{TrackEvent}
 use Rattle.track_sink.specs.Tracks.{HasTrackedBy}
@@ -285,8 +285,8 @@ EndsReadFailed (MakeDvi tap) before after = Keeps before.held after.held
 EndsReadFailed RecoverLink before after = ListsRead link_grammar link_listing before after
 EndsReadFailed RecoverContent before after = ListsRead link_grammar content_listing before after
 EndsReadFailed RecoverTrack before after = TracksRead stray_rule link_track_listing before after
-EndsReadFailed RecoverRelock before after = TracksRead relock_rule link_track_listing before after
-EndsReadFailed RecoverContentRelock before after = TracksRead relock_rule content_track_listing before after
+EndsReadFailed RecoverRelock before after = TracksRead refuting_rule link_track_listing before after
+EndsReadFailed RecoverContentRelock before after = TracksRead refuting_rule content_track_listing before after
 EndsReadFailed (RecoverBiphase pair) before after = ListsRead link_grammar (biphase_listing pair) before after
 EndsReadFailed RecoverDvi before after = ListsRead dvi_grammar link_listing before after
 EndsReadFailed Check before after = ListsRead link_grammar check_listing before after
@@ -304,8 +304,8 @@ EndsWriteFailed (MakeDvi tap) before after = Parts (MakeDvi tap) before after
 EndsWriteFailed RecoverLink before after = ListsPart link_grammar link_listing before after
 EndsWriteFailed RecoverContent before after = ListsPart link_grammar content_listing before after
 EndsWriteFailed RecoverTrack before after = TracksPart stray_rule link_track_listing before after
-EndsWriteFailed RecoverRelock before after = TracksPart relock_rule link_track_listing before after
-EndsWriteFailed RecoverContentRelock before after = TracksPart relock_rule content_track_listing before after
+EndsWriteFailed RecoverRelock before after = TracksPart refuting_rule link_track_listing before after
+EndsWriteFailed RecoverContentRelock before after = TracksPart refuting_rule content_track_listing before after
 EndsWriteFailed (RecoverBiphase pair) before after = ListsPart link_grammar (biphase_listing pair) before after
 EndsWriteFailed RecoverDvi before after = ListsPart dvi_grammar link_listing before after
 EndsWriteFailed Check before after = ListsPart link_grammar check_listing before after

@@ -41,7 +41,7 @@ use Rattle.capture_commands.specs.Blocks.{AreBefore}
 use Rattle.capture_commands.specs.Commands.{hit_asked, tap_asked}
 use Rattle.capture_commands.specs.Listings.{Listing, link_listing, check_listing, content_listing, biphase_listing}
 use Rattle.capture_commands.specs.Notes.{listing_note, raster_note, capture_note, place_note, long_note, frames_note, usage_note, alignment_note}
-use Rattle.relock_sink.specs.Relocks.{relock_rule}
+use Rattle.relock_sink.specs.Refuting.{refuting_rule}
 use Rattle.track_sink.specs.Epochs.{EpochRule, stray_rule, IsTrackBy}
 use Rattle.track_sink.specs.TrackEvents.{TrackEvent}
 use Rattle.track_sink.specs.Tracks.{HasTrackedBy}
@@ -168,8 +168,8 @@ Does RecoverLink input outcome = ListsCapture link_grammar link_listing input ou
 Does (MakeDvi tap) input outcome = MakesLink DviSpells (tap_asked tap) (dvi_reads_as input) outcome
 Does RecoverContent input outcome = ListsCapture link_grammar content_listing input outcome
 Does RecoverTrack input outcome = TracksCapture stray_rule link_track_listing input outcome
-Does RecoverRelock input outcome = TracksCapture relock_rule link_track_listing input outcome
-Does RecoverContentRelock input outcome = TracksCapture relock_rule content_track_listing input outcome
+Does RecoverRelock input outcome = TracksCapture refuting_rule link_track_listing input outcome
+Does RecoverContentRelock input outcome = TracksCapture refuting_rule content_track_listing input outcome
 Does (RecoverBiphase pair) input outcome = ListsCapture link_grammar (biphase_listing pair) input outcome
 Does RecoverDvi input outcome = ListsCapture dvi_grammar link_listing input outcome
 Does Check input outcome = ListsCapture link_grammar check_listing input outcome

@@ -10,8 +10,8 @@ use Rattle.link_sink.specs.Grammar.{link_grammar}
 use Rattle.dvi_hearing.specs.DviGrammar.{dvi_grammar}
 use Rattle.track_sink.specs.Epochs.{stray_rule}
 use Rattle.track_sink.specs.StrayRule.{stray_is_rule}
-use Rattle.relock_sink.specs.Relocks.{relock_rule}
-use Rattle.relock_sink.specs.RelockRule.{relock_is_rule}
+use Rattle.relock_sink.specs.Refuting.{refuting_rule}
+use Rattle.relock_sink.specs.RefuterRule.{refuting_is_rule}
 use Rattle.command_line.specs.Commands.{IsCommand}
 use Rattle.command_line.specs.declared.command.Command.{Command}
 use Rattle.command_line.specs.declared.command.Command.TheVariants.{MakeLink, MakeContent, MakeDvi, RecoverLink, RecoverContent, RecoverTrack, RecoverRelock, RecoverContentRelock, RecoverBiphase, RecoverDvi, Check, Damage, Slip, ReadBiphase, Relay, Sample}
@@ -36,8 +36,8 @@ does_once words (MakeDvi tap) bytes o p named decides a b = makes_once DviSpells
 does_once words RecoverLink bytes o p named decides a b = lists_once link_grammar link_listing bytes o p a b
 does_once words RecoverContent bytes o p named decides a b = lists_once link_grammar content_listing bytes o p a b
 does_once words RecoverTrack bytes o p named decides a b = tracks_once stray_rule stray_is_rule link_track_listing bytes o p decides a b
-does_once words RecoverRelock bytes o p named decides a b = tracks_once relock_rule relock_is_rule link_track_listing bytes o p decides a b
-does_once words RecoverContentRelock bytes o p named decides a b = tracks_once relock_rule relock_is_rule content_track_listing bytes o p decides a b
+does_once words RecoverRelock bytes o p named decides a b = tracks_once refuting_rule refuting_is_rule link_track_listing bytes o p decides a b
+does_once words RecoverContentRelock bytes o p named decides a b = tracks_once refuting_rule refuting_is_rule content_track_listing bytes o p decides a b
 does_once words (RecoverBiphase pair) bytes o p named decides a b = lists_once link_grammar (biphase_listing pair) bytes o p a b
 does_once words RecoverDvi bytes o p named decides a b = lists_once dvi_grammar link_listing bytes o p a b
 does_once words Check bytes o p named decides a b = lists_once link_grammar check_listing bytes o p a b

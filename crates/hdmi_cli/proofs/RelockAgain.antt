@@ -1,13 +1,15 @@
 -- `recover relock` and `recover content relock` of a stream that comes after any bits: the epochs before its last one are passed, and what is reported of that one is the account.
-use Rattle.std.proofs.Common.{◌≡◌, ◌⊎◌, ℕ, zero, suc, ◌+◌, ◌<◌, Bool, true, false, ◌||◌, List, [], ◌++◌, refl, ap, ap₂, sym, ◌∙◌, subst, inl, inr, arith, append_assoc}
+use Rattle.std.proofs.Common.{◌≡◌, ◌⊎◌, ℕ, ◌+◌, ◌-◌, ◌*◌, ◌<◌, Bool, true, false, ◌||◌, List, [], ◌++◌, length, drop, refl, ap, sym, ◌∙◌, subst, inl, inr, arith, append_assoc}
 use Rattle.std.specs.Prelude.{Option, Some}
 use Rattle.std.specs.Io.KnownBytes.{Appends}
+use Rattle.tmds_word.specs.Column.{Column}
 use Rattle.terc4.specs.Columns.{one_if}
 use Rattle.lane_deskew.specs.Aligned.{aligned_columns}
 use Rattle.lane_deskew.specs.Triples.{IsFirst}
 use Rattle.period_grammar.specs.Events.{Event}
 use Rattle.period_grammar.specs.Heard.{heard}
-use Rattle.link_laws.specs.Account.{account}
+use Rattle.link_laws.specs.Account.{account_from}
+use Rattle.link_laws.specs.Local.{twelve_before}
 use Rattle.link_sink.specs.Alignment.{reported_by}
 use Rattle.link_sink.specs.Sinks.{Fed}
 use Rattle.capture_file.proofs.OneCapture.{one_capture, no_fault}
@@ -15,18 +17,23 @@ use Rattle.command_line.specs.Commands.{IsCommand}
 use Rattle.command_line.specs.declared.command.Command.{Command}
 use Rattle.command_line.specs.declared.command.Command.TheVariants.{RecoverRelock, RecoverContentRelock}
 use Rattle.track_sink.specs.Epochs.{EpochRule, rest_of, IsTrackBy, IsTrackedBy, last_epoch, more_epochs}
+use Rattle.track_sink.proofs.Following.{track_events_both}
 use Rattle.track_sink.specs.Feds.{rest_of_rest, same_fed}
 use Rattle.track_sink.specs.Rules.{IsRule}
 use Rattle.track_sink.specs.TrackEvents.{TrackEvent, track_events_of, end_events}
 use Rattle.track_sink.specs.declared.watch.Cause.{Cause}
-use Rattle.relock_sink.specs.Relocks.{relock_rule, IsLastEpoch}
-use Rattle.relock_sink.specs.RelockRule.{relock_is_rule}
-use Rattle.relock_laws.specs.Settled.{IsStart, first_start, next_start}
-use Rattle.relock_laws.proofs.Again.{recovers_again}
+use Rattle.relock_sink.specs.Refuting.{IsLastUnrefuted, refuting_rule}
+use Rattle.relock_sink.specs.RefuterRule.{refuting_is_rule}
+use Rattle.relock_sink.specs.Rivals.{HaveSameSkew}
+use Rattle.relock_laws.specs.RefutingSettled.{IsStartBy, first_start, next_start, IsSettledBy}
+use Rattle.relock_laws.proofs.Again.{accounted_there, calm_again}
+use Rattle.relock_laws.proofs.RefutingAgain.{same_skew_is_last}
+use Rattle.relock_laws.proofs.RefutingSettling.{settles_by_refuting, settled_has_skew}
+use Rattle.relock_laws.proofs.SkewColumns.{same_skew_is_accounted}
 use Rattle.capture_commands.specs.Endings.{Devices, RunEnds, Unless, status_of}
 use Rattle.capture_commands.specs.Notes.{alignment_note}
 use Rattle.capture_commands.specs.Outcome.{Does, RunOutcome, TracksLanes, TracksCapture, status_with}
-use Rattle.hdmi_cli.specs.RelockAgain.{AgainStream, ComesAgain, IsRelockedAgain}
+use Rattle.hdmi_cli.specs.RelockAgain.{AgainStream, ComesAgain, columns_from, EndsWithAll, EndsWithLater, IsRelockedAgain}
 use Rattle.capture_commands.specs.TrackListings.{TrackListing, content_track_listing, link_track_listing}
 use Rattle.capture_commands.specs.declared.ending.Ending.{Ending}
 use Rattle.hdmi_cli.proofs.Headline.{run_ended}
@@ -72,8 +79,8 @@ next_from r rule fed start place aligned track_events h cause end = by h.epochs 
           tracked = subst (λ x. IsTrackedBy r (h.begun || o.aligned) (start + place) x n1 m1 later) (rest_of_rest place start fed) there;
         }
 
-from_start : (fed : Fed) (start : ℕ) → IsStart fed start → (epochs aligned : ℕ) (track_events : List TrackEvent) → IsTrackBy relock_rule fed epochs aligned track_events
-    → FromStart relock_rule fed start aligned track_events
+from_start : (fed : Fed) (start : ℕ) → IsStartBy refuting_rule fed start → (epochs aligned : ℕ) (track_events : List TrackEvent) → IsTrackBy refuting_rule fed epochs aligned track_events
+    → FromStart refuting_rule fed start aligned track_events
 from_start _ _ (first_start fed) epochs aligned track_events track = record {
   first = [];
   before = 0;
@@ -83,10 +90,10 @@ from_start _ _ (first_start fed) epochs aligned track_events track = record {
   rest = track_events;
   are = refl;
   count = omega arith;
-  tracked = subst (λ x. IsTrackedBy relock_rule false 0 x epochs aligned track_events) (same_fed fed (rest_of 0 fed) refl refl refl) track;
+  tracked = subst (λ x. IsTrackedBy refuting_rule false 0 x epochs aligned track_events) (same_fed fed (rest_of 0 fed) refl refl refl) track;
 }
 from_start _ _ (next_start fed start place begins end) epochs aligned track_events track =
-    next_from relock_rule relock_is_rule fed start place aligned track_events (from_start fed start begins epochs aligned track_events track) end.0 end.1
+    next_from refuting_rule refuting_is_rule fed start place aligned track_events (from_start fed start begins epochs aligned track_events track) end.0 end.1
 
 -- an epoch with a full alignment is aligned
 is_aligned : (b : Bool) (xs ys zs : List Bool) (columns : ℕ) (events : List Event) (d e f : ℕ) → reported_by b xs ys zs columns events → IsFirst xs ys zs d e f → one_if b ≡ 1
@@ -102,20 +109,89 @@ text_is : (listing : TrackListing) (o : RunOutcome) (aligned : ℕ) (track_event
 text_is listing o aligned track_events (inl (some, is)) more = ap (λ (x : RunOutcome). x.output) is
 text_is listing o aligned track_events (inr (none, is)) more = absurd (omega (arith, none, more))
 
-again : (listing : TrackListing) (t : AgainStream) → ComesAgain t → (o : RunOutcome) (old new : Option (List ℕ)) → TracksLanes relock_rule listing t.lanes o → Appends old new o.output → IsRelockedAgain listing t old new
-again listing t comes o old new (epochs, aligned, track_events, track, outcome) written =
-    let law = recovers_again t.periods t.sent t.received t.offset t.skews t.counts t.tapped t.lanes t.before t.a t.blue t.green t.red comes.again in
+-- the events that end what is reported end the text
+ends_with : (listing : TrackListing) (first : List TrackEvent) (events earlier later : List Event) (track_events : List TrackEvent) → track_events ≡ first ++ track_events_of events → events ≡ earlier ++ later
+    → listing.text track_events ≡ listing.text ((first ++ track_events_of earlier) ++ track_events_of later)
+ends_with listing first events earlier later track_events are is =
+    ap listing.text (
+    are ∙ ap (λ us. first ++ track_events_of us) is
+    ∙ ap (λ us. first ++ us) (track_events_both earlier later)
+    ∙ sym (append_assoc first (track_events_of earlier) (track_events_of later)))
+
+-- what is written of an epoch that is the last: its events are those of its columns
+record IsListed (listing : TrackListing) (columns : List Column) (old new : Option (List ℕ)) : Type 0 where
+  first : List TrackEvent
+  track_events : List TrackEvent
+  are : track_events ≡ first ++ track_events_of (heard columns)
+  written : Appends old new (listing.text track_events)
+
+listed : (listing : TrackListing) (fed : Fed) (start p q r : ℕ) → IsStartBy refuting_rule fed start → IsFirst (rest_of start fed).blue (rest_of start fed).green (rest_of start fed).red p q r → IsLastUnrefuted (rest_of start fed)
+    → (o : RunOutcome) (old new : Option (List ℕ)) → TracksLanes refuting_rule listing fed o → Appends old new o.output
+    → IsListed listing (aligned_columns (rest_of start fed).blue (rest_of start fed).green (rest_of start fed).red p q r) old new
+listed listing fed start p q r begins first last o old new (epochs, aligned, track_events, track, outcome) written =
+    let rest = rest_of start fed in
+    let from = from_start fed start begins epochs aligned track_events track in
+    let epoch = epoch_reported refuting_rule refuting_is_rule from.begun start rest from.epochs from.more from.rest from.tracked last in
+    let some = is_aligned epoch.outcome.aligned rest.blue rest.green rest.red epoch.outcome.columns epoch.events p q r epoch.reported first in
+    let here = reported_at epoch.outcome.aligned rest.blue rest.green rest.red epoch.outcome.columns epoch.events p q r epoch.reported first in
+    let count = from.count in
+    let aligned_is = epoch.aligned_is in
+    let text = text_is listing o aligned track_events outcome (omega (arith, count, aligned_is, some)) in
+    record {
+      first = from.first;
+      track_events = track_events;
+      are = from.are ∙ ap (λ us. from.first ++ us) (epoch.track_events_are ∙ ap track_events_of here);
+      written = subst (λ (bytes : List ℕ). Appends old new bytes) text written;
+    }
+
+-- where it has the skew of the good control period
+later_written : (listing : TrackListing) (t : AgainStream) → ComesAgain t → (start p q r : ℕ) → IsSettledBy refuting_rule t.lanes t.blue t.green t.red start p q r → HaveSameSkew p q r t.blue t.green t.red
+    → (old new : Option (List ℕ)) → IsListed listing (columns_from t start p q r) old new
+    → (n : ℕ) × (start + p + 10 * n ≡ t.blue) × EndsWithLater listing t (columns_from t start p q r) n old new
+later_written listing t comes start p q r settled same old new h =
+    let law = same_skew_is_accounted t.periods t.sent t.received t.offset t.skews t.counts t.tapped t.lanes t.before t.a t.blue t.green t.red comes.again start p q r settled same in
+    let n = law.0 in
+    let ends = law.3 in
+    let columns = columns_from t start p q r in
+    let later = account_from (n + 12) (length columns - (n + 12)) (twelve_before (t.a + 12) t.received) ends.tail (drop (t.a + 12) t.sent) (drop (t.a + 12) t.received) in (
+      n,
+      law.1,
+      record {
+        front = ends.front;
+        later = ends.tail;
+        are = ends.are;
+        upto = ends.upto;
+        first = h.first ++ track_events_of ends.earlier;
+        written = subst (λ (bytes : List ℕ). Appends old new bytes) (ends_with listing h.first (heard columns) ends.earlier later h.track_events h.are ends.reported) h.written;
+      },
+    )
+
+-- where it is aligned there it has that skew
+skew_there : (fed : Fed) (d e f start p q r : ℕ) → IsSettledBy refuting_rule fed d e f start p q r → start + p ≡ d → HaveSameSkew p q r d e f
+skew_there fed d e f start p q r settled there = elim settled.place [
+  | inl at ↦ let x = at.0 in let y = at.1 in let z = at.2 in (omega arith, omega arith)
+  | inr far ↦ let x = far.0 in absurd (omega arith)
+]
+
+there_written : (listing : TrackListing) (t : AgainStream) → ComesAgain t → (start p q r : ℕ) → IsSettledBy refuting_rule t.lanes t.blue t.green t.red start p q r → start + p ≡ t.blue
+    → (old new : Option (List ℕ)) → IsListed listing (columns_from t start p q r) old new → EndsWithAll listing t (columns_from t start p q r) old new
+there_written listing t comes start p q r settled there old new h =
+    let is = accounted_there t.periods t.sent t.received t.offset t.skews t.counts t.tapped t.lanes t.before t.a t.blue t.green t.red start p q r comes.again settled.first settled.place there in
+    (h.first, subst (λ (bytes : List ℕ). Appends old new bytes) (ap listing.text (h.are ∙ ap (λ us. h.first ++ track_events_of us) is.reported)) h.written)
+
+again : (listing : TrackListing) (t : AgainStream) → ComesAgain t → (o : RunOutcome) (old new : Option (List ℕ)) → TracksLanes refuting_rule listing t.lanes o → Appends old new o.output → IsRelockedAgain listing t old new
+again listing t comes o old new tracks written =
+    let law = settles_by_refuting t.lanes t.blue t.green t.red comes.again.good in
     let start = law.0 in
     let p = law.2.0 in
     let q = law.2.1 in
     let r = law.2.2 in
     let settled = law.2.3 in
-    let last = law.2.4 in
-    let rest = rest_of start t.lanes in
-    let from = from_start t.lanes start law.1 epochs aligned track_events track in
-    let epoch = epoch_reported relock_rule relock_is_rule from.begun start rest from.epochs from.more from.rest from.tracked last in
-    let some = is_aligned epoch.outcome.aligned rest.blue rest.green rest.red epoch.outcome.columns epoch.events p q r epoch.reported settled.first in
-    let here = reported_at epoch.outcome.aligned rest.blue rest.green rest.red epoch.outcome.columns epoch.events p q r epoch.reported settled.first in
+    let calm = calm_again t.periods t.sent t.received t.offset t.skews t.counts t.tapped t.lanes t.before t.a t.blue t.green t.red comes.again in
+    let last : HaveSameSkew p q r t.blue t.green t.red → IsLastUnrefuted (rest_of start t.lanes) =
+    λ same. same_skew_is_last t.periods t.sent t.received t.offset t.skews t.counts t.tapped t.lanes t.before t.a t.blue t.green t.red comes.again start p q r settled same in
+    let text : HaveSameSkew p q r t.blue t.green t.red → IsListed listing (columns_from t start p q r) old new =
+    λ same. listed listing t.lanes start p q r law.1 settled.first (last same) o old new tracks written in
     record {
       start = start;
       begins = law.1;
@@ -124,24 +200,19 @@ again listing t comes o old new (epochs, aligned, track_events, track, outcome) 
       edge_red = r;
       settled = settled;
       last = last;
-      written = λ there.
-          let is = law.2.5 there in
-          let events_are = here ∙ is.reported in
-          let count = from.count in
-          let aligned_is = epoch.aligned_is in
-          let text = text_is listing o aligned track_events outcome (omega (arith, count, aligned_is, some)) in
-          let all = from.are ∙ ap (λ us. from.first ++ us) (epoch.track_events_are ∙ ap track_events_of events_are) in
-          (from.first, subst (λ (bytes : List ℕ). Appends old new bytes) (text ∙ ap listing.text all) written);
+      written = λ same. later_written listing t comes start p q r settled same old new (text same);
+      written_there = λ there. there_written listing t comes start p q r settled there old new (text (skew_there t.lanes t.blue t.green t.red start p q r settled there));
+      skew = λ whole. (settled_has_skew t.lanes t.blue t.green t.red whole calm.blue calm.green calm.red start p q r settled).1;
     }
 
-of_bytes : (listing : TrackListing) (t : AgainStream) → ComesAgain t → (o : RunOutcome) (old new : Option (List ℕ)) → TracksCapture relock_rule listing t.bytes o → Appends old new o.output → IsRelockedAgain listing t old new
+of_bytes : (listing : TrackListing) (t : AgainStream) → ComesAgain t → (o : RunOutcome) (old new : Option (List ℕ)) → TracksCapture refuting_rule listing t.bytes o → Appends old new o.output → IsRelockedAgain listing t old new
 of_bytes listing t comes o old new (inl (fed, captured, lanes)) written =
     let same = one_capture t.lanes.blue t.lanes.green t.lanes.red fed.blue fed.green fed.red t.bytes comes.captured captured in
-    again listing t comes o old new (subst (λ x. TracksLanes relock_rule listing x o) (sym (same_fed t.lanes fed same.blue same.green same.red)) lanes) written
+    again listing t comes o old new (subst (λ x. TracksLanes refuting_rule listing x o) (sym (same_fed t.lanes fed same.blue same.green same.red)) lanes) written
 of_bytes listing t comes o old new (inr (fault, fed, track_events, faulty, before, reported, is)) written =
     absurd (no_fault t.bytes fault (record { blue = t.lanes.blue; green = t.lanes.green; red = t.lanes.red; holds = comes.captured }) faulty)
 
-again_of : (listing : TrackListing) (this : Command) → ((bytes : List ℕ) (o : RunOutcome) → Does this bytes o → TracksCapture relock_rule listing bytes o)
+again_of : (listing : TrackListing) (this : Command) → ((bytes : List ℕ) (o : RunOutcome) → Does this bytes o → TracksCapture refuting_rule listing bytes o)
     → (words : List (List ℕ)) (ending : Ending) (before after : Devices) (status : ℕ) → RunEnds words ending before after → status ≡ status_of ending → IsCommand words this
     → (t : AgainStream) → ComesAgain t → before.left ≡ Some t.bytes → Unless (λ _ old new. IsRelockedAgain listing t old new) status before after
 again_of listing this tracks words ending before after status ends is named t comes left =

@@ -1,6 +1,6 @@
 -- `recover track`, `recover relock` and `recover content relock` of a tapped stream: there is one epoch, and the text is that of
 -- `recover link` or `recover content`.
-use Rattle.std.proofs.Common.{◌≡◌, ℕ, zero, suc, ◌<◌, Bool, true, false, List, [], ◌++◌, refl, ap, ap₂, ◌∙◌, subst, inl, inr, arith}
+use Rattle.std.proofs.Common.{◌≡◌, ℕ, ◌<◌, Bool, true, false, List, [], ◌++◌, refl, ap, ap₂, ◌∙◌, subst, inl, inr, arith}
 use Rattle.std.specs.Prelude.{codes}
 use Rattle.terc4.specs.Columns.{one_if}
 use Rattle.period_grammar.specs.Events.{Event}
@@ -15,9 +15,9 @@ use Rattle.capture_file.proofs.OneCapture.{one_capture, no_fault}
 use Rattle.track_sink.specs.Epochs.{EpochRule, stray_rule, IsTrackedBy, last_epoch, more_epochs}
 use Rattle.track_sink.specs.Rules.{IsRule}
 use Rattle.track_sink.specs.StrayRule.{stray_is_rule}
-use Rattle.relock_sink.specs.RelockRule.{relock_is_rule}
-use Rattle.relock_sink.specs.Relocks.{relock_rule, IsLastEpoch}
-use Rattle.relock_laws.proofs.Last.{payload_is_last, until_is_last}
+use Rattle.relock_sink.specs.RefuterRule.{refuting_is_rule}
+use Rattle.relock_sink.specs.Refuting.{refuting_rule, IsLastUnrefuted}
+use Rattle.relock_laws.proofs.Unrefuted.{payload_is_last_unrefuted, until_is_last_unrefuted}
 use Rattle.track_sink.specs.TrackEvents.{TrackEvent, track_events_of}
 use Rattle.track_sink.specs.Feds.{same_fed}
 use Rattle.track_laws.proofs.Calm.{one_epoch}
@@ -90,19 +90,19 @@ tracks_as_link t tapped aligns o tracks =
     let none = one_epoch t.periods t.sent t.received t.offset t.skews t.counts x (record { reception = tapped.reception; tapped = tapped.tap }) in
     lists_as_one stray_rule stray_is_rule link_track_listing link_listing link_events t.bytes x tapped.captured none o tracks
 
-last_of : (t : TappedStream) → IsTapped t → Aligns t → IsLastEpoch (record { blue = t.blue; green = t.green; red = t.red })
+last_of : (t : TappedStream) → IsTapped t → Aligns t → IsLastUnrefuted (record { blue = t.blue; green = t.green; red = t.red })
 last_of t tapped (inl (alone, first)) =
-    payload_is_last t.periods t.sent t.received t.offset t.skews t.counts (record { blue = t.blue; green = t.green; red = t.red }) (record { reception = tapped.reception; tapped = tapped.tap }) alone tapped.small
+    payload_is_last_unrefuted t.periods t.sent t.received t.offset t.skews t.counts (record { blue = t.blue; green = t.green; red = t.red }) (record { reception = tapped.reception; tapped = tapped.tap }) alone tapped.small
 last_of t tapped (inr (until, aligns)) =
-    until_is_last t.periods t.sent t.received t.offset t.skews t.counts (record { blue = t.blue; green = t.green; red = t.red }) (record { reception = tapped.reception; tapped = tapped.tap }) tapped.small until aligns
+    until_is_last_unrefuted t.periods t.sent t.received t.offset t.skews t.counts (record { blue = t.blue; green = t.green; red = t.red }) (record { reception = tapped.reception; tapped = tapped.tap }) tapped.small until aligns
 
-relocks_as_one : (tracks : TrackListing) (listing : Listing) → ListsEvents tracks listing → (t : TappedStream) → IsTapped t → Aligns t → (o : RunOutcome) → TracksCapture relock_rule tracks t.bytes o
+relocks_as_one : (tracks : TrackListing) (listing : Listing) → ListsEvents tracks listing → (t : TappedStream) → IsTapped t → Aligns t → (o : RunOutcome) → TracksCapture refuting_rule tracks t.bytes o
     → ListsCapture link_grammar listing t.bytes o
 relocks_as_one tracks listing alike t tapped aligns o done =
-    lists_as_one relock_rule relock_is_rule tracks listing alike t.bytes (record { blue = t.blue; green = t.green; red = t.red }) tapped.captured (last_of t tapped aligns) o done
+    lists_as_one refuting_rule refuting_is_rule tracks listing alike t.bytes (record { blue = t.blue; green = t.green; red = t.red }) tapped.captured (last_of t tapped aligns) o done
 
-pub relocks_as_link : (t : TappedStream) → IsTapped t → Aligns t → (o : RunOutcome) → TracksCapture relock_rule link_track_listing t.bytes o → ListsCapture link_grammar link_listing t.bytes o
+pub relocks_as_link : (t : TappedStream) → IsTapped t → Aligns t → (o : RunOutcome) → TracksCapture refuting_rule link_track_listing t.bytes o → ListsCapture link_grammar link_listing t.bytes o
 relocks_as_link t tapped aligns o done = relocks_as_one link_track_listing link_listing link_events t tapped aligns o done
 
-pub relocks_as_content : (t : TappedStream) → IsTapped t → Aligns t → (o : RunOutcome) → TracksCapture relock_rule content_track_listing t.bytes o → ListsCapture link_grammar content_listing t.bytes o
+pub relocks_as_content : (t : TappedStream) → IsTapped t → Aligns t → (o : RunOutcome) → TracksCapture refuting_rule content_track_listing t.bytes o → ListsCapture link_grammar content_listing t.bytes o
 relocks_as_content t tapped aligns o done = relocks_as_one content_track_listing content_listing content_events t tapped aligns o done

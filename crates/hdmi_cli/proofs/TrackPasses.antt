@@ -12,9 +12,9 @@ use Rattle.command_line.specs.declared.command.Command.TheVariants.{RecoverLink,
 use Rattle.track_sink.specs.Epochs.{EpochRule, stray_rule, front_of, HasNoEnd}
 use Rattle.track_sink.specs.Rules.{IsRule}
 use Rattle.track_sink.specs.StrayRule.{stray_is_rule}
-use Rattle.relock_sink.specs.Relocks.{relock_rule}
-use Rattle.relock_sink.specs.RelockRule.{relock_is_rule}
-use Rattle.relock_laws.proofs.SlipEnds.{slip_ends}
+use Rattle.relock_sink.specs.Refuting.{refuting_rule}
+use Rattle.relock_sink.specs.RefuterRule.{refuting_is_rule}
+use Rattle.relock_laws.proofs.SlipUnrefuted.{slip_ends_alone}
 use Rattle.track_laws.specs.Laws.{Received, FirstAccounted}
 use Rattle.track_laws.proofs.Noticed.{slip_passes}
 use Rattle.hdmi_cli.proofs.Unnoticed.{passed_reported, short_passes, short_reported}
@@ -93,12 +93,12 @@ tracked_as_one words ending before after status ends is named t s y tapped unnot
     as_one_of stray_rule stray_is_rule link_track_listing link_listing RecoverTrack RecoverLink (record { events = link_events; tracked = λ bytes o does. does; listed = λ bytes o does. does })
     words ending before after status ends is named t s y (λ none. none) tapped unnoticed left
 
-relocked_of : (tracks : TrackListing) (listing : Listing) (this alone : Command) → AreAlike relock_rule tracks listing this alone
+relocked_of : (tracks : TrackListing) (listing : Listing) (this alone : Command) → AreAlike refuting_rule tracks listing this alone
     → (words : List (List ℕ)) (ending : Ending) (before after : Devices) (status : ℕ) → RunEnds words ending before after → status ≡ status_of ending → IsCommand words this
     → (t : TappedStream) (s : LineSlip) (y : Fed) → IsSlippedTap t s y → IsUnnoticed t s → before.left ≡ Some t.bytes → Unless (IsTrackedAsOne alone listing t s y) status before after
 relocked_of tracks listing this alone alike words ending before after status ends is named t s y tapped unnoticed left =
-    let law = slip_ends t.periods t.sent t.received t.offset t.skews t.counts (lanes_of t) y s.lane s.place s.dropped s.first s.next (received_of t s y tapped) tapped.slips tapped.in_line in
-    as_one_of relock_rule relock_is_rule tracks listing this alone alike words ending before after status ends is named t s y law.last tapped unnoticed left
+    let law = slip_ends_alone t.periods t.sent t.received t.offset t.skews t.counts (lanes_of t) y s.lane s.place s.dropped s.first s.next (received_of t s y tapped) tapped.slips tapped.in_line in
+    as_one_of refuting_rule refuting_is_rule tracks listing this alone alike words ending before after status ends is named t s y law.last tapped unnoticed left
 
 pub relocked_as_one : (words : List (List ℕ)) (ending : Ending) (before after : Devices) (status : ℕ) → RunEnds words ending before after → status ≡ status_of ending → IsCommand words RecoverRelock
     → (t : TappedStream) (s : LineSlip) (y : Fed) → IsSlippedTap t s y → IsUnnoticed t s → before.left ≡ Some t.bytes → Unless (IsTrackedAsOne RecoverLink link_listing t s y) status before after

@@ -20,9 +20,9 @@ use Rattle.track_sink.specs.Rules.{IsRule}
 use Rattle.track_sink.specs.StrayRule.{stray_is_rule}
 use Rattle.track_sink.specs.declared.watch.Cause.TheVariants.{Slip}
 use Rattle.track_sink.specs.TrackEvents.{TrackEvent, track_events_of, slip_if, end_events}
-use Rattle.relock_sink.specs.Relocks.{relock_rule}
-use Rattle.relock_sink.specs.RelockRule.{relock_is_rule}
-use Rattle.relock_laws.proofs.SlipEnds.{slip_ends}
+use Rattle.relock_sink.specs.Refuting.{refuting_rule}
+use Rattle.relock_sink.specs.RefuterRule.{refuting_is_rule}
+use Rattle.relock_laws.proofs.SlipUnrefuted.{slip_ends_alone}
 use Rattle.track_laws.specs.Laws.{Received}
 use Rattle.track_laws.proofs.Noticed.{second_epoch, slip_noticed}
 use Rattle.track_laws.proofs.Before.{first_epoch}
@@ -141,13 +141,13 @@ pub tracked_across : (words : List (List ℕ)) (ending : Ending) (before after :
 tracked_across words ending before after status ends is named t s y tapped noticed left =
     across_of stray_rule stray_is_rule link_track_listing RecoverTrack (λ bytes o does. does) words ending before after status ends is named t s y (λ start end none. (end, none)) tapped noticed left
 
-relocked_of : (listing : TrackListing) (this : Command) → ((bytes : List ℕ) (o : RunOutcome) → Does this bytes o → TracksCapture relock_rule listing bytes o)
+relocked_of : (listing : TrackListing) (this : Command) → ((bytes : List ℕ) (o : RunOutcome) → Does this bytes o → TracksCapture refuting_rule listing bytes o)
     → (words : List (List ℕ)) (ending : Ending) (before after : Devices) (status : ℕ) → RunEnds words ending before after → status ≡ status_of ending → IsCommand words this
     → (t : TappedStream) (s : LineSlip) (y : Fed) → IsSlippedTap t s y → IsNoticed t s → before.left ≡ Some t.bytes → Unless (IsTrackedAcross listing t s y) status before after
 relocked_of listing this tracks words ending before after status ends is named t s y tapped noticed left =
     let reception : Received t.periods t.sent t.received t.offset t.skews t.counts (lanes_of t) = record { reception = tapped.reception; tapped = tapped.tap } in
-    let law = slip_ends t.periods t.sent t.received t.offset t.skews t.counts (lanes_of t) y s.lane s.place s.dropped s.first s.next reception tapped.slips tapped.in_line in
-    across_of relock_rule relock_is_rule listing this tracks words ending before after status ends is named t s y
+    let law = slip_ends_alone t.periods t.sent t.received t.offset t.skews t.counts (lanes_of t) y s.lane s.place s.dropped s.first s.next reception tapped.slips tapped.in_line in
+    across_of refuting_rule refuting_is_rule listing this tracks words ending before after status ends is named t s y
     (λ start end none. let slip = law.ends s.lane start end in (slip, law.then s.lane start slip)) tapped noticed left
 
 pub relocked_across : (words : List (List ℕ)) (ending : Ending) (before after : Devices) (status : ℕ) → RunEnds words ending before after → status ≡ status_of ending → IsCommand words RecoverRelock

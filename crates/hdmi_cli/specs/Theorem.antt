@@ -126,7 +126,7 @@ pub record Promises (words : List (List ℕ)) (status : ℕ) (before after : Dev
   pub track_slip_passes : IsCommand words RecoverTrack → (t : TappedStream) → (s : LineSlip) → (y : Fed) → IsSlippedTap t s y → IsUnnoticed t s
       → before.left ≡ Some t.bytes → Unless (IsTrackedAsOne RecoverLink link_listing t s y) status before after
   -- `recover relock` writes the text of `recover link`, and across a slip what `recover track` writes: the alignment of a stream that was
-  -- received with sparse damage is confirmed by the guard band after it.
+  -- received with sparse damage is confirmed by the guard band after it, and refuted by no other edges.
   pub relock_headline : IsCommand words RecoverRelock → (t : TappedStream) → IsTapped t → Aligns t → before.left ≡ Some t.bytes
       → Unless (λ status held holds. FromFirst t (λ d e f a. IsRecovered link_listing t d e f a status held holds)) status before after
   pub relock_slip : IsCommand words RecoverRelock → (t : TappedStream) → (s : LineSlip) → (y : Fed) → IsSlippedTap t s y → IsNoticed t s
@@ -134,8 +134,8 @@ pub record Promises (words : List (List ℕ)) (status : ℕ) (before after : Dev
   pub relock_slip_passes : IsCommand words RecoverRelock → (t : TappedStream) → (s : LineSlip) → (y : Fed) → IsSlippedTap t s y → IsUnnoticed t s
       → before.left ≡ Some t.bytes → Unless (IsTrackedAsOne RecoverLink link_listing t s y) status before after
   -- Whatever bits came before: from a control period on of which nineteen characters were received on each lane, and a guard band
-  -- after it, the stream is listed as it was sent, where its alignment is at that control period. It is at that one, or at one before
-  -- that a guard band confirmed.
+  -- after it, the stream is listed as it was sent, where the alignment has the skew of that control period. It is at that one, or at one
+  -- before that a guard band confirmed. It has that skew where the guard band was received whole, or by another skew too something opens.
   pub relock_again : IsCommand words RecoverRelock → (t : AgainStream) → ComesAgain t → before.left ≡ Some t.bytes
       → Unless (λ _ held holds. IsRelockedAgain link_track_listing t held holds) status before after
   -- `recover content relock` writes the text of `recover content`, and so the rows, frames and packets that were received.

@@ -10,11 +10,11 @@ use crate::track_lister::ContentTrackLister;
 use crate::track_listing::list_epochs;
 use listing_writer::ContentLister;
 use outside_io::{Sink, Source};
-use relock_sink::Relock;
+use relock_sink::Refuter;
 use std::alloc::Global;
 
 /// Writes the pictures and the sound of a capture whose lanes may lose bits, while it is read: of the events that `recover relock`
-/// lists, as one stream, and a line for each slip.
+/// lists, as one stream, and a line for each slip and each alignment that is refuted.
 pub fn recover_content_relock<F: Feeds, S: Source, K: Sink>(
     feeding: &F,
     alloc: Global,
@@ -28,7 +28,7 @@ pub fn recover_content_relock<F: Feeds, S: Source, K: Sink>(
     ensures input_later { S.faults input.old ≤ S.faults input.new }
     ensures output_later { K.faults output.old ≤ K.faults output.new }
 {
-    list_epochs::<F, S, Relock, ContentTrackLister<'_, K>>(
+    list_epochs::<F, S, Refuter, ContentTrackLister<'_, K>>(
         feeding,
         alloc,
         input,

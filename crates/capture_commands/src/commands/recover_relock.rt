@@ -10,11 +10,11 @@ use crate::track_lister::LinkTrackLister;
 use crate::track_listing::list_epochs;
 use listing_writer::LinkLister;
 use outside_io::{Sink, Source};
-use relock_sink::Relock;
+use relock_sink::Refuter;
 use std::alloc::Global;
 
 /// Writes the link listing of a capture whose lanes may lose bits, and whose alignment is used only where a period opens at its
-/// edges, while it is read: else the lanes are searched anew.
+/// edges and until it is refuted, while it is read: else the lanes are searched anew.
 pub fn recover_relock<F: Feeds, S: Source, K: Sink>(
     feeding: &F,
     alloc: Global,
@@ -28,7 +28,7 @@ pub fn recover_relock<F: Feeds, S: Source, K: Sink>(
     ensures input_later { S.faults input.old ≤ S.faults input.new }
     ensures output_later { K.faults output.old ≤ K.faults output.new }
 {
-    list_epochs::<F, S, Relock, LinkTrackLister<'_, K>>(
+    list_epochs::<F, S, Refuter, LinkTrackLister<'_, K>>(
         feeding,
         alloc,
         input,
