@@ -1219,6 +1219,12 @@ export const FAULTS = {
     "says": "a lane lost bits; from here on the lanes were searched anew",
     "isDense": false,
     "isOfSkew": false
+  },
+  "relock": {
+    "row": "slip",
+    "says": "a later guard band refuted the alignment; from here on the lanes were searched anew",
+    "isDense": false,
+    "isOfSkew": false
   }
 };
 /** @type {Record<string, {says: string, isLimit: boolean}>} */

@@ -14,7 +14,7 @@ import numpy.typing as npt
 from vabgrot import listing
 from vabgrot.errors import Refused
 from vabgrot.formats.characters import HSYNC, PACKET, VSYNC
-from vabgrot.formats.faults import LANED, NEXT, OF_PACKET, UNCOUNTED
+from vabgrot.formats.faults import ANEW, LANED, NEXT, OF_PACKET, UNCOUNTED
 from vabgrot.listing import Line
 
 if TYPE_CHECKING:
@@ -32,9 +32,9 @@ Fields = tuple[str | int | bytes, ...]
 
 
 class Thing(NamedTuple):
-    """A line of a link listing: `kind` is control, video, open, packet, close, fault, slip or cut. `column` is counted
-    from the first column of its epoch on, `at` from the first of all; `is_exact` says whether both are certain, and `is_guess` whether they
-    are likely though not certain. The pixels of a line are digits, or bytes where no text was read."""
+    """A line of a link listing: `kind` is control, video, open, packet, close, fault, slip (of a lane, or an alignment that was refuted)
+    or cut. `column` is counted from the first column of its epoch on, `at` from the first of all; `is_exact` says whether both are
+    certain, and `is_guess` whether they are likely though not certain. The pixels of a line are digits, or bytes where no text was read."""
 
     kind: str
     line: int
@@ -228,8 +228,8 @@ class Columns:
         numbers = [listing.number(text, line) for text in texts]
         if not numbers or kind in LANED and len(numbers) < 2:
             raise Refused(f"line {line}: a fault without its place")
-        if kind == "slip":
-            thing = self.thing("slip", line, 0, ("slip", *numbers))
+        if kind in ANEW:
+            thing = self.thing("slip", line, 0, (kind, *numbers))
             self.epoch, self.before = self.epoch + 1, self.before + self.column
             self.restart()
             return thing
@@ -253,7 +253,7 @@ class Columns:
 @dataclass
 class Frame:
     """The lines between two changes of VSYNC: their pixels, the columns of their first pixels, and the faults among
-    them. `ended` says what ended it: a change of VSYNC, a slip, or the end of the listing. `change` is the column of its
+    them. `ended` says what ended it: a change of VSYNC, a slip, a relock, or the end of the listing. `change` is the column of its
     epoch at which VSYNC changed before it, None where that is not even likely."""
 
     is_whole: bool
@@ -367,7 +367,7 @@ class Frames:
     def special(self, thing: Thing) -> Frame | None:
         """A fault or a slip; nothing of another thing."""
         if thing.kind == "slip":
-            return self.finish("slip")
+            return self.finish(thing.fault)
         if thing.kind == "fault" and self.frame.rows:
             self.fault(thing)
         return None

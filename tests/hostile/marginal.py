@@ -77,40 +77,43 @@ def dead(rng: random.Random) -> list[str]:
 
 def marginal(program: str, seed: int, count: int) -> Iterator[Case]:
     """What is listed of each kind is what the model lists."""
-    counted: collections.Counter[str] = collections.Counter()
+    counted: collections.Counter[tuple[str, str]] = collections.Counter()
     for kind, case in itertools.product((errors, noise, characters, modes, dead), range(count)):
         name = f"{kind.__name__} {case} of seed {seed}"
         lanes = kind(random.Random(name))
         epochs = [*relocking.epochs(lanes)]
-        counted[kind.__name__] += sum(lane is None for _, _, lane in epochs[:-1])
+        counted.update((kind.__name__, line.split()[1].decode() if line else "unconfirmed") for _, _, line in epochs[:-1])
         came = run(program, FURTHER[4], model.capture_of(2, lanes))[:2]
         yield f"recover relock of {name}", came, relocking.relocked(lanes, hearing.link_of)
         came = run(program, FURTHER[5], model.capture_of(2, lanes))[:2]
         yield f"recover content relock of {name}", came, relocking.relocked_content(lanes)
-    print(f"alignments that are not confirmed: {dict(counted)}")
+    print(f"how epochs end: {dict(counted)}")
 
 
 COMMANDS = READERS[0], FURTHER[0], FURTHER[4]
 
 
-def rows_listed(program: str, name: str, rate: float) -> tuple[int, list[int]]:
-    """Of a capture with wrong bits at a rate how many of its rows came undamaged, and how many of these each command lists as they were
-    sent. A row is undamaged where its characters, its guards and the twenty control characters before it are."""
+def rows_listed(program: str, name: str, rate: float, lost: int = 0) -> tuple[int, list[int]]:
+    """Of a capture with wrong bits at a rate, a lane of which loses some bits once, how many of its rows came undamaged, and how many of
+    these each command lists as they were sent. A row is undamaged where its characters, its guards and the twenty control characters
+    before it are."""
     rng = random.Random(name)
     stream = Stream()
     for _ in range(ROWS):
         stream.add(control(0, 160, "video"), line(rng, rng.choice((16, 40, WIDTH))))
     stream.add(control(0, 60))
-    tap = Tap(2, rng.randrange(10), tuple(rng.randrange(71) for _ in range(3)), (0, 0, 0))
+    tap = Tap(2, rng.randrange(10), tuple(rng.randrange(71 - lost) for _ in range(3)), (0, 0, 0))
     lanes = tap.lanes(stream.received)
-    hurt = [with_errors(rng, bits, rate) for bits in lanes]
+    hurt = [with_errors(rng, bits, rate) for bits in lanes] if rate else lanes
+    lane, place = (rng.randrange(3), rng.randrange(len(lanes[0]))) if lost else (0, 0)
     clean: collections.Counter[bytes] = collections.Counter()
     for it, first in zip(stream.periods[1::2], stream.firsts[1::2]):
         begins = [10 * (first - 20) - tap.offset - skew for skew in tap.skews]
         ends = [10 * (first + len(it.columns) + 1) - tap.offset - skew for skew in tap.skews]
-        if all(old[a:b] == new[a:b] for old, new, a, b in zip(lanes, hurt, begins, ends)):
+        is_torn = lost and begins[lane] < place + lost and place < ends[lane]
+        if not is_torn and all(old[a:b] == new[a:b] for old, new, a, b in zip(lanes, hurt, begins, ends)):
             clean[it.lines[0]] += 1
-    data = model.capture_of(2, hurt)
+    data = model.capture_of(2, model.slipped(hurt, lane, place, lost) if lost else hurt)
     listed = [collections.Counter(run(program, words, data)[1].splitlines()) for words in COMMANDS]
     return clean.total(), [sum(min(many, lines[text]) for text, many in clean.items()) for lines in listed]
 
@@ -124,13 +127,14 @@ def rows_kept(program: str, seed: int, _: int) -> Iterator[Case]:
 
 
 def main() -> None:
-    """Prints how many rows in a hundred that came undamaged each command lists, at some rates of wrong bits."""
+    """Prints how many rows in a hundred that came undamaged each command lists, at some rates of wrong bits, and where a lane loses some
+    bits once."""
     program = built()
-    for rate in (3e-3, 1e-3, 3e-4, 1e-4, 1e-5):
-        found = [rows_listed(program, f"rates {rate} {case}", rate) for case in range(60)]
+    for rate, lost in ((3e-3, 0), (1e-3, 0), (3e-4, 0), (1e-4, 0), (1e-5, 0), (0, 3), (0, 10), (0, 20), (0, 30), (0, 70)):
+        found = [rows_listed(program, f"rates {rate} {case}", rate, lost) for case in range(60)]
         whole, sums = sum(clean for clean, _ in found), [sum(counts) for counts in zip(*(listed for _, listed in found))]
         nothing = [sum(clean > 0 and listed[at] == 0 for clean, listed in found) for at in range(len(COMMANDS))]
-        print(rate, whole, *(f"{' '.join(words)}: {100 * kept / whole:.2f} ({none} of 60 captures without any)"
+        print(rate, lost, whole, *(f"{' '.join(words)}: {100 * kept / whole:.2f} ({none} of 60 captures without any)"
                              for words, kept, none in zip(COMMANDS, sums, nothing)), sep="; ")
 
 

@@ -1,5 +1,5 @@
 """A small model of `recover relock` and `recover content relock`: the epochs of lanes whose first alignment is used only where a period
-opens at its edges."""
+opens at its edges, and until other edges refute it."""
 import bisect
 import itertools
 
@@ -25,28 +25,64 @@ def edges(bits, places, start):
             yield place + 120
 
 
-def first_triple(rows):
-    """The edges of three lanes, any two near each other, whose greatest is least."""
+def triples(rows):
+    """The edges of three lanes, any two near each other, in the order of the greatest of them."""
     for last, lane in sorted((edge, lane) for lane, row in enumerate(rows) for edge in row):
-        near = [[edge for edge in row if last - NEAR <= edge <= last] if at != lane else [last] for at, row in enumerate(rows)]
+        near = [row[bisect.bisect_left(row, last - NEAR) : bisect.bisect_right(row, last)] if at != lane else [last] for at, row in enumerate(rows)]
         for triple in itertools.product(*near):
             if max(triple) - min(triple) <= NEAR:
-                return triple
-    return None
+                yield triple
+
+
+def columns_at(lanes, places):
+    """The columns at a place of each lane and behind it, each with how many of its characters are guards of a kind; none where they have
+    not all arrived."""
+    columns = [[character(bits, place + past) for bits, place in zip(lanes, places)] for past in (0, 10)]
+    if None in columns[0] + columns[1]:
+        return None
+    return [[sum(word in guards for word, guards in zip(column, kind)) for column in columns] for kind in GUARDS]
 
 
 def is_announced(lanes, triple):
     """Whether a guard band begins at three edges, the first column whole and two characters of the second; none where they have not
     all arrived."""
-    columns = [[character(bits, edge + past) for bits, edge in zip(lanes, triple)] for past in (0, 10)]
-    if None in columns[0] + columns[1]:
+    counts = columns_at(lanes, triple)
+    return counts and any(here == 3 and after >= 2 for here, after in counts)
+
+
+def is_rival(lanes, own, triple):
+    """Whether a guard band is received whole at edges that are later than the alignment's, at another skew."""
+    apart = [edge - place for edge, place in zip(triple, own)]
+    return min(apart) > 0 and len({*apart}) > 1 and [3, 3] in (columns_at(lanes, triple) or [])
+
+
+def opens_nothing(lanes, own, triple):
+    """Whether by the alignment a control period ends where the others' does, and the two columns after it open no period."""
+    before = sorted((edge - place) // 10 for edge, place in zip(triple, own))[1]
+    places = [place + 10 * before for place in own]
+    controls = [sum(bits[place + past : place + past + 10] in model.SENT_CONTROL for bits, place in zip(lanes, places)) for past in (-10, 0)]
+    counts = columns_at(lanes, places)
+    return counts is not None and controls[0] >= 2 > controls[1] and all(here + after < 5 for here, after in counts)
+
+
+def end_of_alignment(lanes, rows):
+    """Where what shows the alignment unconfirmed or refuted ends, where the epoch ends then, and the fault line of that; none where
+    nothing does."""
+    own = next(triples(rows), None)
+    if not own or is_announced(lanes, own) is None:
         return None
-    counts = [[sum(word in guards for word, guards in zip(column, kind)) for column in columns] for kind in GUARDS]
-    return any(here == 3 and after >= 2 for here, after in counts)
+    if not is_announced(lanes, own):
+        return max(own) + 20, min(own) - 119, b""
+    later = [row[bisect.bisect_right(row, edge) :] for row, edge in zip(rows, own)]
+    for triple in triples(later):
+        if is_rival(lanes, own, triple) and opens_nothing(lanes, own, triple):
+            shown = max(triple) + 90, min(triple) - 120, b"! relock %d\n" % (min(triple) - 120)
+            return shown if shown[0] <= max(map(len, lanes)) else None
+    return None
 
 
 def epochs(lanes):
-    """Where each epoch begins and ends (none: with the capture), and the lane of the stray that ends it (none: its alignment is not
+    """Where each epoch begins and ends (none: with the capture), and the fault line that tells of its end (empty: its alignment is not
     confirmed)."""
     runs = [model.strays(bits) for bits in lanes]
     start = 0
@@ -55,39 +91,39 @@ def epochs(lanes):
         for lane, (places, later) in enumerate(runs):
             at = bisect.bisect_left(places, start)
             if at < len(places) and later[at] is not None:
-                ends.append((later[at] + 120, 0, later[at], lane))
-        triple = first_triple([list(edges(bits, places, start)) for bits, (places, _) in zip(lanes, runs)])
-        if triple and is_announced(lanes, triple) is False:
-            ends.append((max(triple) + 20, 1, min(triple) - 119, None))
-        _, _, end, lane = min(ends, default=(None, None, None, None), key=lambda it: it[:3])
-        yield start, end, lane
+                ends.append((later[at] + 120, 0, later[at], b"! slip %d %d\n" % (lane, later[at])))
+        shown = end_of_alignment(lanes, [list(edges(bits, places, start)) for bits, (places, _) in zip(lanes, runs)])
+        if shown:
+            ends.append((shown[0], 1, *shown[1:]))
+        _, _, end, line = min(ends, default=(None, None, None, b""), key=lambda it: it[:3])
+        yield start, end, line
         start = end
 
 
 def relocked(lanes, link):
     """The status and the output of `recover relock`, where `link` gives status and listing of `recover link` of bits."""
-    text, aligned, faults, slip = b"", False, False, None
-    for start, end, lane in epochs(lanes):
-        if aligned and slip:
-            text += b"! slip %d %d\n" % slip
+    text, aligned, faults, last = b"", False, False, b""
+    for start, end, line in epochs(lanes):
+        if aligned and last:
+            text += last
             faults = True
         status, listing = link([bits[start:end] for bits in lanes])
         if status != 7:
             aligned, faults = True, faults or status == 1
             text += listing.removesuffix(b"end\n")
-        slip = None if lane is None else (lane, end)
+        last = line
     return ((1 if faults else 0), text + b"end\n") if aligned else (7, b"")
 
 
 def relocked_content(lanes):
     """The status and the output of `recover content relock`: the content of what is told in each epoch, as one stream."""
-    events, aligned, slip = [], False, None
-    for start, end, lane in epochs(lanes):
-        if aligned and slip:
-            events.append((0, b"! slip %d %d" % slip))
+    events, aligned, last = [], False, b""
+    for start, end, line in epochs(lanes):
+        if aligned and last:
+            events.append((0, last.rstrip()))
         columns = model.aligned([bits[start:end] for bits in lanes])
         if columns:
             aligned = True
             events += hearing.told(columns)
-        slip = None if lane is None else (lane, end)
+        last = line
     return hearing.with_status(hearing.contents(events)) if aligned else (7, b"")

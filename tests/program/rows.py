@@ -48,6 +48,17 @@ def slipped(program):
         yield f"slip {word}", run(program, ["slip", word], made), (2, b"", USAGE)
 
 
+def refuted(program):
+    """Lane 2 loses two whole characters, which is no slip: the next guard band refutes the alignment."""
+    head, rest = b"c 00 4\nc 04 8\nv " + b"000000" * 28, b"c 04 8\nv ff0000\nc 00 12\nend\n"
+    hurt = run(program, ["make", "link"], head + b"000000000000\nc 00 24\n" + rest)[1]
+    for word in ("2:300:9", "2:300:9", "2:300:2"):
+        hurt = run(program, ["slip", word], hurt)[1]
+    wanted = head + b"fd0000fd0000\n! code 2 30\nc 00 18\n! relock 620\nc 00 4\n" + rest
+    yield "recover relock of lost characters", run(program, ["recover", "relock"], hurt), (1, wanted, b"")
+    yield "recover content relock of them", run(program, FURTHER[5], hurt), (1, b"! code 2 30\n! relock 620\nend\n", b"")
+
+
 def marginal(program):
     """A damaged control character ends the first control period too early on one lane: the alignment there is not confirmed."""
     listing = b"c 00 22\nc 04 8\nv ff0000\nc 00 12\nc 04 8\nv ff0000\nc 00 12\nend\n"
@@ -208,4 +219,4 @@ def usual(program):
     yield "no alignment", run(program, ["recover", "link"], b"TMC1\0\0\0\0"), (7, b"", b"no alignment\n")
 
 
-TABLES = (usual, wide, slipped, marginal, torn, sound, relayed, dvi)
+TABLES = (usual, wide, slipped, refuted, marginal, torn, sound, relayed, dvi)

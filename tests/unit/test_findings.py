@@ -79,6 +79,9 @@ def test_a_slip_that_is_not_aligned_hides_columns(found):
     ]
     assert (read.columns, read.aligned_columns) == (44, 40)
     assert read.faults["lane"] == [1, 0] and read.faults["more"] == [[400], [440]]
+    read = found("c 00 20\n! slip 1 400\n! relock 440\nc 00 20", bits=1000)
+    assert [(epoch.place, epoch.hidden) for epoch in read.epochs] == [(0, 0), (400, 40), (440, 0)]
+    assert read.faults["kind"] == ["slip", "relock"] and read.faults["lane"] == [1, -1] and read.faults["more"] == [[400], [440]]
 
 
 def test_a_frame_of_another_size_than_its_infoframe_says(found):

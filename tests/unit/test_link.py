@@ -70,6 +70,9 @@ def test_a_slip_begins_anew():
     found = things("c 00 20\n! slip 2 437\nc 00 5")
     assert [(it.kind, it.epoch, it.column, it.at) for it in found] == [("control", 0, 0, 0), ("slip", 0, 20, 20), ("control", 1, 0, 20)]
     assert (found[1].fault, found[1].numbers) == ("slip", (2, 437))
+    found = things("c 00 20\n! relock 620\nc 00 5")
+    assert [(it.kind, it.epoch, it.column, it.at) for it in found] == [("control", 0, 0, 0), ("slip", 0, 20, 20), ("control", 1, 0, 20)]
+    assert (found[1].fault, found[1].numbers) == ("relock", (620,))
 
 
 def test_lines_of_one_length_are_counted_over_noise():
@@ -153,8 +156,9 @@ def test_faults_of_a_frame_and_their_pixels():
 
 
 def test_a_slip_ends_a_frame():
-    (found,) = frames("c 00 12\n" + ROW.format("111111") + "! slip 0 900\nc 00 12")
-    assert (found.is_whole, found.ended) == (False, "slip")
+    for fault, ended in (("! slip 0 900", "slip"), ("! relock 900", "relock")):
+        (found,) = frames("c 00 12\n" + ROW.format("111111") + f"{fault}\nc 00 12")
+        assert (found.is_whole, found.ended) == (False, ended)
 
 
 def test_a_rise_of_hsync_twice_at_one_column():

@@ -82,6 +82,7 @@ LINK = _by_kind(
         hurts_picture=True,
     ),
     Fault("slip", "slip", "a lane lost bits; from here on the lanes were searched anew", has_lane=True),
+    Fault("relock", "slip", "a later guard band refuted the alignment; from here on the lanes were searched anew"),
 )
 CONTENT = {
     fault.kind: fault
@@ -108,6 +109,7 @@ NEXT = kinds(lambda fault: fault.is_next)
 OF_PACKET = kinds(lambda fault: fault.is_of_packet)
 UNCOUNTED = kinds(lambda fault: fault.is_uncounted)
 DENSE = kinds(lambda fault: fault.is_dense)
+ANEW = kinds(lambda fault: fault.row == "slip")  # they name a place of the capture, and columns are counted anew behind them
 OF_SKEW = kinds(lambda fault: fault.is_of_skew)
 OF_PICTURE = kinds(lambda fault: fault.hurts_picture) | {it.kind for it in CONTENT.values() if it.hurts_picture}
 OF_SOUND = {it.kind for it in CONTENT.values() if it.hurts_sound} | {"lost"}  # a lost packet may be one of samples

@@ -5,7 +5,7 @@ from collections.abc import Iterator
 from typing import NamedTuple
 
 from vabgrot.formats.characters import LEAST_CONTROL
-from vabgrot.formats.faults import DENSE
+from vabgrot.formats.faults import ANEW, DENSE
 from vabgrot.report.findings import PERIODS, Faults, Periods
 
 CONTROL, VIDEO, PACKET, OPEN, CLOSE = map(PERIODS.index, ("control", "video", "packet", "open", "close"))
@@ -23,14 +23,14 @@ class Burst(NamedTuple):
 
 def bursts_of(faults: Faults, periods: Periods) -> list[Burst]:
     """The bursts among the faults of a listing, in the order of their columns. No row and no island that stands alone lies in
-    one; nor does a slip."""
+    one; nor does a slip or a relock."""
     order = sorted(range(len(faults["at"])), key=faults["at"].__getitem__)
     certain = list(standing_alone(periods, sorted(faults["at"])))
     groups: list[list[int]] = []
     for number in order:
         at = faults["at"][number]
         last = groups[-1][-1] if groups else number
-        is_split = "slip" in (faults["kind"][number], faults["kind"][last])
+        is_split = faults["kind"][number] in ANEW or faults["kind"][last] in ANEW
         before = bisect_left(certain, faults["at"][last])
         if not groups or is_split or at - faults["at"][last] > NEAR or before < bisect_left(certain, at):
             groups.append([])

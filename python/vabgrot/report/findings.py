@@ -14,7 +14,7 @@ from vabgrot import packets
 from vabgrot.batch import Batch, Gathering
 from vabgrot.contents import Contents
 from vabgrot.formats.characters import TEN
-from vabgrot.formats.faults import LANED, OF_PACKET, UNCOUNTED
+from vabgrot.formats.faults import ANEW, LANED, OF_PACKET, UNCOUNTED
 from vabgrot.link import CLOSE, CONTROL, ISLAND_PACKET, KINDS as LISTED, OPEN, VIDEO, Columns, Doubts, Frame, Frames, Thing
 from vabgrot.report.fields import Fields
 from vabgrot.report.sound import Sound
@@ -377,15 +377,15 @@ class Findings(Generic[Shown]):
         kind, numbers = thing.fault, [*thing.numbers]
         self.counts[kind, numbers[0] if kind in LANED else None] += 1
         lane = numbers.pop(0) if kind in LANED else -1
-        if kind == "slip":
+        if kind in ANEW:
             self.hide(numbers[0])
         if self.frames_of.frame.rows:
             self.pending.append(len(self.faults["kind"]))
-        more = numbers if kind == "slip" else numbers[1:]
-        self.add_fault(thing, self.columns if kind == "slip" else thing.at, lane, more)
+        more = numbers if kind in ANEW else numbers[1:]
+        self.add_fault(thing, self.columns if kind in ANEW else thing.at, lane, more)
         if kind in OF_PACKET and self.last:
             self.judge(self.last, kind, more)
-        elif kind == "slip":
+        elif kind in ANEW:
             self.is_certain &= thing.is_exact
             self.epochs.append(Epoch(self.columns, numbers[0]))
             self.sound.lose()

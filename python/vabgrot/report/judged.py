@@ -7,6 +7,7 @@ from typing import Any
 
 import numpy as np
 
+from vabgrot.formats.faults import ANEW
 from vabgrot.judging.diagnosis import causes_of
 from vabgrot.judging.judge import verdicts
 from vabgrot.judging.naming import Column, Namer
@@ -36,7 +37,7 @@ def record_of(found: Findings[Any]) -> Record:
     spans.set_islands(at[packet], at[opens], at[closes])
     faults = found.faults
     for kind, lane, here, more in zip(faults["kind"], faults["lane"], faults["at"], faults["more"]):
-        column = (here,) if kind != "slip" else ()
+        column = (here,) if kind not in ANEW else ()
         spans.faults.append((kind, here, (lane, *column, *more) if lane >= 0 else (*column, *more)))
     spans.columns = found.columns
     return Record(found.meter, spans, [Heard(told.at, told.packet, told.content is not None) for told in found.packets])

@@ -14,7 +14,7 @@ from tqdm import tqdm
 from vabgrot import command, listing, packets, reading
 from vabgrot.errors import Refused
 from vabgrot.formats import modes
-from vabgrot.formats.faults import OF_PACKET, OF_PICTURE
+from vabgrot.formats.faults import ANEW, OF_PACKET, OF_PICTURE
 from vabgrot.link import Columns, Frames, Thing
 from vabgrot.reading import ByLibrary, ByProgram
 from vabgrot.replacing import replacing
@@ -163,7 +163,7 @@ class Pictures:
     def fault(self, line: int, fields: list[str]) -> None:
         """Counts a fault; one that comes before the frame's first row touches no row that is listed."""
         kind = fields[0]
-        if kind == "slip":
+        if kind in ANEW:
             self.leave()
         if kind not in OF_PICTURE or not self.frame.rows:
             self.others += 1

@@ -45,7 +45,8 @@ PAGE = Path(bursts.__file__).resolve().parent / "page"
 SCRIPTS = ("tables.js", "sound.js", "report.js", "start.js")
 PLACES = ("on lane 0 (blue)", "on lane 1 (green)", "on lane 2 (red)", "of no lane")
 BLOCKS = ("body 0", "body 1", "body 2", "body 3", "header")
-ENDS = {"vsync": "whole", "slip": "broken off by a slip", "end": "broken off by the end of the capture"}
+ENDS = {"vsync": "whole", "slip": "broken off by a slip", "relock": "broken off where the alignment was refuted"}
+ENDS |= {"end": "broken off by the end of the capture"}
 EXAMPLES = """./vabgrot make content < examples/bars.content > bars.tmc
 tools/report bars.tmc -o bars.html"""
 DVI_ADVICE = """No control period ends in the guard bands of HDMI, at any skew of the lanes: a DVI source has none.
@@ -176,19 +177,23 @@ def bits_of(bits: list[int]) -> str:
 
 
 class Slips(NamedTuple):
-    """What became of the slips, in words: how many were aligned anew, and from which place on none; and what is not shown."""
+    """What became of the slips and the refuted alignments, in words: how many times the lanes were aligned anew, and from which place on
+    not; and what is not shown."""
 
     number: int
+    refuted: int
     aligned: str
     hidden: str
 
     def __str__(self) -> str:
-        says = f"{self.number:,} slip{'s' * (self.number > 1)}, {self.aligned}"
+        both = ("slip", self.number), ("refuted alignment", self.refuted)
+        told = " and ".join(f"{many:,} {name}{'s' * (many > 1)}" for name, many in both if many)
+        says = f"{told}, {self.aligned}"
         return f"{says}: {self.hidden} not shown" if self.hidden else says
 
 
 def slips_of(found: Found, bits: list[int]) -> Slips | None:
-    """What became of the slips; None where there are none."""
+    """What became of the slips and of the refuted alignments; None where there are none."""
     epochs = found.epochs[1:]
     if not epochs:
         return None
@@ -203,7 +208,8 @@ def slips_of(found: Found, bits: list[int]) -> Slips | None:
         start = epochs[last].place
         aligned.append(f"none from place {start:,} on")
         hidden.append(bits_of([max(0, count - start) for count in bits]))
-    return Slips(len(epochs), ", ".join(aligned), f"{' and '.join(hidden)} are" if hidden else "")
+    refuted = found.counts["relock", None]
+    return Slips(len(epochs) - refuted, refuted, ", ".join(aligned), f"{' and '.join(hidden)} are" if hidden else "")
 
 
 def is_faulty(found: Found, run: Reading) -> bool:
@@ -328,7 +334,8 @@ def counts_of(found: Found, bits: list[int], size: int, slips: Slips | None, cha
         ("capture", f"{size / 1e6:,.1f} MB" if size >= 1e6 else f"{size:,} bytes", bits_of(bits)),
     ]
     if slips:
-        counts.insert(1, ("slips", f"{slips.number:,}", slips.aligned))
+        both = ("slips", slips.number), ("refuted alignments", slips.refuted)
+        counts[1:1] = [(name, f"{many:,}", slips.aligned) for name, many in both if many]
     if found.content_counts.total():
         counts.insert(1, ("contents", f"{found.content_counts.total():,}", "faults of what was carried"))
     return counts

@@ -12,7 +12,7 @@ from vabgrot import listing
 from vabgrot.errors import Refused
 from vabgrot.events import Kind
 from vabgrot.formats.characters import PACKET, VSYNC
-from vabgrot.formats.faults import LANED, LINK, NEXT, OF_PACKET
+from vabgrot.formats.faults import LANED, NEXT, OF_PACKET
 from vabgrot.link import Columns
 from vabgrot.video.timings import Meter
 from vabgrot.watching.counting import END, KINDS, SIZE, SLIP, Bytes, Fault, Ints
@@ -25,7 +25,7 @@ OF_NAME[[CONTROL, ROW, PACKETS, OPEN, CLOSE, FAULT]] = Kind.RUN, Kind.LINE, Kind
 OF_KIND = np.zeros(SLIP + 2, np.int64)  # the columns of lines of one length; the last one is that of END
 OF_KIND[[Kind.PACKET, Kind.OPEN, Kind.CLOSE, Kind.NOISE]] = PACKET, 2, 2, 1
 LETTERS = (0, 1, 4)  # of the name of a fault and the space behind it: they tell each kind
-KEYS = {sum(ord(f"{name} "[at]) << 8 * place for place, at in enumerate(LETTERS)): KINDS[name] for name in LINK}
+KEYS = {sum(ord(f"{name} "[at]) << 8 * place for place, at in enumerate(LETTERS)): kind for name, kind in KINDS.items()}
 SORTED = np.array(sorted(KEYS), np.int64)
 NUMBERS = np.array([KEYS[key] for key in sorted(KEYS)], np.int64)
 IS_ANCHOR = np.isin(np.arange(SLIP + 2), [KINDS[name] for name in NEXT | OF_PACKET] + [Kind.CUT])  # they name a column that is known
@@ -39,7 +39,7 @@ def fault_of(line: bytes, epoch: int) -> Fault:
     """What a fault line says; raises Refused where it is none."""
     kind, *texts = line.decode("ascii", "replace").split(" ")[1:]
     numbers = [int(text) for text in texts if text.isdecimal()]
-    if kind not in LINK or len(numbers) != len(texts) or len(numbers) < 1 + (kind in LANED):
+    if kind not in KINDS or len(numbers) != len(texts) or len(numbers) < 1 + (kind in LANED):
         raise Refused(f"`{line[:20].decode('ascii', 'replace')}` is no fault line")
     lane = numbers.pop(0) if kind in LANED else None
     return Fault(kind, lane, epoch, numbers[0], tuple(numbers[1:]))

@@ -9,7 +9,8 @@ from prometheus_client.core import CounterMetricFamily, GaugeMetricFamily, Metri
 from prometheus_client.registry import Collector
 
 from vabgrot.errors import Refused
-from vabgrot.formats.faults import LANED, LINK
+from vabgrot.formats.faults import LANED
+from vabgrot.watching.counting import KINDS
 from vabgrot.watching.state import State
 
 LOOPBACK = "127.0.0.1"
@@ -27,7 +28,7 @@ class Watched(Collector):
         state, count = self.state, self.state.count
         times = count.faults
         faults = CounterMetricFamily("vabgrot_faults", "Fault lines of the link.", labels=["kind", "lane"])
-        for kind in LINK:
+        for kind in KINDS:
             for lane in range(len(LANES)) if kind in LANED else (None,):
                 faults.add_metric([kind, "" if lane is None else LANES[lane]], times[kind, lane])
         yield faults

@@ -106,9 +106,10 @@ function save(name, text) {
 
 function faultText(fault) {
   const [kind, lane, more] = [data.faults.kind[fault], data.faults.lane[fault], data.faults.more[fault]];
-  if (kind === "slip") {
+  if (kind === "slip" || kind === "relock") {
     const isAligned = data.alignments[data.faults.epoch[fault] + 1];
-    return `slip of ${LANES[lane]}, found at bit ${count(more[0])} of it, ${isAligned ? "aligned anew" : "not aligned anew"}`;
+    const what = kind === "slip" ? `slip of ${LANES[lane]}, found` : "alignment refuted, and searched anew";
+    return `${what} at bit ${count(more[0])}${kind === "slip" ? " of it" : ""}, ${isAligned ? "aligned anew" : "not aligned anew"}`;
   }
   if (kind === "symbols") return `symbols: ${more[0]} of 96 characters`;
   if (kind === "mended") return `mended: ${data.blocks[more[0]]}, bit ${more[1]}`;
@@ -133,7 +134,7 @@ function faultFields(fault) {
   const hasBlock = kind === "mended" || kind === "lost";
   return [
     data.faults.line[fault], kind, lane < 0 ? "" : lane, data.alignments[data.faults.epoch[fault]], data.faults.column[fault], faultText(fault),
-    hasBlock ? data.blocks[more[0]] : "", kind === "mended" ? more[1] : "", kind === "symbols" ? more[0] : "", kind === "slip" ? more[0] : "",
+    hasBlock ? data.blocks[more[0]] : "", kind === "mended" ? more[1] : "", kind === "symbols" ? more[0] : "", kind === "slip" || kind === "relock" ? more[0] : "",
     isPixel && picture.whole ? picture.label : "", isPixel ? rowOf(fault) : "", isPixel && x >= 0 ? x : "", isPixel ? sideOf(frame) : "",
   ];
 }
