@@ -14,7 +14,7 @@ use Rattle.link_sink.specs.Hearings.{IsGrammar}
 use Rattle.link_sink.specs.Sinks.{Fed, IsReportedBy}
 use Rattle.listing_writer.specs.Texts.{counted}
 use Rattle.command_line.specs.declared.command.Command.{Command}
-use Rattle.capture_commands.specs.Blocks.{AreBefore, AreRead, AreNext}
+use Rattle.capture_reading.specs.Blocks.{AreBefore, AreRead, AreNext}
 use Rattle.link_sink.specs.Ears.{IsHeardSoFar, IsBroken}
 use Rattle.capture_commands.specs.Hearings.{IsHeardSome}
 use Rattle.capture_commands.specs.Endings.{Devices, IsAnswered, ListsPart, Ends, heard_ending, judged_ending, status_of, note_of, seen}
@@ -24,15 +24,15 @@ use Rattle.capture_commands.specs.Notes.{capture_note, alignment_note}
 use Rattle.capture_commands.specs.Outcome.{status_with}
 use Rattle.capture_commands.specs.declared.ending.Ending.{Ending}
 use Rattle.capture_commands.specs.declared.ending.Ending.TheVariants.{Done, Faulty, Unaligned}
-use Rattle.capture_commands.specs.declared.reading.HearError.{HearError}
-use Rattle.capture_commands.specs.declared.reading.HearError.TheVariants.{Bad, Read, Ear}
+use Rattle.capture_reading.specs.declared.reading.ReadCaptureError.{ReadCaptureError}
+use Rattle.capture_reading.specs.declared.reading.ReadCaptureError.TheVariants.{Bad, Read, Ear}
 use Rattle.capture_commands.specs.Listers.{IsText, Writes}
 use Rattle.capture_commands.specs.ListsCommands.{IsLists}
-use Rattle.capture_commands.proofs.BlockReading.{rose_after}
+use Rattle.capture_reading.proofs.BlockReading.{rose_after}
 use Rattle.capture_commands.proofs.Listings.{kept_none, broken_past, text_past, end_past, begins_reported}
 
 -- a capture was not heard to its end
-pub record Unheard {A : Type 0} (g : Grammar) (took : A → A → List Event → Type 0) (broke : A → A → Event → Type 0) (left rest : Option (List ℕ)) (reads read_faults : ℕ) (old new : A) (writes write_faults : ℕ) (e : HearError) : Type 0 where
+pub record Unheard {A : Type 0} (g : Grammar) (took : A → A → List Event → Type 0) (broke : A → A → Event → Type 0) (left rest : Option (List ℕ)) (reads read_faults : ℕ) (old new : A) (writes write_faults : ℕ) (e : ReadCaptureError) : Type 0 where
   pub bad :
       (bytes : List ℕ) (fault : CaptureFault) → left ≡ Some bytes → e ≡ Bad fault
       → IsFault bytes fault × ((fed : Fed) × AreBefore bytes (place_of fault) fed × IsHeardSoFar g took fed old new)
@@ -96,7 +96,7 @@ on_last command on last = grind arith
 
 -- the ending of what was not heard to its end
 pub unheard_ends : {A : Type 0} (g : Grammar) (listing : Listing) (after : List Event → List Event → List ℕ) (last : List Event → List ℕ) (command : Command) (took : A → A → List Event → Type 0) (broke : A → A → Event → Type 0) (held : A → Option (List ℕ)) (faults : A → ℕ)
-    (left rest : Option (List ℕ)) (reads read_faults : ℕ) (old new : A) (e : HearError) → IsLists g listing command → IsText listing after last → Writes listing after took broke held old
+    (left rest : Option (List ℕ)) (reads read_faults : ℕ) (old new : A) (e : ReadCaptureError) → IsLists g listing command → IsText listing after last → Writes listing after took broke held old
     → Unheard g took broke left rest reads read_faults old new (faults old) (faults new) e
     → Ends command (heard_ending e) (seen left reads (held old) (faults old)) (seen rest read_faults (held new) (faults new))
 unheard_ends g listing after last command took broke held faults left rest reads read_faults old new (Bad fault) lists it writes u = (
@@ -130,7 +130,7 @@ kept_by_either : {A G : Type 0} (g : Grammar) (took : A → A → List Event →
 kept_by_either g took broke name by_took by_broke rest old new before now events read (inl (next, reported, broken)) = kept_by_broken g took broke name by_took by_broke before events old new broken
 kept_by_either g took broke name by_took by_broke rest old new before now events read (inr (outcome, end, captured, reported, broken)) = kept_by_broken g took broke name by_took by_broke now events old new broken
 
-pub kept_unheard : {A G : Type 0} (g : Grammar) (took : A → A → List Event → Type 0) (broke : A → A → Event → Type 0) (name : A → G) (left rest : Option (List ℕ)) (reads read_faults : ℕ) (old new : A) (writes write_faults : ℕ) (e : HearError)
+pub kept_unheard : {A G : Type 0} (g : Grammar) (took : A → A → List Event → Type 0) (broke : A → A → Event → Type 0) (name : A → G) (left rest : Option (List ℕ)) (reads read_faults : ℕ) (old new : A) (writes write_faults : ℕ) (e : ReadCaptureError)
     → ((x y : A) (h : List Event) → took x y h → name y ≡ name x) → ((x y : A) (t : Event) → broke x y t → name y ≡ name x)
     → ((e ≡ Ear → ⊥) → IsHeardSome g took old new) → Unheard g took broke left rest reads read_faults old new writes write_faults e → name new ≡ name old
 kept_unheard g took broke name left rest reads read_faults old new writes write_faults e h k l m = grind (arith, kept_by_either)

@@ -15,11 +15,11 @@ use Rattle.link_sink.specs.Streams.{LaneSinkSeen, StandsBy}
 use Rattle.link_sink.specs.declared.hear.Outcome.{Outcome}
 use Rattle.link_sink.proofs.Following.{none_at_first}
 use Rattle.outside_io.specs.Causes.{Rose}
-use Rattle.capture_commands.specs.Blocks.{AreBefore, AreRead, AreNext}
+use Rattle.capture_reading.specs.Blocks.{AreBefore, AreRead, AreNext}
 use Rattle.capture_commands.specs.Hearings.{BreaksLast, BreaksPast, HearsSoFar, HearsWhole, IsHeardSome}
-use Rattle.capture_commands.specs.Reading.{IsCausedBy, IsReadWhole, StopsShort}
-use Rattle.capture_commands.specs.declared.reading.HearError.{HearError}
-use Rattle.capture_commands.specs.declared.reading.HearError.TheVariants.{Bad, Read, Ear}
+use Rattle.capture_reading.specs.Reading.{IsCausedBy, IsReadWhole, StopsShort}
+use Rattle.capture_reading.specs.declared.reading.ReadCaptureError.{ReadCaptureError}
+use Rattle.capture_reading.specs.declared.reading.ReadCaptureError.TheVariants.{Bad, Read, Ear}
 
 -- an ear that takes one list after another takes both
 abbrev pub Joins : {A : Type 0} → (A → A → List Event → Type 0) → Type 0
@@ -82,31 +82,31 @@ breaks_last g goes_on took broke both (Err e) sink fed first old new h stopped =
 
 -- What was heard of a capture.
 
-pub all_heard : {A : Type 0} (g : Grammar) (took : A → A → List Event → Type 0) (from : Option (List ℕ)) (old new : A) (r : Result Outcome HearError) → IfOk r (λ outcome. IsReadWhole (HearsWhole g took) from outcome old new)
+pub all_heard : {A : Type 0} (g : Grammar) (took : A → A → List Event → Type 0) (from : Option (List ℕ)) (old new : A) (r : Result Outcome ReadCaptureError) → IfOk r (λ outcome. IsReadWhole (HearsWhole g took) from outcome old new)
     → IfOk r (λ outcome. (fed : Fed) × (events : List Event) × AreReportedBy g fed.blue fed.green fed.red outcome events × took old new events × ((bytes : List ℕ) → from ≡ Some bytes → IsCaptureOf fed.blue fed.green fed.red bytes))
 all_heard g took from old new (Ok outcome) h = (h.fed, h.heard.0, h.heard.1, h.heard.2, h.captured)
 all_heard g took from old new (Err e) h = tt
 
 -- a hearing that stops short
-abbrev pub HearsShort : {A : Type 0} → Grammar → (A → A → List Event → Type 0) → (A → A → Event → Type 0) → Option (List ℕ) → Option (List ℕ) → A → A → HearError → Type 0
+abbrev pub HearsShort : {A : Type 0} → Grammar → (A → A → List Event → Type 0) → (A → A → Event → Type 0) → Option (List ℕ) → Option (List ℕ) → A → A → ReadCaptureError → Type 0
 HearsShort g took broke from left old new e = StopsShort (IsHeardSoFar g took) (BreaksPast g took broke) (BreaksLast g took broke) from left old new e
 
-some_of : {A : Type 0} (g : Grammar) (took : A → A → List Event → Type 0) (broke : A → A → Event → Type 0) (from left : Option (List ℕ)) (old new : A) (e : HearError) → HearsShort g took broke from left old new e → (e ≡ Ear → ⊥) → IsHeardSome g took old new
+some_of : {A : Type 0} (g : Grammar) (took : A → A → List Event → Type 0) (broke : A → A → Event → Type 0) (from left : Option (List ℕ)) (old new : A) (e : ReadCaptureError) → HearsShort g took broke from left old new e → (e ≡ Ear → ⊥) → IsHeardSome g took old new
 some_of g took broke from left old new (Bad fault) h k = h.0
 some_of g took broke from left old new Read h k = (h.fed, h.heard)
 some_of g took broke from left old new Ear h k = absurd (k refl)
 
-pub some_heard : {T A : Type 0} (g : Grammar) (took : A → A → List Event → Type 0) (broke : A → A → Event → Type 0) (from left : Option (List ℕ)) (old new : A) (r : Result T HearError) → IfErr r (HearsShort g took broke from left old new)
+pub some_heard : {T A : Type 0} (g : Grammar) (took : A → A → List Event → Type 0) (broke : A → A → Event → Type 0) (from left : Option (List ℕ)) (old new : A) (r : Result T ReadCaptureError) → IfErr r (HearsShort g took broke from left old new)
     → IfErr r (λ e. (e ≡ Ear → ⊥) → IsHeardSome g took old new)
 some_heard g took broke from left old new (Ok v) h = tt
 some_heard g took broke from left old new (Err e) h = some_of g took broke from left old new e h
 
-pub bad_heard : {T A : Type 0} (g : Grammar) (took : A → A → List Event → Type 0) (broke : A → A → Event → Type 0) (from left : Option (List ℕ)) (old new : A) (r : Result T HearError) → IfErr r (HearsShort g took broke from left old new)
+pub bad_heard : {T A : Type 0} (g : Grammar) (took : A → A → List Event → Type 0) (broke : A → A → Event → Type 0) (from left : Option (List ℕ)) (old new : A) (r : Result T ReadCaptureError) → IfErr r (HearsShort g took broke from left old new)
     → (bytes : List ℕ) (fault : CaptureFault) → from ≡ Some bytes → IfErr r (λ e. e ≡ Bad fault → IsFault bytes fault × ((fed : Fed) × AreBefore bytes (place_of fault) fed × IsHeardSoFar g took fed old new))
 bad_heard g took broke from left old new (Ok v) h bytes fault is = tt
 bad_heard g took broke from left old new (Err e) h bytes fault is = λ same. let s = (subst (HearsShort g took broke from left old new) same h).1 bytes is in (s.faulty, (s.fed, s.before, s.heard))
 
-pub read_heard : {T A : Type 0} (g : Grammar) (took : A → A → List Event → Type 0) (broke : A → A → Event → Type 0) (from left : Option (List ℕ)) (reads reading was now : ℕ) (old new : A) (r : Result T HearError) → IfErr r (HearsShort g took broke from left old new)
+pub read_heard : {T A : Type 0} (g : Grammar) (took : A → A → List Event → Type 0) (broke : A → A → Event → Type 0) (from left : Option (List ℕ)) (reads reading was now : ℕ) (old new : A) (r : Result T ReadCaptureError) → IfErr r (HearsShort g took broke from left old new)
     → IfErr r (IsCausedBy reads reading was now)
     → IfErr r (λ e. e ≡ Read → Rose reads reading × ((fed : Fed) × (read : List ℕ) × Consumes from left read × AreRead read fed × IsHeardSoFar g took fed old new))
 read_heard g took broke from left reads reading was now old new (Ok v) h cause = tt
@@ -126,7 +126,7 @@ breaks_in : {A : Type 0} (g : Grammar) (took : A → A → List Event → Type 0
 breaks_in g took broke from left was now old new fed read cause consumed (inl (after, next, past)) = (cause, fed, after, past.0, read, consumed, inl (next, past.1, past.2))
 breaks_in g took broke from left was now old new fed read cause consumed (inr (ended, captured, last)) = (cause, fed, fed, last.1, read, consumed, inr (last.0, ended, captured, last.2, last.3))
 
-pub broken_heard : {T A : Type 0} (g : Grammar) (took : A → A → List Event → Type 0) (broke : A → A → Event → Type 0) (from left : Option (List ℕ)) (reads reading was now : ℕ) (old new : A) (r : Result T HearError) → IfErr r (HearsShort g took broke from left old new)
+pub broken_heard : {T A : Type 0} (g : Grammar) (took : A → A → List Event → Type 0) (broke : A → A → Event → Type 0) (from left : Option (List ℕ)) (reads reading was now : ℕ) (old new : A) (r : Result T ReadCaptureError) → IfErr r (HearsShort g took broke from left old new)
     → IfErr r (IsCausedBy reads reading was now)
     → IfErr r (λ e. e ≡ Ear → Breaks g took broke from left was now old new)
 broken_heard g took broke from left reads reading was now old new (Ok v) h cause = tt

@@ -2,7 +2,6 @@ pub mod Consumed
 pub mod Answered
 pub mod Listings
 pub mod Heard
-pub mod BlockReading
 pub mod Hearings
 pub mod Samples
 pub mod SampleRaster

@@ -22,7 +22,7 @@ use Rattle.relay.specs.declared.relaying.RelayFault.TheVariants.{Long, NoMemory 
 use Rattle.relay.specs.declared.relaying.RelayFault.{RelayFault}
 use Rattle.tmds_word.specs.Column.{Column}
 use Rattle.command_line.specs.declared.command.Command.TheVariants.{Relay}
-use Rattle.capture_commands.specs.Blocks.{AreBefore}
+use Rattle.capture_reading.specs.Blocks.{AreBefore}
 use Rattle.link_sink.specs.Ears.{IsHeardSoFar}
 use Rattle.capture_commands.specs.Endings.{Devices, Ends, RelayEnds, StreamEnds, faulty_end, marked_end, relay_ending}
 use Rattle.capture_commands.specs.Notes.{alignment_note, capture_note, long_note}

@@ -27,7 +27,7 @@ use Rattle.command_line.specs.Commands.{IsCommand}
 use Rattle.command_line.proofs.OneCommand.{command_once}
 use Rattle.command_line.specs.declared.command.Command.{Command}
 use Rattle.command_line.specs.declared.command.Command.TheVariants.{MakeLink, MakeContent, MakeDvi, RecoverLink, RecoverContent, RecoverTrack, RecoverRelock, RecoverContentRelock, RecoverBiphase, RecoverDvi, Check, Damage, Slip, ReadBiphase, Relay, Sample}
-use Rattle.capture_commands.specs.Blocks.{AreBefore, AreNext}
+use Rattle.capture_reading.specs.Blocks.{AreBefore, AreNext}
 use Rattle.capture_commands.specs.Endings.{Devices, RunEnds, RelayEnds, frames_ending, relay_ending, status_of}
 use Rattle.capture_commands.specs.Relays.{PassesLimit}
 use Rattle.capture_commands.specs.Taken.{AreTaken, PassesAtLast, WantsMemory, RelayStops, FramesStop, StopsOf, EndsRefused}

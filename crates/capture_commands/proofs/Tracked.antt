@@ -18,9 +18,9 @@ use Rattle.track_sink.specs.declared.watch.Cause.TheVariants.{Slip, Unconfirmed,
 use Rattle.track_sink.specs.Tracks.{HasTrackedBy}
 use Rattle.command_line.specs.declared.command.Command.{Command}
 use Rattle.capture_commands.specs.ListsCommands.{IsTracks}
-use Rattle.capture_commands.specs.Blocks.{AreNext}
+use Rattle.capture_reading.specs.Blocks.{AreNext}
 use Rattle.capture_commands.specs.Endings.{Devices, Ends, IsAnswered, IsWrittenPast, TracksPart, heard_ending, judged_ending, note_of, seen, status_of}
-use Rattle.capture_commands.specs.Reading.{IsCausedBy, IsUntaken}
+use Rattle.capture_reading.specs.Reading.{IsCausedBy, IsUntaken}
 use Rattle.capture_commands.specs.Notes.{alignment_note, capture_note}
 use Rattle.capture_commands.specs.Outcome.{status_with}
 use Rattle.capture_commands.specs.TrackListings.{TrackListing}
@@ -28,10 +28,10 @@ use Rattle.capture_commands.specs.TrackListers.{IsTrackText, WritesTrackEvents}
 use Rattle.capture_commands.specs.Tracking.{LosesLast, LosesPast, StopsOn, StopsPast}
 use Rattle.capture_commands.specs.declared.ending.Ending.{Ending}
 use Rattle.capture_commands.specs.declared.ending.Ending.TheVariants.{Done, Faulty, Unaligned}
-use Rattle.capture_commands.specs.declared.reading.HearError.{HearError}
-use Rattle.capture_commands.specs.declared.reading.HearError.TheVariants.{Bad, Read, Ear}
+use Rattle.capture_reading.specs.declared.reading.ReadCaptureError.{ReadCaptureError}
+use Rattle.capture_reading.specs.declared.reading.ReadCaptureError.TheVariants.{Bad, Read, Ear}
 use Rattle.capture_commands.proofs.Heard.{all_read, no_faults, on_last, some_faults}
-use Rattle.capture_commands.proofs.BlockReading.{rose_after}
+use Rattle.capture_reading.proofs.BlockReading.{rose_after}
 use Rattle.capture_commands.proofs.Listings.{Goes, front_of, goes_on, kept_nothing, shorter}
 
 -- of lanes of which no epoch is aligned nothing is reported
@@ -222,7 +222,7 @@ untaken_part r listing after tracked lost held faults left rest reads read_fault
           );
     }
 
-pub short_ends : {A : Type 0} (r : EpochRule) (listing : TrackListing) (after : List TrackEvent → List TrackEvent → List ℕ) (command : Command) → IsTracks r listing command → IsTrackText listing after → (tracked : A → A → List TrackEvent → Type 0) (lost : A → A → TrackEvent → Type 0) (held : A → Option (List ℕ)) (faults : A → ℕ) (left rest : Option (List ℕ)) (reads read_faults : ℕ) (old new : A) (e : HearError)
+pub short_ends : {A : Type 0} (r : EpochRule) (listing : TrackListing) (after : List TrackEvent → List TrackEvent → List ℕ) (command : Command) → IsTracks r listing command → IsTrackText listing after → (tracked : A → A → List TrackEvent → Type 0) (lost : A → A → TrackEvent → Type 0) (held : A → Option (List ℕ)) (faults : A → ℕ) (left rest : Option (List ℕ)) (reads read_faults : ℕ) (old new : A) (e : ReadCaptureError)
     → WritesTrackEvents listing after tracked lost held old → StopsOn r tracked lost left rest old new e → IsCausedBy reads read_faults (faults old) (faults new) e
     → Ends command (heard_ending e) (seen left reads (held old) (faults old)) (seen rest read_faults (held new) (faults new))
 short_ends r listing after command tracks it tracked lost held faults left rest reads read_faults old new (Bad fault) writes short cause = (
@@ -262,7 +262,7 @@ kept_either r tracked lost name by_tracked by_lost rest fed read old new (inl (n
 kept_either r tracked lost name by_tracked by_lost rest fed read old new (inr (end, captured, l)) = kept_past r tracked lost name by_tracked by_lost fed l.2 old new l.4
 
 pub kept_short : {A G : Type 0} (r : EpochRule) (tracked : A → A → List TrackEvent → Type 0) (lost : A → A → TrackEvent → Type 0) (name : A → G) → ((x y : A) (h : List TrackEvent) → tracked x y h → name y ≡ name x) → ((x y : A) (e : TrackEvent) → lost x y e → name y ≡ name x)
-    → (left rest : Option (List ℕ)) (old new : A) (e : HearError) → StopsOn r tracked lost left rest old new e → name new ≡ name old
+    → (left rest : Option (List ℕ)) (old new : A) (e : ReadCaptureError) → StopsOn r tracked lost left rest old new e → name new ≡ name old
 kept_short r tracked lost name by_tracked by_lost left rest old new (Bad fault) short = by_tracked old new short.0.1.track_events short.0.1.heard
 kept_short r tracked lost name by_tracked by_lost left rest old new Read short = by_tracked old new short.heard.track_events short.heard.heard
 kept_short r tracked lost name by_tracked by_lost left rest old new Ear short = kept_either r tracked lost name by_tracked by_lost rest short.fed short.read old new short.some

@@ -9,7 +9,7 @@ use Rattle.track_sink.specs.Tracks.{HasTrackedBy}
 use Rattle.track_sink.specs.Trackers.{Stops}
 use Rattle.track_sink.specs.TrackSinks.{EpochSinkSeen, EpochSinkRepresents}
 use Rattle.track_sink.specs.declared.ear.TrackOutcome.{TrackOutcome}
-use Rattle.capture_commands.specs.Reading.{IsReadWhole}
+use Rattle.capture_reading.specs.Reading.{IsReadWhole}
 use Rattle.capture_commands.specs.Tracking.{IsTrackedWhole, LosesLast, LosesPast, StopsPast, TracksOn, TracksWhole}
 
 -- an ear that takes one list after another takes both

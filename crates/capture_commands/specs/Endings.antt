@@ -36,7 +36,7 @@ use Rattle.dvi_hearing.specs.DviGrammar.{dvi_grammar}
 use Rattle.link_sink.specs.Alignment.{IsAlignedBy}
 use Rattle.link_sink.specs.Grammar.{Grammar, link_grammar}
 use Rattle.link_sink.specs.Sinks.{Fed, IsReportedBy}
-use Rattle.capture_commands.specs.Blocks.{AreNext, AreRead}
+use Rattle.capture_reading.specs.Blocks.{AreNext, AreRead}
 use Rattle.capture_commands.specs.Commands.{hit_asked}
 use Rattle.capture_commands.specs.Manners.{ReadsInput, WritesLast, WritesOn}
 use Rattle.capture_commands.specs.Listings.{Listing as ListingOf, link_listing, check_listing, content_listing, biphase_listing}
@@ -47,8 +47,8 @@ use Rattle.capture_commands.specs.Taken.{StopsOf}
 use Rattle.command_line.specs.Commands.{IsCommand}
 use Rattle.command_line.specs.declared.command.Command.{Command}
 use Rattle.command_line.specs.declared.command.Command.TheVariants.{MakeLink, MakeContent, MakeDvi, RecoverLink, RecoverContent, RecoverTrack, RecoverRelock, RecoverContentRelock, RecoverBiphase, RecoverDvi, Check, Damage, Slip, ReadBiphase, Relay, Sample}
-use Rattle.capture_commands.specs.declared.reading.HearError.{HearError}
-use Rattle.capture_commands.specs.declared.reading.HearError.TheVariants as heards
+use Rattle.capture_reading.specs.declared.reading.ReadCaptureError.{ReadCaptureError}
+use Rattle.capture_reading.specs.declared.reading.ReadCaptureError.TheVariants as heards
 use Rattle.capture_commands.specs.declared.ending.Ending.{Ending}
 use Rattle.capture_commands.specs.declared.ending.Ending.TheVariants.{Done, Faulty, Usage, Listing, Raster, Capture, Place, Frames, TooLong, ReadFailed, WriteFailed, NoMemory, Unaligned}
 
@@ -262,7 +262,7 @@ raster_ending raster_faults.NoMemory = NoMemory
 raster_ending fault = Raster fault
 
 -- how a command ends that did not hear a capture to its end
-abbrev pub heard_ending : HearError → Ending
+abbrev pub heard_ending : ReadCaptureError → Ending
 heard_ending (heards.Bad fault) = Capture fault
 heard_ending heards.Read = ReadFailed
 heard_ending heards.Ear = WriteFailed

@@ -1,10 +1,8 @@
 pub mod Commands
 pub mod Manners
 pub mod Notes
-pub mod Blocks
 pub mod Listings
 pub mod Listers
-pub mod Reading
 pub mod Hearings
 pub mod Tracking
 pub mod TrackText

@@ -37,7 +37,7 @@ use Rattle.listing_reader.specs.ContentReading.{content_reads_as}
 use Rattle.sampling.specs.Counts.{counts_text}
 use Rattle.sampling.specs.Sampled.{IsSampled}
 use Rattle.sampling.specs.declared.counts.Counts.{Counts}
-use Rattle.capture_commands.specs.Blocks.{AreBefore}
+use Rattle.capture_reading.specs.Blocks.{AreBefore}
 use Rattle.capture_commands.specs.Commands.{hit_asked, tap_asked}
 use Rattle.capture_commands.specs.Listings.{Listing, link_listing, check_listing, content_listing, biphase_listing}
 use Rattle.capture_commands.specs.Notes.{listing_note, raster_note, capture_note, place_note, long_note, frames_note, usage_note, alignment_note}

@@ -12,7 +12,7 @@ use Rattle.period_grammar.specs.Events.{Event}
 use Rattle.link_sink.specs.Alignment.{IsAlignedReported}
 use Rattle.link_sink.specs.Sinks.{Fed, IsReportedSoFar}
 use Rattle.relay.specs.Relayed.{relayed}
-use Rattle.capture_commands.specs.Blocks.{AreBefore, HasBlocks}
+use Rattle.capture_reading.specs.Blocks.{AreBefore, HasBlocks}
 
 -- the whole of each lane, from its first bit on
 abbrev pub whole_tap : Tap

@@ -15,7 +15,7 @@ use Rattle.link_sink.specs.Sinks.{Fed, IsReportedSoFar}
 use Rattle.relay.specs.Relayed.{relayed}
 use Rattle.command_line.specs.declared.command.Command.{Command}
 use Rattle.command_line.specs.declared.command.Command.TheVariants.{ReadBiphase, Relay}
-use Rattle.capture_commands.specs.Blocks.{AreNext}
+use Rattle.capture_reading.specs.Blocks.{AreNext}
 use Rattle.capture_commands.specs.Relays.{RelaysBefore}
 use Rattle.capture_commands.specs.declared.ending.Ending.{Ending}
 use Rattle.capture_commands.specs.declared.ending.Ending.TheVariants.{Done, Faulty, Capture, Frames, TooLong, ReadFailed, WriteFailed, NoMemory, Unaligned}

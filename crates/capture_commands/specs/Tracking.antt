@@ -7,8 +7,8 @@ use Rattle.track_sink.specs.TrackEvents.{TrackEvent}
 use Rattle.track_sink.specs.Trackers.{Stops}
 use Rattle.track_sink.specs.Tracks.{HasTrackedBy}
 use Rattle.track_sink.specs.TrackSinks.{EpochSinkSeen, EpochSinkRepresents}
-use Rattle.capture_commands.specs.Reading.{StopsShort}
-use Rattle.capture_commands.specs.declared.reading.HearError.{HearError}
+use Rattle.capture_reading.specs.Reading.{StopsShort}
+use Rattle.capture_reading.specs.declared.reading.ReadCaptureError.{ReadCaptureError}
 
 -- it was fed these bits, and the ear took what it reported of them
 abbrev pub TracksOn : {A W : Type 0} → EpochRule → (W → Fed → Type 0) → (W → ℕ) → (A → A → List TrackEvent → Type 0) → EpochSinkSeen W → Fed → A → A → Type 0
@@ -56,7 +56,7 @@ abbrev pub LosesLast : {A : Type 0} → EpochRule → (A → A → List TrackEve
 LosesLast r tracked lost fed old new = (epochs aligned : ℕ) × (track_events : List TrackEvent) × IsTrackBy r fed epochs aligned track_events × StopsPast r tracked lost fed track_events old new
 
 -- why a capture was not followed to its end
-abbrev pub StopsOn : {A : Type 0} → EpochRule → (A → A → List TrackEvent → Type 0) → (A → A → TrackEvent → Type 0) → Option (List ℕ) → Option (List ℕ) → A → A → HearError → Type 0
+abbrev pub StopsOn : {A : Type 0} → EpochRule → (A → A → List TrackEvent → Type 0) → (A → A → TrackEvent → Type 0) → Option (List ℕ) → Option (List ℕ) → A → A → ReadCaptureError → Type 0
 StopsOn r tracked lost from left old new e = StopsShort (IsTrackedSoFar r tracked) (LosesPast r tracked lost) (LosesLast r tracked lost) from left old new e
 
 -- an ear that took what a sink reported of its bits took what is reported of them so far

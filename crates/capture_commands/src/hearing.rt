@@ -11,26 +11,33 @@ ghost use Rattle.link_sink.specs.declared.hear.Outcome.{Outcome as OutcomeValue}
 ghost use Rattle.link_sink.specs.Pieces.{no_bits};
 ghost use Rattle.link_sink.specs.Sinks.{Fed, IsReportedBy};
 ghost use Rattle.link_sink.specs.Streams.{StandsBy, bits_fed, most_bits};
-ghost use Rattle.capture_commands.specs.Blocks.{AreBefore, AreRead, AreNext};
+ghost use Rattle.capture_reading.specs.Blocks.{AreBefore, AreRead, AreNext};
 ghost use Rattle.capture_commands.specs.Hearings.{BreaksLast, BreaksPast, HearsSoFar, HearsWhole, IsHeardSome};
-ghost use Rattle.capture_commands.specs.declared.reading.HearError.TheVariants.{Bad, Read, Ear as EarFailed};
+ghost use Rattle.capture_reading.specs.declared.reading.ReadCaptureError.TheVariants.{Bad, Read, Ear as EarFailed};
 
 use crate::feeding::Feeds;
-use crate::reading::{BlockSink, HearError, read_capture};
+use capture_reading::{BlockSink, ReadCaptureError, read_capture};
 use link_sink::{Ear, Hears, LaneSink, Outcome};
 use outside_io::{Failed, Source};
 use tmds_word::LaneBits;
 
-impl<H: Hears, E: Ear> BlockSink<E> for LaneSink<H> {
+/// A sink of three lanes, and who feeds it.
+#[derive(Drop)]
+struct FedLanes<'a, F: Feeds, H: Hears> {
+    feeding: &'a F,
+    sink: &'a mut LaneSink<H>,
+}
+
+impl<F: Feeds, H: Hears, E: Ear> BlockSink<E> for FedLanes<'_, F, H> {
     type Outcome = Outcome;
 
-    ghost is_open = { λ s. s.is_open };
+    ghost is_open = { λ s. s.sink.now.is_open };
 
-    ghost bits = { λ s lane. bits_fed s lane };
+    ghost bits = { λ s lane. bits_fed s.sink.now lane };
 
     ghost faults = { E.faults };
 
-    ghost heard = { λ s fed x y. HearsSoFar H.grammar H.goes_on E.took s fed x y };
+    ghost heard = { λ s fed x y. HearsSoFar H.grammar H.goes_on E.took s.sink.now fed x y };
 
     ghost so_far = { λ fed x y. IsHeardSoFar H.grammar E.took fed x y };
 
@@ -40,17 +47,12 @@ impl<H: Hears, E: Ear> BlockSink<E> for LaneSink<H> {
 
     ghost stops_last = { λ fed x y. BreaksLast H.grammar E.took E.broke fed x y };
 
-    fn feed_block<F: Feeds>(
-        &mut self,
-        feeding: &F,
-        block: LaneBits<'_>,
-        ear: &mut E,
-    ) -> Result<(), Failed> {
-        feeding.feed_lanes(self, block, ear)
+    fn feed_block(&mut self, block: LaneBits<'_>, ear: &mut E) -> Result<(), Failed> {
+        self.feeding.feed_lanes(self.sink, block, ear)
     }
 
-    fn end<F: Feeds>(&mut self, _feeding: &F, ear: &mut E) -> Result<Outcome, Failed> {
-        self.finish(ear)
+    fn end(&mut self, ear: &mut E) -> Result<Outcome, Failed> {
+        self.sink.finish(ear)
     }
 
     ghost reported = { λ sink fed x y h. h.1 };
@@ -67,7 +69,7 @@ pub(crate) fn hear_capture<F: Feeds, S: Source, H: Hears, E: Ear>(
     sink: &mut LaneSink<H>,
     input: &mut S,
     ear: &mut E,
-) -> Result<Outcome, HearError>
+) -> Result<Outcome, ReadCaptureError>
     requires open { sink.old.is_open ≡ true }
     requires fresh { StandsBy H.goes_on sink.old no_bits }
     requires unfed { most_bits sink.old ≡ 0 }
@@ -87,5 +89,5 @@ pub(crate) fn hear_capture<F: Feeds, S: Source, H: Hears, E: Ear>(
     ensures input_later { S.faults input.old ≤ S.faults input.new }
     ensures ear_later { E.faults ear.old ≤ E.faults ear.new }
 {
-    read_capture(feeding, sink, input, ear)
+    read_capture(&mut FedLanes { feeding, sink }, input, ear)
 }

@@ -8,7 +8,6 @@ mod feeding;
 mod hearing;
 mod lister;
 mod listing;
-mod reading;
 mod slice_source;
 mod track_lister;
 mod track_listing;

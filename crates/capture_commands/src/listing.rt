@@ -11,7 +11,7 @@ use crate::ending::Ending;
 use crate::feeding::Feeds;
 use crate::hearing::hear_capture;
 use crate::lister::Lister;
-use crate::reading::HearError;
+use capture_reading::ReadCaptureError;
 use link_sink::{Hears, LaneSink};
 use outside_io::{Failed, Source};
 use std::alloc::Global;
@@ -69,13 +69,13 @@ fn list_lanes<F: Feeds, S: Source, H: Hears, L: Lister>(
 }
 
 /// How a command ends that did not hear a capture to its end.
-pub(crate) fn unheard(error: HearError) -> Ending
+pub(crate) fn unheard(error: ReadCaptureError) -> Ending
     ensures { result ≡ heard_ending error }
 {
     match error {
-        HearError::Bad(fault) => Ending::Capture(fault),
-        HearError::Read => Ending::ReadFailed,
-        HearError::Ear => Ending::WriteFailed,
+        ReadCaptureError::Bad(fault) => Ending::Capture(fault),
+        ReadCaptureError::Read => Ending::ReadFailed,
+        ReadCaptureError::Ear => Ending::WriteFailed,
     }
 }
 

@@ -3,27 +3,34 @@ ghost use Rattle.std.specs.Prelude.{◌≡◌, ◌≤◌, ℕ, List, [], true, I
 ghost use Rattle.std.specs.Io.KnownBytes.{Consumes, IsAtEnd};
 ghost use Rattle.link_sink.specs.Pieces.{no_bits};
 ghost use Rattle.track_sink.specs.TrackSinks.{EpochSinkRepresents, bits_fed, most_bits};
-ghost use Rattle.capture_commands.specs.Reading.{IsCausedBy};
+ghost use Rattle.capture_reading.specs.Reading.{IsCausedBy};
 ghost use Rattle.capture_commands.specs.Tracking.{IsTrackedSoFar, IsTrackedWhole, LosesLast, LosesPast, StopsOn, TracksOn, TracksWhole};
 
 use crate::feeding::Feeds;
-use crate::reading::{BlockSink, HearError, read_capture};
+use capture_reading::{BlockSink, ReadCaptureError, read_capture};
 use outside_io::{Failed, Source};
 use tmds_word::LaneBits;
 use track_sink::{EpochSink, TrackEar, TrackOutcome, Watch};
 
-impl<W: Watch, E: TrackEar> BlockSink<E> for EpochSink<W> {
+/// A sink of epochs, and who feeds it.
+#[derive(Drop)]
+struct FedEpochs<'a, F: Feeds, W: Watch> {
+    feeding: &'a F,
+    sink: &'a mut EpochSink<W>,
+}
+
+impl<F: Feeds, W: Watch, E: TrackEar> BlockSink<E> for FedEpochs<'_, F, W> {
     ghost use Rattle.capture_commands.specs.Tracking.{tracked_so_far};
 
     type Outcome = TrackOutcome;
 
-    ghost is_open = { λ s. s.is_open };
+    ghost is_open = { λ s. s.sink.now.is_open };
 
-    ghost bits = { λ s lane. bits_fed s lane };
+    ghost bits = { λ s lane. bits_fed s.sink.now lane };
 
     ghost faults = { E.faults };
 
-    ghost heard = { λ s fed x y. TracksOn W.rule W.looked W.passed E.tracked s fed x y };
+    ghost heard = { λ s fed x y. TracksOn W.rule W.looked W.passed E.tracked s.sink.now fed x y };
 
     ghost so_far = { λ fed x y. IsTrackedSoFar W.rule E.tracked fed x y };
 
@@ -33,20 +40,15 @@ impl<W: Watch, E: TrackEar> BlockSink<E> for EpochSink<W> {
 
     ghost stops_last = { λ fed x y. LosesLast W.rule E.tracked E.lost fed x y };
 
-    fn feed_block<F: Feeds>(
-        &mut self,
-        feeding: &F,
-        block: LaneBits<'_>,
-        ear: &mut E,
-    ) -> Result<(), Failed> {
-        feeding.feed_epochs(self, block, ear)
+    fn feed_block(&mut self, block: LaneBits<'_>, ear: &mut E) -> Result<(), Failed> {
+        self.feeding.feed_epochs(self.sink, block, ear)
     }
 
-    fn end<F: Feeds>(&mut self, feeding: &F, ear: &mut E) -> Result<TrackOutcome, Failed> {
-        feeding.finish_epochs(self, ear)
+    fn end(&mut self, ear: &mut E) -> Result<TrackOutcome, Failed> {
+        self.feeding.finish_epochs(self.sink, ear)
     }
 
-    ghost reported = { λ sink fed x y h. tracked_so_far W.rule W.looked W.passed E.tracked sink fed x y h };
+    ghost reported = { λ sink fed x y h. tracked_so_far W.rule W.looked W.passed E.tracked sink.sink.now fed x y h };
 }
 
 /// Reads a capture, feeds each block to the sink and reports to the ear what it decides, and at the end the rest.
@@ -61,7 +63,7 @@ pub(crate) fn follow_capture<F: Feeds, S: Source, W: Watch, E: TrackEar>(
     sink: &mut EpochSink<W>,
     input: &mut S,
     ear: &mut E,
-) -> Result<TrackOutcome, HearError>
+) -> Result<TrackOutcome, ReadCaptureError>
     requires open { sink.old.is_open ≡ true }
     requires fresh { EpochSinkRepresents W.rule W.looked W.passed sink.old no_bits [] }
     requires unfed { most_bits sink.old ≡ 0 }
@@ -73,5 +75,5 @@ pub(crate) fn follow_capture<F: Feeds, S: Source, W: Watch, E: TrackEar>(
     ensures input_later { S.faults input.old ≤ S.faults input.new }
     ensures ear_later { E.faults ear.old ≤ E.faults ear.new }
 {
-    read_capture(feeding, sink, input, ear)
+    read_capture(&mut FedEpochs { feeding, sink }, input, ear)
 }

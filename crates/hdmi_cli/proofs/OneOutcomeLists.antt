@@ -13,7 +13,7 @@ use Rattle.link_sink.proofs.Following.{reported_one}
 use Rattle.track_sink.specs.Epochs.{EpochRule}
 use Rattle.track_sink.specs.Rules.{IsRule}
 use Rattle.track_laws.proofs.One.{one_track_by}
-use Rattle.capture_commands.specs.Blocks.{AreBefore, HasBlocks}
+use Rattle.capture_reading.specs.Blocks.{AreBefore, HasBlocks}
 use Rattle.capture_commands.specs.Listings.{Listing}
 use Rattle.capture_commands.specs.Notes.{capture_note}
 use Rattle.capture_commands.specs.TrackListings.{TrackListing}

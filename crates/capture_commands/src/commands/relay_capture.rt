@@ -13,9 +13,9 @@ ghost use Rattle.command_line.specs.declared.command.Command.TheVariants.{Relay 
 use crate::ending::Ending;
 use crate::feeding::Feeds;
 use crate::hearing::hear_capture;
-use crate::reading::HearError;
 use crate::writing::write_stream;
 use capture_file::Tap;
+use capture_reading::ReadCaptureError;
 use link_sink::LinkSink;
 use outside_io::{Sink, Source};
 use relay::{Relay, RelayFault};
@@ -67,9 +67,9 @@ fn relay_lanes<F: Feeds, S: Source, K: Sink>(
     match hear_capture(feeding, sink, input, &mut relay) {
         Ok(heard) if heard.aligned => write_relayed(alloc, relay, output),
         Ok(_) => Ending::Unaligned,
-        Err(HearError::Bad(fault)) => Ending::Capture(fault),
-        Err(HearError::Read) => Ending::ReadFailed,
-        Err(HearError::Ear) => untaken(relay.trouble()),
+        Err(ReadCaptureError::Bad(fault)) => Ending::Capture(fault),
+        Err(ReadCaptureError::Read) => Ending::ReadFailed,
+        Err(ReadCaptureError::Ear) => untaken(relay.trouble()),
     }
 }
 

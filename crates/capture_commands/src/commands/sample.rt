@@ -17,9 +17,9 @@ ghost use Rattle.capture_commands.specs.Samples.{IsMade, IsSampleSent, IsSampleC
 use crate::ending::Ending;
 use crate::feeding::Feeds;
 use crate::hearing::hear_capture;
-use crate::reading::HearError;
 use crate::slice_source::SliceSource;
 use capture_file::{DamageError, Hit, Lanes, Tap, damage, write_capture};
+use capture_reading::ReadCaptureError;
 use link_sink::{Ear, LinkSink, Outcome};
 use outside_io::{Failed, MemSink, NoMemory, Sink, SteadySink};
 use sampling::{Counts, Tally, hits_of, write_counts};
@@ -77,9 +77,9 @@ fn hear_bytes<F: Feeds, E: Ear>(
 {
     match hear_capture(feeding, sink, &mut SliceSource::new(bytes), ear) {
         Ok(outcome) => Ok(outcome),
-        Err(HearError::Ear) => Err(Failed),
-        Err(HearError::Bad(_)) => unreachable!(),
-        Err(HearError::Read) => unreachable!(),
+        Err(ReadCaptureError::Ear) => Err(Failed),
+        Err(ReadCaptureError::Bad(_)) => unreachable!(),
+        Err(ReadCaptureError::Read) => unreachable!(),
     }
 }
 

@@ -1,8 +1,8 @@
 use Rattle.std.proofs.Common.{◌≡◌, ◌≤◌, ◌-◌, true, ℕ, List, Option}
 use Rattle.capture_file.specs.Captures.{CanSay}
-use Rattle.capture_commands.specs.Reading.{AreFed, HasHeard}
+use Rattle.capture_reading.specs.Reading.{AreFed, HasHeard}
 use Rattle.outside_io.proofs.Consumed.{Takes}
-use Rattle.capture_commands.proofs.reading.read_blocks.Given as goal
+use Rattle.capture_reading.proofs.reading.read_blocks.Given as goal
 
 abbrev pub invariant-loop : goal.invariant-loop
 invariant-loop g l = record {

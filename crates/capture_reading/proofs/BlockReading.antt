@@ -11,9 +11,9 @@ use Rattle.capture_file.specs.declared.fault.CaptureError.TheVariants.{Bad as Ba
 use Rattle.capture_file.proofs.Marks.{consumed}
 use Rattle.link_sink.specs.Pieces.{no_bits}
 use Rattle.link_sink.specs.Sinks.{Fed, grown}
-use Rattle.capture_commands.specs.Blocks.{AreNext}
-use Rattle.capture_commands.specs.Reading.{HasHeard, HasHeardAll, IsCausedBy, IsUntaken, IsReadWhole, StopsShort, refused_as}
-use Rattle.capture_commands.specs.declared.reading.HearError.{HearError}
+use Rattle.capture_reading.specs.Blocks.{AreNext}
+use Rattle.capture_reading.specs.Reading.{HasHeard, HasHeardAll, IsCausedBy, IsUntaken, IsReadWhole, StopsShort, refused_as}
+use Rattle.capture_reading.specs.declared.reading.ReadCaptureError.{ReadCaptureError}
 
 -- a block more was read
 abbrev pub Lends : ℕ → List ℕ → ℕ → List ℕ → List ℕ → List ℕ → List ℕ → Type 0
@@ -150,5 +150,5 @@ unended heard stops stops_last from left sink first old new h ended stopped =
 pub rose_after : (a b c : ℕ) → a ≤ b → Rose b c → Rose a c
 rose_after a b c h k = grind arith
 
-pub caused_later : (a b c m n : ℕ) (e : HearError) → a ≤ b → IsCausedBy b c m n e → IsCausedBy a c m n e
+pub caused_later : (a b c m n : ℕ) (e : ReadCaptureError) → a ≤ b → IsCausedBy b c m n e → IsCausedBy a c m n e
 caused_later a b c m n e h k = grind (arith, rose_after)

@@ -1,10 +1,10 @@
 use Rattle.std.proofs.Common.{rules, ◌+◌, ◌∙◌, ℕ, List, sym, subst}
 use Rattle.std.proofs.lemmas.Result.{err_from_is_err_and}
 use Rattle.capture_file.specs.Captures.{CanSay}
-use Rattle.capture_commands.specs.Reading.{AreFed}
+use Rattle.capture_reading.specs.Reading.{AreFed}
 use Rattle.outside_io.proofs.Consumed.{takes_more}
-use Rattle.capture_commands.proofs.BlockReading.{moved}
-use Rattle.capture_commands.proofs.reading.read_blocks.Goals as goal
+use Rattle.capture_reading.proofs.BlockReading.{moved}
+use Rattle.capture_reading.proofs.reading.read_blocks.Goals as goal
 
 pub returns-in_err-read_block-clause-short : goal.returns-in_err-read_block-clause-short
 returns-in_err-read_block-clause-short g c =

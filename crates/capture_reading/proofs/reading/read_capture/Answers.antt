@@ -1,10 +1,10 @@
 use Rattle.std.proofs.Common.{rules, sym, subst}
 use Rattle.std.proofs.lemmas.Result.{err_from_is_err_and}
-use Rattle.capture_commands.specs.Reading.{IsCausedBy, IsUntaken, IsReadWhole, StopsShort}
-use Rattle.capture_commands.specs.declared.reading.HearError.{HearError}
+use Rattle.capture_reading.specs.Reading.{IsCausedBy, IsUntaken, IsReadWhole, StopsShort}
+use Rattle.capture_reading.specs.declared.reading.ReadCaptureError.{ReadCaptureError}
 use Rattle.outside_io.proofs.Consumed.{Takes, takes_more}
-use Rattle.capture_commands.proofs.BlockReading.{carried, caused_later, heard_head, heard_whole, headless, unended}
-use Rattle.capture_commands.proofs.reading.read_capture.Goals as goal
+use Rattle.capture_reading.proofs.BlockReading.{carried, caused_later, heard_head, heard_whole, headless, unended}
+use Rattle.capture_reading.proofs.reading.read_capture.Goals as goal
 
 pub returns-in-Ok-clause-heard : goal.returns-in-Ok-clause-heard
 returns-in-Ok-clause-heard g c =
@@ -42,7 +42,7 @@ returns-in-Err-clause-short g c =
     let new = c.open.new.self.source.now in
     let ear = c.args.ear.now in
     let so = g.met.K.BlockSink.reported c.args.sink.now _ ear ear c.requires.fresh in
-    let short = subst (λ (r : HearError). StopsShort k.so_far k.stops k.stops_last (left old) (left new) ear ear r) c.refused.ensures.refused
+    let short = subst (λ (r : ReadCaptureError). StopsShort k.so_far k.stops k.stops_last (left old) (left new) ear ear r) c.refused.ensures.refused
     (headless k.so_far k.stops k.stops_last (left old) (left new) ear c.in-Err.error so e.err e.part) in
     carried (λ x y. StopsShort k.so_far k.stops k.stops_last (left x) (left y) ear ear c.refused.result) old c.args.input.now new _ (sym c.new-reader.ensures.source) (search rules) short
 

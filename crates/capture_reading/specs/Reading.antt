@@ -10,9 +10,9 @@ use Rattle.capture_file.specs.declared.fault.CaptureFault.{CaptureFault}
 use Rattle.capture_file.specs.declared.fault.CaptureError.{CaptureError}
 use Rattle.capture_file.specs.declared.fault.CaptureError.TheVariants.{Bad as Failed, Read as Unread}
 use Rattle.link_sink.specs.Sinks.{Fed}
-use Rattle.capture_commands.specs.Blocks.{AreBefore, AreRead, AreNext}
-use Rattle.capture_commands.specs.declared.reading.HearError.{HearError}
-use Rattle.capture_commands.specs.declared.reading.HearError.TheVariants.{Bad, Read, Ear}
+use Rattle.capture_reading.specs.Blocks.{AreBefore, AreRead, AreNext}
+use Rattle.capture_reading.specs.declared.reading.ReadCaptureError.{ReadCaptureError}
+use Rattle.capture_reading.specs.declared.reading.ReadCaptureError.TheVariants.{Bad, Read, Ear}
 
 -- of three lanes, how many bits the longest has
 abbrev pub most_of : (ℕ → ℕ) → ℕ
@@ -65,7 +65,7 @@ pub record IsUntaken {A : Type 0} (stops : Fed → Fed → A → A → Type 0) (
       ⊎ (IsAtEnd left × IsCaptureOf fed.blue fed.green fed.red read × stops_last fed first now)
 
 -- why a capture was not read to its end
-abbrev pub StopsShort : {A : Type 0} → (Fed → A → A → Type 0) → (Fed → Fed → A → A → Type 0) → (Fed → A → A → Type 0) → Option (List ℕ) → Option (List ℕ) → A → A → HearError → Type 0
+abbrev pub StopsShort : {A : Type 0} → (Fed → A → A → Type 0) → (Fed → Fed → A → A → Type 0) → (Fed → A → A → Type 0) → Option (List ℕ) → Option (List ℕ) → A → A → ReadCaptureError → Type 0
 StopsShort so_far stops stops_last from left first now (Bad fault) = ((fed : Fed) × so_far fed first now) × ((bytes : List ℕ) → from ≡ Some bytes → IsRefusedAt so_far bytes fault first now)
 StopsShort so_far stops stops_last from left first now Read = IsReadFailed so_far from left first now
 StopsShort so_far stops stops_last from left first now Ear = IsUntaken stops stops_last from left first now
@@ -77,12 +77,12 @@ pub record IsReadWhole {A O : Type 0} (whole : Fed → O → A → A → Type 0)
   pub heard : whole fed outcome first now
 
 -- the count of faults of whoever failed has risen
-abbrev pub IsCausedBy : ℕ → ℕ → ℕ → ℕ → HearError → Type 0
+abbrev pub IsCausedBy : ℕ → ℕ → ℕ → ℕ → ReadCaptureError → Type 0
 IsCausedBy input_old input_new ear_old ear_new (Bad fault) = Unit {0}
 IsCausedBy input_old input_new ear_old ear_new Read = Rose input_old input_new
 IsCausedBy input_old input_new ear_old ear_new Ear = Rose ear_old ear_new
 
 -- what an error of a reader is here
-abbrev pub refused_as : CaptureError → HearError
+abbrev pub refused_as : CaptureError → ReadCaptureError
 refused_as (Failed fault) = Bad fault
 refused_as Unread = Read

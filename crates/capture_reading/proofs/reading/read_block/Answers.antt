@@ -4,10 +4,10 @@ use Rattle.std.proofs.lemmas.Bool.{cases_lt}
 use Rattle.link_sink.specs.Received.{CanFeed}
 use Rattle.capture_file.specs.Captures.{bits_in}
 use Rattle.std.specs.Io.KnownBytes.{Consumes}
-use Rattle.capture_commands.specs.Reading.{StopsShort, most_of}
-use Rattle.capture_commands.specs.declared.reading.HearError.{HearError}
-use Rattle.capture_commands.proofs.BlockReading.{heard_more, untaken, heard_all, stops_short}
-use Rattle.capture_commands.proofs.reading.read_block.Goals as goal
+use Rattle.capture_reading.specs.Reading.{StopsShort, most_of}
+use Rattle.capture_reading.specs.declared.reading.ReadCaptureError.{ReadCaptureError}
+use Rattle.capture_reading.proofs.BlockReading.{heard_more, untaken, heard_all, stops_short}
+use Rattle.capture_reading.proofs.reading.read_block.Goals as goal
 
 some_of : {T : Type 0} (P : T → Type 0) (o : Option T) (b : T) → IfSome o P → o ≡ Some b → P b
 some_of P o b h is = subst (λ x. IfSome x P) is h
@@ -66,7 +66,7 @@ returns-in-Err-clause-short g c =
     let v = c.next.follows.lender-at-none in
     let part = (err_case _ _ _ c.next.follows.holds-at-none.5 c.in-Err.is).2 in
     λ from first h.
-    subst (λ (r : HearError). StopsShort g.K.BlockSink.so_far g.K.BlockSink.stops g.K.BlockSink.stops_last from (g.S.Source.left v.source.now) first c.args.ear.now r) c.refused.ensures.refused
+    subst (λ (r : ReadCaptureError). StopsShort g.K.BlockSink.so_far g.K.BlockSink.stops g.K.BlockSink.stops_last from (g.S.Source.left v.source.now) first c.args.ear.now r) c.refused.ensures.refused
     (stops_short g.K.BlockSink.heard g.K.BlockSink.so_far g.K.BlockSink.stops g.K.BlockSink.stops_last g.met.K.BlockSink.reported o.version o.bits o.block from (g.S.Source.left o.source.now) (g.S.Source.left v.source.now) c.args.sink.now first c.args.ear.now c.in-Err.error h c.in-Err.ensures.err part)
 
 pub returns-in-Ok-clause-taken : goal.returns-in-Ok-clause-taken

@@ -7,16 +7,15 @@ ghost use Rattle.capture_file.specs.Captures.{CanSay};
 ghost use Rattle.link_sink.specs.Pieces.{no_bits};
 ghost use Rattle.link_sink.specs.Received.{AreFedMore, CanFeedLanes};
 ghost use Rattle.link_sink.specs.Sinks.{Fed, grown_by};
-ghost use Rattle.capture_commands.specs.Reading.{AreFed, HasHeard, HasHeardAll, IsCausedBy, IsReadWhole, StopsShort, most_of, refused_as};
+ghost use Rattle.capture_reading.specs.Reading.{AreFed, HasHeard, HasHeardAll, IsCausedBy, IsReadWhole, StopsShort, most_of, refused_as};
 
-use crate::feeding::Feeds;
 use capture_file::{CaptureError, CaptureFault, CaptureReader};
 use outside_io::{Failed, Source};
 use tmds_word::LaneBits;
 
 /// Why a capture was not heard to its end.
-#[derive(Clone, Copy)]
-pub(crate) enum HearError {
+#[derive(Clone, Copy, Debug, PartialEq, Eq)]
+pub enum ReadCaptureError {
     /// The bytes are no capture.
     Bad(CaptureFault),
     /// The source failed.
@@ -26,7 +25,7 @@ pub(crate) enum HearError {
 }
 
 /// Takes the blocks of a capture one after another, and reports to an ear what they decide.
-pub(crate) trait BlockSink<E> {
+pub trait BlockSink<E> {
     /// What the end of the capture answers.
     type Outcome;
 
@@ -56,12 +55,7 @@ pub(crate) trait BlockSink<E> {
     ghost stops_last: { Fed → E → E → Type 0 };
 
     /// Takes a block, and reports to the ear what it decides.
-    fn feed_block<F: Feeds>(
-        &mut self,
-        feeding: &F,
-        block: LaneBits<'_>,
-        ear: &mut E,
-    ) -> Result<(), Failed>
+    fn feed_block(&mut self, block: LaneBits<'_>, ear: &mut E) -> Result<(), Failed>
         requires open { is_open self.old ≡ true }
         requires block { CanFeedLanes (bits self.old) (most_of (bits self.old)) block }
         ensures open { OnOk result (is_open self.new ≡ true) }
@@ -71,7 +65,7 @@ pub(crate) trait BlockSink<E> {
         ensures cause { HasCause (faults ear.old) (faults ear.new) result };
 
     /// Reports to the ear what is left to report at the end.
-    fn end<F: Feeds>(&mut self, feeding: &F, ear: &mut E) -> Result<Self::Outcome, Failed>
+    fn end(&mut self, ear: &mut E) -> Result<Self::Outcome, Failed>
         requires open { is_open self.old ≡ true }
         ensures heard { (fed : Fed) (first : E) → heard self.old fed first ear.old → IfOk result (λ outcome. whole fed outcome first ear.new) }
         ensures stopped { (fed : Fed) (first : E) → heard self.old fed first ear.old → OnErr result (stops_last fed first ear.new) }
@@ -82,22 +76,21 @@ pub(crate) trait BlockSink<E> {
 }
 
 /// What an error of a reader is here.
-fn refused(error: CaptureError) -> HearError
+fn refused(error: CaptureError) -> ReadCaptureError
     ensures refused { refused_as error ≡ result }
 {
     match error {
-        CaptureError::Bad(fault) => HearError::Bad(fault),
-        CaptureError::Read => HearError::Read,
+        CaptureError::Bad(fault) => ReadCaptureError::Bad(fault),
+        CaptureError::Read => ReadCaptureError::Read,
     }
 }
 
 /// Reads one block and feeds it to the sink, and says whether there was one.
-fn read_block<F: Feeds, S: Source, E, K: BlockSink<E>>(
-    feeding: &F,
+fn read_block<S: Source, E, K: BlockSink<E>>(
     sink: &mut K,
     reader: &mut CaptureReader<'_, S>,
     ear: &mut E,
-) -> Result<bool, HearError>
+) -> Result<bool, ReadCaptureError>
     requires open { K.is_open sink.old ≡ true }
     requires more { reader.old.is_open ≡ true }
     requires fed { AreFed (K.bits sink.old) reader.old.bits reader.old.block }
@@ -123,9 +116,9 @@ fn read_block<F: Feeds, S: Source, E, K: BlockSink<E>>(
     ensures ear_later { K.faults ear.old ≤ K.faults ear.new }
 {
     match reader.next() {
-        Ok(Some(block)) => match sink.feed_block(feeding, block, ear) {
+        Ok(Some(block)) => match sink.feed_block(block, ear) {
             Ok(()) => Ok(true),
-            Err(_) => Err(HearError::Ear),
+            Err(_) => Err(ReadCaptureError::Ear),
         },
         Ok(None) => Ok(false),
         Err(error) => Err(refused(error)),
@@ -134,12 +127,11 @@ fn read_block<F: Feeds, S: Source, E, K: BlockSink<E>>(
 
 /// Reads and feeds block after block, to the end.
 #[tactic(auto, using(crate::proofs::Consumed::takes_none))]
-fn read_blocks<F: Feeds, S: Source, E, K: BlockSink<E>>(
-    feeding: &F,
+fn read_blocks<S: Source, E, K: BlockSink<E>>(
     sink: &mut K,
     reader: &mut CaptureReader<'_, S>,
     ear: &mut E,
-) -> Result<(), HearError>
+) -> Result<(), ReadCaptureError>
     requires open { K.is_open sink.old ≡ true }
     requires more { reader.old.is_open ≡ true }
     requires fed { AreFed (K.bits sink.old) reader.old.bits reader.old.block }
@@ -156,7 +148,7 @@ fn read_blocks<F: Feeds, S: Source, E, K: BlockSink<E>>(
     ensures input_later { S.faults reader.old.source.now ≤ S.faults reader.new.source.now }
     ensures ear_later { K.faults ear.old ≤ K.faults ear.new }
 {
-    while read_block(feeding, sink, reader, ear)? {}
+    while read_block(sink, reader, ear)? {}
     Ok(())
 }
 
@@ -167,12 +159,11 @@ fn read_blocks<F: Feeds, S: Source, E, K: BlockSink<E>>(
 /// `Bad` where the bytes are no capture, and `Read` where a read failed: what is reported so far of the whole blocks
 /// before was reported to the ear. `Ear` where a call of the ear failed: it took all that was reported before the last block
 /// that was read.
-pub(crate) fn read_capture<F: Feeds, S: Source, E, K: BlockSink<E>>(
-    feeding: &F,
+pub fn read_capture<S: Source, E, K: BlockSink<E>>(
     sink: &mut K,
     input: &mut S,
     ear: &mut E,
-) -> Result<K::Outcome, HearError>
+) -> Result<K::Outcome, ReadCaptureError>
     requires open { K.is_open sink.old ≡ true }
     requires fresh { K.heard sink.old no_bits ear.old ear.old }
     requires unfed { most_of (K.bits sink.old) ≡ 0 }
@@ -188,9 +179,9 @@ pub(crate) fn read_capture<F: Feeds, S: Source, E, K: BlockSink<E>>(
     if let Err(error) = reader.open() {
         return Err(refused(error));
     }
-    read_blocks(feeding, sink, &mut reader, ear)?;
-    match sink.end(feeding, ear) {
+    read_blocks(sink, &mut reader, ear)?;
+    match sink.end(ear) {
         Ok(outcome) => Ok(outcome),
-        Err(_) => Err(HearError::Ear),
+        Err(_) => Err(ReadCaptureError::Ear),
     }
 }
