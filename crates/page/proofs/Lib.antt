@@ -1,3 +1,4 @@
-pub mod Blocks
-pub mod Telling
+pub mod Told
+pub mod Stopping
+pub mod Readings
 pub mod Endings

@@ -1,5 +1,5 @@
 //! Takes what is reported of a capture: it lists each event, and keeps a record of it until it is told.
-ghost use Rattle.std.specs.Prelude.{◌≡◌, [], ◌∷◌, map, OnOk};
+ghost use Rattle.std.specs.Prelude.{◌≡◌, ◌≤◌, [], ◌∷◌, map, OnOk, OnErr};
 ghost use Rattle.std.specs.Io.KnownBytes.{Appends};
 ghost use Rattle.period_grammar.specs.Events.{event_of, at};
 ghost use Rattle.period_grammar.specs.Lending.{lent_event};
@@ -7,6 +7,7 @@ ghost use Rattle.period_grammar.specs.Sizes.{IsSized};
 ghost use Rattle.link_sink.specs.Ears.{both_alone};
 ghost use Rattle.listing_writer.specs.Texts.{lines_of, fault_lines, counted};
 ghost use Rattle.c_room.specs.Written.{HasTaken};
+ghost use Rattle.page.specs.Ears.{StopsAt, seen};
 
 use c_room::{EventRoom, Record};
 use link_sink::Ear;
@@ -45,7 +46,9 @@ impl<'a, K: Sink> PageEar<'a, K> {
         ensures same { self.new.lister.sink.ghost_name ≡ self.old.lister.sink.ghost_name }
         ensures faults { OnOk result (self.new.lister.faults ≡ counted self.old.lister.faults (fault_lines (lent_event event.entry ∷ []))) }
         ensures listed { OnOk result (Appends (K.held self.old.lister.sink.now) (K.held self.new.lister.sink.now) (lines_of (lent_event event.entry ∷ []))) }
+        ensures later { K.faults self.old.lister.sink.now ≤ K.faults self.new.lister.sink.now }
         ensures room { OnOk result (HasTaken self.old.room self.new.room (at column (lent_event event.entry) ∷ [])) }
+        ensures stopped { OnErr result (StopsAt (seen K.held K.faults self.old) (seen K.held K.faults self.new) (lent_event event.entry)) }
     {
         let (first, second) = twice(event);
         let kept = self.room.hear(column, first);
@@ -80,26 +83,26 @@ fn twice<'a>(event: EventRef<'a>) -> (EventRef<'a>, EventRef<'a>)
 
 impl<'a, K: Sink> Ear for PageEar<'a, K> {
     ghost use Rattle.std.proofs.Common.{refl, ◌∙◌};
-    ghost use Rattle.listing_writer.specs.Growing.{counted_none, counted_both, appends_none, appends_both};
     ghost use Rattle.c_room.specs.WrittenLaws.{taken_none, taken_both};
+    ghost use Rattle.page.specs.Ears.{HasListed, StopsAt, listed_none, listed_both, seen};
 
     ghost faults = { λ e. e.failed };
 
     // The sink grew by the lines of the events, and the count by their fault lines.
     ghost took = { λ x y events.
         (y.lister.sink.ghost_name ≡ x.lister.sink.ghost_name)
-        × (y.lister.faults ≡ counted x.lister.faults (fault_lines events))
-        × Appends (K.held x.lister.sink.now) (K.held y.lister.sink.now) (lines_of events) };
+        × HasListed (seen K.held K.faults x) (seen K.held K.faults y) events };
 
     // Their records were written, too.
     ghost took_at = { λ x y events.
         ((y.lister.sink.ghost_name ≡ x.lister.sink.ghost_name)
-        × (y.lister.faults ≡ counted x.lister.faults (fault_lines (map event_of events)))
-        × Appends (K.held x.lister.sink.now) (K.held y.lister.sink.now) (lines_of (map event_of events)))
+        × HasListed (seen K.held K.faults x) (seen K.held K.faults y) (map event_of events))
         × HasTaken x.room y.room events };
 
     // The sink failed, or there was no room.
-    ghost broke = { λ x y _. y.lister.sink.ghost_name ≡ x.lister.sink.ghost_name };
+    ghost broke = { λ x y event.
+        (y.lister.sink.ghost_name ≡ x.lister.sink.ghost_name)
+        × StopsAt (seen K.held K.faults x) (seen K.held K.faults y) event };
 
     fn hear(&mut self, column: u64, event: EventRef<'_>) -> Result<(), Failed> {
         match self.hear_both(column, event) {
@@ -111,21 +114,19 @@ impl<'a, K: Sink> Ear for PageEar<'a, K> {
         }
     }
 
-    ghost took_none = { λ x. (refl, counted_none x.lister.faults, appends_none (K.held x.lister.sink.now)) };
+    ghost took_none = { λ x. (refl, listed_none (seen K.held K.faults x)) };
 
     ghost took_both = { λ x y z h k first then. (
       then.0 ∙ first.0,
-      counted_both x.lister.faults y.lister.faults z.lister.faults h k first.1 then.1,
-      appends_both (K.held x.lister.sink.now) (K.held y.lister.sink.now) (K.held z.lister.sink.now) h k first.2 then.2,
+      listed_both (seen K.held K.faults x) (seen K.held K.faults y) (seen K.held K.faults z) h k first.1 then.1,
     ) };
 
-    ghost took_none_at = { λ x. ((refl, counted_none x.lister.faults, appends_none (K.held x.lister.sink.now)), taken_none x.room) };
+    ghost took_none_at = { λ x. ((refl, listed_none (seen K.held K.faults x)), taken_none x.room) };
 
     ghost took_both_at = { λ x y z h k first then. (
-      both_alone (λ events. (z.lister.sink.ghost_name ≡ x.lister.sink.ghost_name) × (z.lister.faults ≡ counted x.lister.faults (fault_lines events)) × Appends (K.held x.lister.sink.now) (K.held z.lister.sink.now) (lines_of events)) h k (
+      (
         then.0.0 ∙ first.0.0,
-        counted_both x.lister.faults y.lister.faults z.lister.faults (map event_of h) (map event_of k) first.0.1 then.0.1,
-        appends_both (K.held x.lister.sink.now) (K.held y.lister.sink.now) (K.held z.lister.sink.now) (map event_of h) (map event_of k) first.0.2 then.0.2,
+        both_alone (λ events. HasListed (seen K.held K.faults x) (seen K.held K.faults z) events) h k (listed_both (seen K.held K.faults x) (seen K.held K.faults y) (seen K.held K.faults z) (map event_of h) (map event_of k) first.0.1 then.0.1),
       ),
       taken_both x.room y.room z.room h k first.1 then.1,
     ) };

@@ -2,6 +2,8 @@
 ghost use Rattle.std.specs.Prelude.{◌≡◌, ◌≤◌};
 ghost use Rattle.page.specs.Endings.{status_of};
 
+use capture_file::CaptureFault;
+
 /// How the recovery of a capture ended.
 #[derive(Clone, Copy, Debug, PartialEq, Eq)]
 pub enum Ending {
@@ -10,7 +12,7 @@ pub enum Ending {
     /// All was listed and told, faults among it.
     Faulty,
     /// The bytes are no capture.
-    NoCapture,
+    NoCapture(CaptureFault),
     /// The source failed.
     ReadFailed,
     /// The sink failed, or the room was too small for what a block says.
@@ -28,7 +30,7 @@ impl Ending {
         match self {
             Ending::Done => 0,
             Ending::Faulty => 1,
-            Ending::NoCapture => 3,
+            Ending::NoCapture(_) => 3,
             Ending::ReadFailed => 4,
             Ending::WriteFailed => 5,
             Ending::Unaligned => 7,

@@ -4,9 +4,9 @@
 
 mod ear;
 mod ending;
-mod reading;
 mod recovering;
 mod teller;
+mod telling;
 
 pub use ear::PageEar;
 pub use ending::Ending;

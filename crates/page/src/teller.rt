@@ -1,5 +1,5 @@
 //! Whoever is told what a capture says.
-ghost use Rattle.std.specs.Prelude.{◌≡◌, List, [], ◌++◌, take};
+ghost use Rattle.std.specs.Prelude.{◌≡◌, List, [], ◌++◌, length, take};
 ghost use Rattle.period_grammar.specs.Events.{EventAt};
 ghost use Rattle.c_room.specs.Written.{rows_from, bytes_at};
 
@@ -33,6 +33,7 @@ fn tell_all<T: Teller>(room: &EventRoom<'_>, teller: &mut T)
 
 /// Tells what a room holds, and gives it free.
 pub(crate) fn tell_room<T: Teller>(room: &mut EventRoom<'_>, teller: &mut T)
+    ensures sizes { (length room.new.records.now ≡ length room.old.records.now) × (length room.new.bytes.now ≡ length room.old.bytes.now) }
     ensures count { room.new.count ≡ 0 }
     ensures used { room.new.used ≡ 0 }
     ensures told { (events : List EventAt) → take room.old.count room.old.records.now ≡ rows_from 0 events → take room.old.used room.old.bytes.now ≡ bytes_at events
