@@ -16,7 +16,7 @@ use Rattle.command_line.specs.Commands.{IsCommand}
 use Rattle.command_line.specs.declared.command.Command.{Command}
 use Rattle.command_line.specs.declared.command.Command.TheVariants.{MakeLink, MakeContent, MakeDvi, RecoverLink, RecoverContent, RecoverTrack, RecoverRelock, RecoverContentRelock, RecoverBiphase, RecoverDvi, Check, Damage, Slip, ReadBiphase, Relay, Sample}
 use Rattle.command_line.proofs.OneCommand.{command_once}
-use Rattle.relay_laws.proofs.OneSpelling.{one_spelling}
+use Rattle.relay.proofs.OneSpelling.{one_spelling}
 use Rattle.capture_commands.specs.Commands.{hit_asked, tap_asked}
 use Rattle.capture_commands.specs.Listings.{link_listing, check_listing, content_listing, biphase_listing}
 use Rattle.capture_commands.specs.TrackListings.{link_track_listing, content_track_listing}

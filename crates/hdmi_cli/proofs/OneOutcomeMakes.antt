@@ -12,7 +12,7 @@ use Rattle.source_end.specs.declared.refusal.RasterFault.{RasterFault}
 use Rattle.capture_file.specs.declared.writing.Tap.{Tap}
 use Rattle.capture_file.specs.Taps.{tapped_capture}
 use Rattle.listing_reader.specs.LineSteps.{Read, accepts, refuses}
-use Rattle.relay_laws.proofs.OneSpelling.{one_line, one_spelling}
+use Rattle.relay.proofs.OneSpelling.{one_line, one_spelling}
 use Rattle.capture_commands.specs.Outcome.{RunOutcome, MakesStream, MakesLink, MakesRaster, MakesContent}
 
 -- periods are spelled by one list of columns at most

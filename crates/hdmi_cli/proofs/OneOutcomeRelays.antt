@@ -22,7 +22,7 @@ use Rattle.link_sink.specs.Sinks.{Fed}
 use Rattle.link_laws.specs.Growth.{AreGrown}
 use Rattle.link_laws.proofs.Growth.{reported_grows}
 use Rattle.relay.specs.Relayed.{relayed}
-use Rattle.relay_laws.proofs.OneSpelling.{one_spelling}
+use Rattle.relay.proofs.OneSpelling.{one_spelling}
 use Rattle.capture_reading.specs.Blocks.{HasBlocks}
 use Rattle.capture_commands.specs.Notes.{capture_note}
 use Rattle.capture_commands.specs.Outcome.{RunOutcome, Relays}

@@ -13,7 +13,7 @@ use Rattle.period_grammar.specs.Events.{Event}
 use Rattle.period_grammar.specs.Heard.{heard}
 use Rattle.link_sink.specs.Alignment.{AreReported, reported_by}
 use Rattle.link_sink.specs.declared.hear.Outcome.{Outcome}
-use Rattle.relay_laws.proofs.OneSpelling.{one_spelling}
+use Rattle.relay.proofs.OneSpelling.{one_spelling}
 use Rattle.source_end.specs.Raster.{raster_of}
 use Rattle.source_end.proofs.RasterOnce.{one_raster}
 use Rattle.sampling.specs.Counts.{counts_of, counts_text}

@@ -17,11 +17,11 @@ use Rattle.period_grammar.specs.Heard.{heard}
 use Rattle.period_grammar.specs.Events.{Event}
 use Rattle.link_laws.specs.Account.{account}
 use Rattle.link_laws.proofs.exact.Arrivals.{front_is_clean}
-use Rattle.relay_laws.specs.Own.{RelayedAgain, cut_first}
+use Rattle.relay.specs.Own.{RelayedAgain, cut_first}
 use Rattle.relay.specs.Relayed.{relayed}
 use Rattle.relay.proofs.Conforming.{relayed_conforms}
 use Rattle.link_laws.proofs.Freely.{free_spelled}
-use Rattle.relay_laws.proofs.Own.{spelled_long}
+use Rattle.relay.proofs.Own.{spelled_long}
 use Rattle.command_line.specs.Commands.{IsCommand}
 use Rattle.command_line.specs.declared.command.Command.TheVariants.{Relay}
 use Rattle.capture_commands.specs.Endings.{Devices, RunEnds, Unless, status_of}

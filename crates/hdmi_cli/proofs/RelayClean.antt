@@ -9,9 +9,9 @@ use Rattle.period_grammar.specs.Heard.{heard}
 use Rattle.link_laws.proofs.exact.Arrivals.{whole_heard}
 use Rattle.link_laws.proofs.exact.Law.{check_is_exact}
 use Rattle.link_laws.proofs.exact.Wholes.{clean_is_whole}
-use Rattle.relay_laws.specs.Own.{WholeRelayed}
+use Rattle.relay.specs.Own.{WholeRelayed}
 use Rattle.relay.proofs.Conforming.{relayed_conforms}
-use Rattle.relay_laws.proofs.Own.{spelled_long}
+use Rattle.relay.proofs.Own.{spelled_long}
 use Rattle.command_line.specs.Commands.{IsCommand}
 use Rattle.command_line.specs.declared.command.Command.TheVariants.{Relay}
 use Rattle.capture_commands.specs.Endings.{Devices, RunEnds, Unless, status_of}

@@ -23,7 +23,7 @@ use Rattle.link_laws.proofs.exact.Law.{check_is_exact}
 use Rattle.track_laws.proofs.SlipStream.{stream, sent, reception}
 use Rattle.relay.specs.Relayed.{without_faults, kept_from, kept, nulled, gathered, announcing, settled, conformed, relayed}
 use Rattle.relay.proofs.Conforming.{relayed_conforms}
-use Rattle.relay_laws.specs.Own.{RelayedAgain, cut_first}
+use Rattle.relay.specs.Own.{RelayedAgain, cut_first}
 use Rattle.link_laws.proofs.Freely.{free_spelled}
 use Rattle.capture_commands.specs.Outcome.{RunOutcome}
 use Rattle.hdmi_cli.specs.RelayClauses.{IsCleanToEnd}

@@ -21,7 +21,7 @@ use Rattle.period_grammar.specs.Events.{Event}
 use Rattle.link_laws.specs.Account.{account}
 use Rattle.link_sink.specs.Alignment.{IsAlignedReported, IsNowhereReported}
 use Rattle.link_laws.specs.Laws.{IsAccounted, BeginColumn}
-use Rattle.relay_laws.specs.Received.{RelayedAccount}
+use Rattle.relay.specs.Received.{RelayedAccount}
 use Rattle.relay.specs.Relayed.{relayed}
 use Rattle.command_line.specs.Commands.{IsCommand}
 use Rattle.command_line.specs.declared.command.Command.TheVariants.{Relay}

@@ -8,7 +8,7 @@ use Rattle.period_grammar.specs.Events.{Event}
 use Rattle.period_grammar.specs.Heard.{heard}
 use Rattle.link_laws.specs.Local.{part_at, twelve_before}
 use Rattle.link_laws.proofs.LocalLanes.{aligned_whatever_follows}
-use Rattle.relay_laws.specs.Local.{IsRelayedAfter, line_sent, island_sent, LineRelayed, IslandRelayed}
+use Rattle.relay.specs.Local.{IsRelayedAfter, line_sent, island_sent, LineRelayed, IslandRelayed}
 use Rattle.command_line.specs.Commands.{IsCommand}
 use Rattle.command_line.specs.declared.command.Command.TheVariants.{Relay}
 use Rattle.capture_commands.specs.Endings.{Devices, RunEnds, Unless, status_of}

@@ -10,10 +10,10 @@ use Rattle.island_pack.specs.Periods.{ControlRun, Period, control, video, island
 use Rattle.island_pack.specs.Runs.{longest}
 use Rattle.island_pack.proofs.Runs.{values_longest}
 use Rattle.period_grammar.specs.Events.{Event}
-use Rattle.relay_laws.specs.Own.{RelayedAgain, WholeRelayed, cut_first}
+use Rattle.relay.specs.Own.{RelayedAgain, WholeRelayed, cut_first}
 use Rattle.relay.specs.Relayed.{relayed}
 use Rattle.relay.proofs.Conforming.{relayed_conforms}
-use Rattle.relay_laws.proofs.OneSpelling.{one_spelling, free_spelling_agrees}
+use Rattle.relay.proofs.OneSpelling.{one_spelling, free_spelling_agrees}
 use Rattle.command_line.specs.Commands.{IsCommand}
 use Rattle.command_line.specs.declared.command.Command.TheVariants.{Relay}
 use Rattle.capture_commands.specs.Endings.{Devices, RunEnds, Unless, status_of}

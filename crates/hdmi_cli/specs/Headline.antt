@@ -18,7 +18,7 @@ use Rattle.listing_writer.specs.Texts.{fault_lines, link_text}
 use Rattle.island_pack.specs.Spelling.{Spells}
 use Rattle.capture_file.specs.Taps.{tapped_capture}
 use Rattle.period_grammar.specs.Exact.{faultless}
-use Rattle.relay_laws.specs.Received.{reception}
+use Rattle.relay.specs.Received.{reception}
 use Rattle.relay.specs.Relayed.{conformed}
 use Rattle.capture_commands.specs.Relays.{relay_status, whole_tap}
 use Rattle.capture_commands.specs.Listings.{Listing}

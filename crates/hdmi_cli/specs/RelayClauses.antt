@@ -12,8 +12,8 @@ use Rattle.period_grammar.specs.Exact.{IsFront, whole_part}
 use Rattle.period_grammar.specs.Cut.{stretches}
 use Rattle.period_grammar.specs.Events.{Event}
 use Rattle.link_laws.specs.Whole.{ends_long}
-use Rattle.relay_laws.specs.Received.{reception}
-use Rattle.relay_laws.specs.Own.{cut_first}
+use Rattle.relay.specs.Received.{reception}
+use Rattle.relay.specs.Own.{cut_first}
 use Rattle.relay.specs.Relayed.{conformed, relayed}
 use Rattle.hdmi_cli.specs.Headline.{TappedStream, IsSentOn, aligned_of}
 use Rattle.capture_commands.specs.Relays.{IsRelayed, whole_tap}

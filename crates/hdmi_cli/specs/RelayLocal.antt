@@ -14,7 +14,7 @@ use Rattle.period_grammar.specs.Heard.{heard}
 use Rattle.link_laws.specs.Laws.{EndsControl, BeginColumn}
 use Rattle.link_laws.specs.Local.{part_at, StandsAlone}
 use Rattle.relay.specs.Relayed.{relayed}
-use Rattle.relay_laws.specs.Local.{IsRelayedAfter, line_sent, island_sent}
+use Rattle.relay.specs.Local.{IsRelayedAfter, line_sent, island_sent}
 use Rattle.hdmi_cli.specs.Headline.{TappedStream, aligned_of, IsFirstOf}
 use Rattle.hdmi_cli.specs.Local.{reported_to}
 use Rattle.capture_commands.specs.Relays.{relay_status, whole_tap}

@@ -8,7 +8,7 @@ use Rattle.island_pack.specs.Kinds.{kinds_of}
 use Rattle.island_pack.specs.Periods.{Period}
 use Rattle.island_pack.specs.Spelling.{SpellsBy, freely}
 use Rattle.island_pack.specs.declared.ranges.TheConstants.{COLUMN_LIMIT}
-use Rattle.relay_laws.specs.Spelled.{Agree}
+use Rattle.relay.specs.Spelled.{Agree}
 use Rattle.capture_commands.specs.Relays.{whole_tap}
 
 -- a text is written, and no fault was reported

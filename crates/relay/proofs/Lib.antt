@@ -9,3 +9,12 @@ pub mod Fits
 pub mod Going
 pub mod Moving
 pub mod Parting
+pub mod Below
+pub mod FaultsAlone
+pub mod Fitting
+pub mod Accounting
+pub mod Own
+pub mod Completing
+pub mod Agreeing
+pub mod OneSpelling
+pub mod Local

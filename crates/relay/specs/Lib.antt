@@ -6,3 +6,7 @@ pub mod Handed
 pub mod Sizes
 pub mod Standing
 pub mod Steps
+pub mod Received
+pub mod Own
+pub mod Spelled
+pub mod Local

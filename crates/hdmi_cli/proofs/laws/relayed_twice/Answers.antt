@@ -1,5 +1,5 @@
-use Rattle.relay_laws.proofs.Below.{facts}
-use Rattle.relay_laws.proofs.Own.{relayed_again}
+use Rattle.relay.proofs.Below.{facts}
+use Rattle.relay.proofs.Own.{relayed_again}
 use Rattle.hdmi_cli.proofs.RelayExamples.{relayed_twice}
 use Rattle.hdmi_cli.proofs.laws.relayed_twice.Goals as goal
 

@@ -24,10 +24,10 @@ use Rattle.hdmi_cli.proofs.TrackPasses.{tracked_as_one, relocked_as_one, content
 use Rattle.hdmi_cli.proofs.RelockAgain.{relocked_again, content_relocked_again}
 use Rattle.hdmi_cli.proofs.Pictures.{packeted, pictured}
 use Rattle.hdmi_cli.proofs.Sounds.{sounded}
-use Rattle.relay_laws.proofs.Accounting.{relayed_account}
-use Rattle.relay_laws.proofs.Below.{facts}
-use Rattle.relay_laws.proofs.Local.{line_relayed, island_relayed}
-use Rattle.relay_laws.proofs.Own.{relayed_again, whole_relayed}
+use Rattle.relay.proofs.Accounting.{relayed_account}
+use Rattle.relay.proofs.Below.{facts}
+use Rattle.relay.proofs.Local.{line_relayed, island_relayed}
+use Rattle.relay.proofs.Own.{relayed_again, whole_relayed}
 use Rattle.hdmi_cli.proofs.run.run.Goals as goal
 
 pub returns : goal.returns

@@ -1,9 +1,0 @@
-use Rattle.relay_laws.proofs.Below.{facts}
-use Rattle.relay_laws.proofs.Local.{line_relayed, island_relayed}
-use Rattle.relay_laws.proofs.alone_relayed.Goals as goal
-
-pub returns-clause-line : goal.returns-clause-line
-returns-clause-line c = line_relayed facts
-
-pub returns-clause-island : goal.returns-clause-island
-returns-clause-island c = island_relayed facts

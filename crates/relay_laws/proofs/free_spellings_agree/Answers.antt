@@ -1,8 +1,0 @@
-use Rattle.relay_laws.proofs.OneSpelling.{free_spellings_agree, free_spelling_agrees}
-use Rattle.relay_laws.proofs.free_spellings_agree.Goals as goal
-
-pub returns-clause-both : goal.returns-clause-both
-returns-clause-both c = free_spellings_agree
-
-pub returns-clause-sent : goal.returns-clause-sent
-returns-clause-sent c = free_spelling_agrees

@@ -1,5 +1,0 @@
-use Rattle.relay_laws.proofs.OneSpelling.{one_spelling}
-use Rattle.relay_laws.proofs.one_spelling.Goals as goal
-
-pub returns : goal.returns
-returns c = one_spelling

@@ -1,4 +1,0 @@
-pub mod Received
-pub mod Own
-pub mod Spelled
-pub mod Local
