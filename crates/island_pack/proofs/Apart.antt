@@ -88,7 +88,7 @@ low_bit n (suc (suc (suc (suc (suc (suc zero)))))) lt = omega arith
 low_bit n (suc (suc (suc (suc (suc (suc (suc zero))))))) lt = omega arith
 low_bit n (suc (suc (suc (suc (suc (suc (suc (suc i)))))))) lt = absurd (omega arith)
 
-bit_of_byte : (n r i byte : ℕ) → byte ≡ n / 2 ^ (8 * r) % 256 → i < 8 → bit_at byte i ≡ bit_at n (8 * r + i)
+pub bit_of_byte : (n r i byte : ℕ) → byte ≡ n / 2 ^ (8 * r) % 256 → i < 8 → bit_at byte i ≡ bit_at n (8 * r + i)
 bit_of_byte n r i byte e lt = ap (λ m. bit_at m i) e ∙ low_bit (n / 2 ^ (8 * r)) i lt ∙ ap (λ x. x % 2) (shr-shr n (8 * r) i)
 
 pub row_is : (blocks bytes : List ℕ) (r i a b c d n : ℕ) → a ≡ slice_index blocks 0 / 2 ^ (8 * r) % 256 → b ≡ slice_index blocks 1 / 2 ^ (8 * r) % 256

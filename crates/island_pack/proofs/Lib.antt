@@ -7,6 +7,8 @@ pub mod PixelColumns
 mod Parities
 mod Rows
 mod Laid
+mod NibblePairs
+mod LaidColumns
 pub mod Law
 pub mod Spelled
 mod PacketRanges

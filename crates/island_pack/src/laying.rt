@@ -1,12 +1,15 @@
 //! Packets laid into columns.
-ghost use Rattle.std.specs.Prelude.{◌≡◌, ◌<◌, ◌≤◌, ◌+◌, ◌*◌, ◌/◌, ◌%◌, ◌^◌, ◌&&◌, ◌==◌, ◌∷◌, [], ℕ, not, All, take, drop, slice_index, slice_index_or};
+ghost use Rattle.std.specs.Prelude.{◌≡◌, ◌<◌, ◌≤◌, ◌+◌, ◌*◌, ◌/◌, ◌%◌, ◌^◌, ◌&&◌, ◌==◌, ◌∷◌, [], ℕ, not, All, length, map, take, drop, slice_index, slice_index_or};
 ghost use Rattle.std.specs.Int.{bit_at};
 ghost use Rattle.tmds_word.specs.Bits.{bits_of};
+ghost use Rattle.tmds_word.specs.Words.{packed_columns};
 ghost use Rattle.terc4.specs.Columns.{one_if};
 ghost use Rattle.island_pack.specs.Packets.{Carries, BeginsWith, body_of};
-ghost use Rattle.island_pack.specs.Registers.{apart_of, blue_of, crossed_of, register_words};
+ghost use Rattle.island_pack.specs.Registers.{apart_of, blue_of, blue_pair, crossed_of, register_words, HasNibbles};
+ghost use Rattle.island_pack.specs.Spelling.{column_words};
 
 use crate::packet::Packet;
+use crate::pairs::{crossed_pairs, put_pairs};
 use bch_block::{parity32, parity64};
 use terc4::terc;
 use tmds_word::Word;
@@ -293,6 +296,76 @@ pub fn lay(packet: &Packet, first: bool, out: &mut [[Word; 3]; 32])
     }
 }
 
+/// Lays a packet into the bits of 32 columns, forty bytes of each lane, as `lay` lays it into their characters: each five bytes are
+/// four characters.
+pub fn lay_packed(packet: &Packet, first: bool, blue: &mut [u8], green: &mut [u8], red: &mut [u8])
+    requires sync { All (λ value. value < 4) packet.now.sync }
+    requires blue { length blue.old ≡ 40 }
+    requires green { length green.old ≡ 40 }
+    requires red { length red.old ≡ 40 }
+    ensures carried { Carries packet.now first (map column_words (packed_columns blue.new green.new red.new)) }
+    ensures blue_size { length blue.new ≡ 40 }
+    ensures green_size { length green.new ≡ 40 }
+    ensures red_size { length red.new ≡ 40 }
+{
+    let blocks = blocks_of(packet);
+    lay_header(blocks.header, &packet.sync, first, blue);
+    lay_bodies(&blocks.bodies, green, red);
+}
+
+/// Lays the header's block and the sync values into the bits of lane 0.
+fn lay_header(header: u32, sync: &[u8; 32], first: bool, into: &mut [u8])
+    requires sync { All (λ value. value < 4) sync.now }
+    requires room { length into.old ≡ 40 }
+    ensures nibbles { HasNibbles into.new (λ i. blue_of header (slice_index sync.now i) first i) }
+    ensures size { length into.new ≡ 40 }
+{
+    for r in 0..8 {
+        let low = blue_pair(header, sync, first, 4 * r);
+        let high = blue_pair(header, sync, first, 4 * r + 2);
+        put_pairs(low, high, into, 5 * usize::from(r));
+    }
+}
+
+/// Lays the bodies' blocks into the bits of lanes 1 and 2.
+fn lay_bodies(bodies: &[u64; 4], green: &mut [u8], red: &mut [u8])
+    requires green { length green.old ≡ 40 }
+    requires red { length red.old ≡ 40 }
+    ensures green { HasNibbles green.new (λ i. crossed_of bodies.now (2 * i)) }
+    ensures red { HasNibbles red.new (λ i. crossed_of bodies.now (2 * i + 1)) }
+    ensures green_size { length green.new ≡ 40 }
+    ensures red_size { length red.new ≡ 40 }
+{
+    for r in 0..8 {
+        let [green_low, red_low, green_high, red_high] = crossed_pairs(bodies, r);
+        let at = 5 * usize::from(r);
+        put_pairs(green_low, green_high, green, at);
+        put_pairs(red_low, red_high, red, at);
+    }
+}
+
+/// The nibbles of lane 0 in columns i and i + 1, the first one lowest.
+fn blue_pair(header: u32, sync: &[u8; 32], first: bool, i: u8) -> u8
+    requires sync { All (λ value. value < 4) sync.now }
+    requires columns { i < 31 }
+    ensures { result ≡ blue_pair header sync.now first i }
+{
+    let next = i + 1;
+    let low = nibble(header, sync[usize::from(i)], first, i);
+    let high = nibble(header, sync[usize::from(next)], first, next);
+    low + 16 * high
+}
+
+/// The nibble of lane 0 in column i.
+fn nibble(header: u32, sync: u8, first: bool, i: u8) -> u8
+    requires sync { sync < 4 }
+    requires column { i < 32 }
+    ensures value { result ≡ blue_of header sync first i }
+    ensures below { result < 16 }
+{
+    sync + 4 * bit(u64::from(header), i) + 8 * mark(first, i)
+}
+
 /// The five blocks of a packet.
 fn blocks_of(packet: &Packet) -> Blocks
     ensures header { BeginsWith (bits_of 32 result.header) packet.now.header }
@@ -359,13 +432,8 @@ fn column_of(header: u32, bodies: [u8; 2], sync: u8, first: bool, i: u8) -> [Wor
     requires red { slice_index bodies 1 < 16 }
     ensures { result ≡ register_words (blue_of header sync first i ∷ slice_index bodies 0 ∷ slice_index bodies 1 ∷ []) }
 {
-    let header_bit = bit(u64::from(header), i);
     let [green, red] = bodies;
-    [
-        terc(sync + 4 * header_bit + 8 * mark(first, i)),
-        terc(green),
-        terc(red),
-    ]
+    [terc(nibble(header, sync, first, i)), terc(green), terc(red)]
 }
 
 /// Bit 3 of lane 0 in column i: 0 in column 0 of an island's first packet, else 1.
@@ -406,7 +474,7 @@ fn row(blocks: &[u64; 4], r: u8) -> [u8; 8]
 }
 
 /// Byte r of a number.
-fn byte(block: u64, r: u8) -> u8
+pub(crate) fn byte(block: u64, r: u8) -> u8
     requires { r < 8 }
     ensures { result ≡ block / 2 ^ (8 * r) % 256 }
 {

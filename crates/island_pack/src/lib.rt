@@ -4,11 +4,12 @@
 pub mod laws;
 mod laying;
 mod packet;
+mod pairs;
 mod ranges;
 mod spread;
 mod taking;
 
-pub use laying::lay;
+pub use laying::{lay, lay_packed};
 pub use packet::{Packet, PacketRef, PacketVerdicts};
 pub use ranges::{
     COLUMN_LIMIT, ISLAND_CTL, PIXEL_LIMIT, VIDEO_CTL, are_sync_values, has_room,

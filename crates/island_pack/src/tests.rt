@@ -1,9 +1,9 @@
 //! Worked packets, and what an independent model of the format answers.
-ghost use Rattle.std.specs.Prelude.{◌<◌};
+ghost use Rattle.std.specs.Prelude.{◌<◌, All};
 
 mod rows;
 
-use crate::{Packet, PacketRef, PacketVerdicts, lay, take};
+use crate::{Packet, PacketRef, PacketVerdicts, lay, lay_packed, take};
 use bch_block::Verdict;
 use rows::{ONE_DAMAGED, TWO_DAMAGED, WHOLE};
 use std::process::Abort;
@@ -76,6 +76,31 @@ fn columns_of(lanes: &str) -> Result<[[Word; 3]; 32], Fail> {
     Ok(columns)
 }
 
+/// The columns of the bits that a packet is laid into.
+fn unpacked(packet: &Packet, first: bool) -> [[Word; 3]; 32]
+    requires { All (λ value. value < 4) packet.now.sync }
+{
+    let mut blue = [0; 40];
+    let mut green = [0; 40];
+    let mut red = [0; 40];
+    lay_packed(packet, first, &mut blue, &mut green, &mut red);
+    let mut columns = blank();
+    for i in 0..32 {
+        put(&mut columns, i, 0, character(&blue, i));
+        put(&mut columns, i, 1, character(&green, i));
+        put(&mut columns, i, 2, character(&red, i));
+    }
+    columns
+}
+
+/// The character at a place of forty bytes that are 32 characters.
+fn character(bytes: &[u8; 40], i: usize) -> u16
+    requires { i < 32 }
+{
+    let bit = 10 * i;
+    (u16::from_le_bytes([bytes[bit / 8], bytes[bit / 8 + 1]]) >> (bit % 8)) & 0x3ff
+}
+
 /// Puts words in the places of others.
 fn damaged(columns: &mut [[Word; 3]; 32], words: &str) -> Result<(), Fail> {
     for word in words.split_whitespace() {
@@ -137,6 +162,7 @@ fn follow(rt: &impl Abort, table: &str) -> Result<(), Fail> {
         let mut columns = blank();
         lay(&packet, place == "first", &mut columns);
         assert!(rt; columns == columns_of(lanes)?, "{row}");
+        assert!(rt; unpacked(&packet, place == "first") == columns, "{row}");
         damaged(&mut columns, words)?;
         let (taken, found) = take(&columns);
         assert_eq!(rt;

@@ -1,5 +1,5 @@
 -- What is taken of an item of which not every column was taken: the columns that are missing can be given.
-use Rattle.std.proofs.Common.{◌≡◌, ℕ, suc, zero, ◌<◌, Bool, true, false, ◌==◌, ◌&&◌, List, [], ◌∷◌, ◌++◌, length, take, drop, get_or, map, replicate, refl, ap, ap₂, sym, subst, ◌∙◌, arith, append_assoc, append-nil, drop-cons, ◌⊎◌, inl, inr}
+use Rattle.std.proofs.Common.{◌≡◌, ℕ, suc, zero, ◌<◌, Bool, true, ◌==◌, ◌&&◌, List, [], ◌∷◌, ◌++◌, length, take, drop, get_or, map, replicate, refl, ap, ap₂, sym, subst, ◌∙◌, arith, append_assoc, append-nil, drop-cons, ◌⊎◌, inl, inr}
 use Rattle.std.proofs.lemmas.Bool.{and_parts}
 use Rattle.std.proofs.lemmas.List.{take-append-drop, map-append}
 use Rattle.std.specs.List.{list_all}
@@ -7,8 +7,7 @@ use Rattle.tmds_word.specs.Column.{Column, column_of}
 use Rattle.terc4.specs.Tables.{video_guard}
 use Rattle.island_pack.specs.Periods.{ControlRun, DataIsland, Period, control, video, island, values_of, Pixel, pixels_of, SyncPair}
 use Rattle.island_pack.specs.Conforming.{is_packet, is_data_island}
-use Rattle.island_pack.specs.Packets.{Carries}
-use Rattle.island_pack.specs.Spelling.{SpellsPixels, SpellsVideo, SpellsIsland, SpellsPackets, SpellsPeriod, control_column, guard_columns, column_words, guard_column}
+use Rattle.island_pack.specs.Spelling.{SpellsPixels, SpellsVideo, SpellsIsland, SpellsPackets, SpellsPeriod, control_column, guard_columns, guard_column}
 use Rattle.island_pack.specs.declared.packet.Packet.{Packet}
 use Rattle.island_pack.proofs.PixelColumns.{pixels_go_on}
 use Rattle.island_pack.proofs.Spelled.{packets_spelled, video_spelled}
@@ -84,18 +83,38 @@ coded_front pixels upto old mid new done Own was front coded =
     ))
 
 -- The packets of a data island.
-pub packets_front : (packets : List Packet) (i : ℕ) (d : Packet) (first : Bool) (old mid new columns own : List Column) → list_all is_packet packets ≡ true → i < length packets
-    → first ≡ (true && (length (take i packets) == 0)) → SpellsPackets true (take i packets) columns → Carries (get_or packets i d) first (map column_words own)
-    → mid ≡ old ++ columns → TookFront mid new (λ cs. cs ≡ own) → TookFront old new (SpellsPackets true packets)
-packets_front packets i d first old mid new columns own all lt is spelled carries was front =
-    let rest = packets_spelled false (drop (suc i) packets) (all_after is_packet packets (suc i) all) in
-    front_after old mid new columns (λ cs. cs ≡ own) (SpellsPackets true packets) was front
-    (λ cs e. (
+pub part_range : (packets : List Packet) (from n : ℕ) → list_all is_packet packets ≡ true → list_all is_packet (take n (drop from packets)) ≡ true
+part_range packets from n all = first_all (drop from packets) n (all_after is_packet packets from all)
+  where
+    first_all : (ps : List Packet) (n : ℕ) → list_all is_packet ps ≡ true → list_all is_packet (take n ps) ≡ true
+    first_all ps zero h = refl
+    first_all [] (suc n) h = refl
+    first_all (p ∷ ps) (suc n) h = let parts = and_parts (is_packet p) (list_all is_packet ps) h in ap₂ (λ a b. a && b) parts.0 (first_all ps n parts.1)
+
+pub packets_front : (packets : List Packet) (from n : ℕ) (first : Bool) (old mid new columns : List Column) → list_all is_packet packets ≡ true
+    → first ≡ (true && (length (take from packets) == 0)) → SpellsPackets true (take from packets) columns
+    → mid ≡ old ++ columns → TookFront mid new (SpellsPackets first (take n (drop from packets))) → TookFront old new (SpellsPackets true packets)
+packets_front packets from n first old mid new columns all begins spelled was front =
+    let part = take n (drop from packets) in
+    let later = drop n (drop from packets) in
+    let done = take from packets ++ part in
+    let now = true && (length done == 0) in
+    let rest = packets_spelled now later (all_after is_packet (drop from packets) n (all_after is_packet packets from all)) in
+    let whole : done ++ later ≡ packets =
+    append_assoc (take from packets) part later ∙ ap (λ (ps : List Packet). take from packets ++ ps) (take-append-drop n (drop from packets)) ∙ take-append-drop from packets in
+    front_after old mid new columns (SpellsPackets first part) (SpellsPackets true packets) was front
+    (λ cs own. (
       rest.0,
-      subst (λ (ds : List Column). SpellsPackets true packets (columns ++ (ds ++ rest.0))) (sym e)
-          (subst (λ (ps : List Packet). SpellsPackets true ps (columns ++ (own ++ rest.0))) (parts_at packets i d lt)
-          (SpellsPackets-append true first (take i packets) (get_or packets i d ∷ drop (suc i) packets) columns (own ++ rest.0) is spelled (own, rest.0, refl, carries, rest.1))),
+      subst (λ (ps : List Packet). SpellsPackets true ps (columns ++ (cs ++ rest.0))) whole
+          (subst (λ (ds : List Column). SpellsPackets true (done ++ later) ds) (append_assoc columns cs rest.0)
+          (SpellsPackets-append true now done later (columns ++ cs) rest.0 refl (SpellsPackets-append true first (take from packets) part columns cs begins spelled own) rest.1)),
     ))
+
+-- the first columns of some packets whose columns are known
+pub packets_cut : (packets : List Packet) (first : Bool) (old new columns : List Column) (k : ℕ) → SpellsPackets first packets columns → new ≡ old ++ take k columns
+    → TookFront old new (SpellsPackets first packets)
+packets_cut packets first old new columns k spelled cut =
+    (take k columns, drop k columns, cut, subst (λ (cs : List Column). SpellsPackets first packets cs) (sym (take-append-drop k columns)) spelled)
 
 -- A data island. Of two guard columns none was taken, or the first one.
 pub pair_front : (pair : SyncPair) (old new : List Column) → (new ≡ old) ⊎ (new ≡ old ++ guard_column pair.first ∷ []) → TookFront old new (λ columns. columns ≡ guard_columns pair)

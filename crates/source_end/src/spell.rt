@@ -1,10 +1,10 @@
 //! The columns that spell one item.
-ghost use Rattle.std.specs.Prelude.{◌≡◌, ◌⊎◌, ℕ, ◌≤◌, ◌<◌, ◌+◌, ◌*◌, ◌/◌, ◌%◌, ◌++◌, ◌∷◌, [], List, length, map, replicate, take, slice_index, OnOk, OnErr, IsTrue, true};
+ghost use Rattle.std.specs.Prelude.{◌≡◌, ◌⊎◌, ℕ, ◌≤◌, ◌<◌, ◌+◌, ◌*◌, ◌/◌, ◌%◌, ◌++◌, ◌∷◌, [], List, length, map, replicate, take, OnOk, OnErr, IsTrue, true};
 ghost use Rattle.std.specs.List.{list_all};
 ghost use Rattle.outside_io.specs.Causes.{HasCause};
 ghost use Rattle.tmds_word.specs.Bits.{bytes_bits};
 ghost use Rattle.tmds_word.specs.Column.{Column, column_of};
-ghost use Rattle.tmds_word.specs.Words.{all_words};
+ghost use Rattle.tmds_word.specs.Words.{all_words, packed_columns};
 ghost use Rattle.terc4.specs.Tables.{video_guard};
 ghost use Rattle.island_pack.specs.Periods.{values_of, period_columns};
 ghost use Rattle.island_pack.specs.Conforming.{is_run, is_sync_pair, is_packet, is_data_island};
@@ -18,7 +18,7 @@ ghost use Rattle.source_end.specs.Kept.{is_sendable, is_dvi_sendable};
 use crate::framing::Framing;
 use crate::line_coding::pixels;
 use crate::{Island, Item, Run};
-use island_pack::{Packet, lay};
+use island_pack::{Packet, lay_packed};
 use outside_io::NoMemory;
 use tmds_word::{ColumnSink, Word, pack_four};
 
@@ -27,6 +27,15 @@ const GROUPS: u32 = 16;
 
 /// How many bytes their characters take on a lane.
 const PACKED: usize = 80;
+
+/// How many packets are given at a time.
+const PACKETS: usize = 8;
+
+/// How many bytes the characters of a packet take on a lane.
+const PACKET_BYTES: usize = 40;
+
+/// How many bytes those of as many packets take.
+const LAID: usize = 320;
 
 /// Gives the columns of items. It is refused only where `out` refused a column.
 pub(crate) fn items<F: Framing, C: ColumnSink>(list: &[Item], out: &mut C) -> Result<(), NoMemory>
@@ -209,39 +218,72 @@ fn packets<C: ColumnSink>(packets: &[Packet], out: &mut C) -> Result<(), NoMemor
     ensures part { OnErr result (TookFront (C.taken out.old) (C.taken out.new) (SpellsPackets true packets.now)) }
     ensures cause { HasCause (C.refusals out.old) (C.refusals out.new) result }
 {
-    let mut block = [[Word::of(0); 3]; 32];
+    let mut blue = [0; LAID];
+    let mut green = [0; LAID];
+    let mut red = [0; LAID];
     let mut first = true;
-    for packet in packets {
-        lay(packet, first, &mut block);
-        each(&block, out)?;
+    for i in 0..packets.len().div_ceil(PACKETS) {
+        let from = PACKETS * i;
+        let upto = packets.len().min(from + PACKETS);
+        let part = &packets[from..upto];
+        few_packets(part, first, &mut blue, &mut green, &mut red, out)?;
         first = false;
     }
     Ok(())
 }
 
-/// Gives 32 columns.
-fn each<C: ColumnSink>(block: &[[Word; 3]; 32], out: &mut C) -> Result<(), NoMemory>
-    requires room { length (C.taken out.old) + 32 < 429496729 }
-    ensures ok { OnOk result (C.taken out.new ≡ C.taken out.old ++ map column_of block.now) }
-    ensures part { OnErr result (TookFront (C.taken out.old) (C.taken out.new) (λ columns. columns ≡ map column_of block.now)) }
+/// Gives the columns of at most eight packets, of which the first is an island's first or not. The bits of each lane are laid in room of
+/// its own.
+fn few_packets<C: ColumnSink>(
+    packets: &[Packet],
+    first: bool,
+    blue: &mut [u8; LAID],
+    green: &mut [u8; LAID],
+    red: &mut [u8; LAID],
+    out: &mut C,
+) -> Result<(), NoMemory>
+    requires range { IsTrue (list_all is_packet packets.now) }
+    requires few { length packets.now ≤ 8 }
+    requires room { length (C.taken out.old) + 32 * length packets.now < 429496729 }
+    ensures ok { OnOk result ((columns : List Column) × (C.taken out.new ≡ C.taken out.old ++ columns) × SpellsPackets first packets.now columns) }
+    ensures part { OnErr result (TookFront (C.taken out.old) (C.taken out.new) (SpellsPackets first packets.now)) }
     ensures cause { HasCause (C.refusals out.old) (C.refusals out.new) result }
 {
-    let blue = lane_of(block, 0);
-    let green = lane_of(block, 1);
-    let red = lane_of(block, 2);
-    out.columns(&blue, &green, &red)
+    let size = PACKET_BYTES * packets.len();
+    lay_each(
+        packets,
+        first,
+        &mut blue[..size],
+        &mut green[..size],
+        &mut red[..size],
+    );
+    out.packed(&blue[..size], &green[..size], &red[..size])
 }
 
-/// The words of one lane of 32 columns.
-fn lane_of(block: &[[Word; 3]; 32], lane: usize) -> [Word; 32]
-    requires { lane < 3 }
-    ensures { result ≡ map (λ words. slice_index words lane) block.now }
+/// Lays packets into the bits of three lanes, of which the first is an island's first or not.
+fn lay_each(packets: &[Packet], first: bool, blue: &mut [u8], green: &mut [u8], red: &mut [u8])
+    requires range { IsTrue (list_all is_packet packets.now) }
+    requires blue { length blue.old ≡ 40 * length packets.now }
+    requires green { length green.old ≡ 40 * length packets.now }
+    requires red { length red.old ≡ 40 * length packets.now }
+    ensures spelled { SpellsPackets first packets.now (packed_columns blue.new green.new red.new) }
+    ensures blue_size { length blue.new ≡ length blue.old }
+    ensures green_size { length green.new ≡ length green.old }
+    ensures red_size { length red.new ≡ length red.old }
 {
-    let mut lane_words = [Word::of(0); 32];
-    for (i, words) in block.iter().enumerate() {
-        lane_words[i] = words[lane];
+    let mut leads = first;
+    for (i, packet) in packets.iter().enumerate() {
+        let at = PACKET_BYTES * i;
+        let upto = at + PACKET_BYTES;
+        lay_packed(
+            packet,
+            leads,
+            &mut blue[at..upto],
+            &mut green[at..upto],
+            &mut red[at..upto],
+        );
+        leads = false;
     }
-    lane_words
 }
 
 /// The guard words of a video period on lanes 0, 1 and 2.
