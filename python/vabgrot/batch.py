@@ -55,6 +55,11 @@ class Batch:
         bodies = [data[first : first + BODY] for first in range(at + HEADER, at + CARRIED, BODY)]
         return packets.Packet(data[at : at + HEADER], bodies)
 
+    def octets(self, places: Ints, first: int = 0, behind: int = CARRIED + PACKET) -> Bytes:
+        """The bytes of packets, a row of each, from one on up to before another."""
+        found: Bytes = np.frombuffer(self.data, np.uint8)[self.offsets[places, None] + np.arange(first, behind)]
+        return found
+
     def syncs(self, place: int) -> bytes:
         """The sync values of the columns of a packet."""
         at = int(self.offsets[place]) + CARRIED

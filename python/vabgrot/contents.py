@@ -9,7 +9,7 @@ import numpy as np
 import numpy.typing as npt
 
 from vabgrot import packets
-from vabgrot.batch import BODIES, BODY, HEADER, Batch
+from vabgrot.batch import BODIES, BODY, CARRIED, HEADER, Batch, Bytes
 from vabgrot.formats.faults import CONTENT
 from vabgrot.link import ISLAND_PACKET, VIDEO, Ints, Vsync
 
@@ -87,14 +87,12 @@ def lost_of(batch: Batch, places: Ints) -> Bools:
     return found
 
 
-def bodies_of(batch: Batch, places: Ints) -> tuple[npt.NDArray[np.uint8], npt.NDArray[np.uint8]]:
-    """The headers and the bodies of packets at some places of a batch."""
-    data = np.frombuffer(batch.data, np.uint8)
-    octets = data[batch.offsets[places, None] + np.arange(HEADER + BODIES * BODY)]
-    return octets[:, :HEADER], octets[:, HEADER:].reshape(-1, BODIES, BODY)
+def sides_of(octets: Bytes) -> tuple[Bytes, Bytes]:
+    """The headers and the bodies of packets."""
+    return octets[:, :HEADER], octets[:, HEADER:CARRIED].reshape(-1, BODIES, BODY)
 
 
-def odd_sides(headers: npt.NDArray[np.uint8], bodies: npt.NDArray[np.uint8]) -> Bools:
+def odd_sides(headers: Bytes, bodies: Bytes) -> Bools:
     """Of packets of samples of two channels, of each body and side whether its ones are odd where it is present."""
     present = (headers[:, 1, None] >> np.arange(BODIES) & 1).astype(bool) & (headers[:, 1, None] & 16 == 0)
     left = np.bitwise_xor.reduce(bodies[:, :, :3], axis=2) ^ bodies[:, :, 6] & 15
@@ -107,5 +105,5 @@ def faulty_samples(batch: Batch, places: Ints) -> tuple[int, int]:
     """How many sides of samples of two channels have an odd parity, and how many packets have more channels."""
     if not len(places):
         return 0, 0
-    headers, bodies = bodies_of(batch, places)
+    headers, bodies = sides_of(batch.octets(places, 0, CARRIED))
     return int(odd_sides(headers, bodies).sum()), int((headers[:, 1] >> 4 & 1).sum())

@@ -20,14 +20,16 @@ from vabgrot import capture, library, listing, place, program
 from vabgrot.batch import Batch, Gathering
 from vabgrot.errors import Refused
 from vabgrot.events import BLOCKED, LANED, NAMES, Kind
-from vabgrot.formats.characters import PACKET
+from vabgrot.formats.characters import LANES, PACKET, TEN
 from vabgrot.formats.faults import NEXT
 from vabgrot.lanes.strays import Strays
 from vabgrot.link import CLOSE, CONTROL, CUT, FAULT, ISLAND_PACKET, OPEN, SURE, VIDEO, Columns, Ints, Thing
 from vabgrot.receiving import Arrays, Receiver
 
 LINES = 4096  # of a batch of the program's text
-BLOCKS = 60  # of a capture that are read at a time: a multiple of 80 bytes of each lane
+BLOCKS = 240  # of a capture that are read at a time: a multiple of 80 bytes of each lane
+EVENTS, BYTES = 1 << 17, 1 << 22  # room for what a piece tells
+SIZE = BLOCKS * capture.BLOCK  # bytes of a lane in a piece
 KINDS = np.array([CONTROL, VIDEO, OPEN, ISLAND_PACKET, CLOSE, CUT] + [FAULT] * (len(Kind) - Kind.WORD), np.uint8)  # of the library's
 HEARD = frozenset(("link", "track"))  # what the library hears; of lanes that slip the program
 RELOCK = ["recover", "relock"]
@@ -92,14 +94,20 @@ def batches_of(lines: Iterable[listing.Line], columns: Columns, has_pixels: bool
 
 class ByLibrary:
     """What the C library hears, with the columns at which it reports each event. Raises NoLibrary at once, and Slipped among the batches
-    where `words` follow slips and a lane has one; not `looks` says that none has. `shows` is whether a terminal shows how far it is."""
+    where `words` follow slips and a lane has one; not `looks` says that none has. `shows` is whether a terminal shows how far it is.
+
+    A stray is at least ten characters in a row of which each has six changes between its bits or more, and none is a control character.
+    No other character of a conforming link has more than five, so a stray that lies among the aligned columns is reported as some fault:
+    as long as there is none, only what stands before these columns and behind them is looked through."""
 
     def __init__(self, words: Words, path: Path, shows: bool = True, looks: bool = True) -> None:
-        self.words, self.path, self.is_quiet, self.looks = words, path, None if shows else True, looks and words[1] == "track"
+        self.words, self.path, self.is_quiet = words, path, None if shows else True
+        self.strays = [Strays() for _ in LANES] if looks and words[1] == "track" else []
+        self.is_clean = False  # whether the lanes are aligned, and nothing was wrong since
         self.columns = Columns(is_dvi=False)
         self.status: int | None = None
         self.note = ""
-        self.receiver = Receiver()
+        self.receiver = Receiver(events=EVENTS, size=BYTES)
         self.made = Making()
 
     def batches(self) -> Generator[Batch, None, None]:
@@ -108,8 +116,12 @@ class ByLibrary:
             for piece in self.pieces():
                 arrays = self.receiver.feed_arrays(*piece)
                 if len(arrays.records):
-                    yield self.made.batch(arrays)
+                    batch = self.made.batch(arrays)
+                    self.judge()
+                    yield batch
             rest, end = self.receiver.finish_arrays()
+        cut = rest.records["named"][rest.records["kind"] == Kind.CUT]
+        self.look_behind(min([end.columns, *cut.tolist()]))
         if len(rest.records):
             yield self.made.batch(rest)
         self.columns.column = self.made.end
@@ -120,19 +132,44 @@ class ByLibrary:
         """The bits of the lanes, some blocks at a time. Raises Slipped."""
         with open(self.path, "rb") as file:
             counts, start = capture.header_of(file.read(capture.HEADER))
-            strays = [Strays() for _ in counts] if self.looks else []
             with tqdm(total=max(counts) // 8, unit="B", unit_scale=True, disable=self.is_quiet) as shown:
                 for piece in pieces_of(file, start, counts):
-                    if any([one.has(lane) for one, lane in zip(strays, piece[:3])]):
-                        raise Slipped
+                    if not self.is_clean:
+                        self.look(piece)
                     shown.update(max(piece[3]) // 8)
                     yield piece
 
+    def look(self, piece: Piece) -> None:
+        """Raises Slipped where the next bytes of a lane have a stray."""
+        if any([one.has(lane) for one, lane in zip(self.strays, piece[:3])]):
+            raise Slipped
 
-def pieces_of(file: BufferedReader, start: int, counts: Sequence[int]) -> Iterator[Piece]:
-    """The bytes and the bits of three lanes of a capture that begin at a place of its file, some blocks of each at a time."""
-    file.seek(start)
-    size, lengths, at = BLOCKS * capture.BLOCK, [(count + 7) // 8 for count in counts], 0
+    def judge(self) -> None:
+        """Some events came. With the first fault all is looked through, once. Raises Slipped."""
+        self.is_clean = not self.made.has_faults
+        if self.strays and not self.is_clean:
+            self.strays = []
+            if has_slips(self.path):
+                raise Slipped
+
+    def look_behind(self, column: int) -> None:
+        """Looks through what stands behind the columns before this one, where these had no fault. Raises Slipped."""
+        if not self.is_clean:
+            return
+        first = max(TEN * column // 8 - capture.BLOCK, 0) // SIZE
+        for one in self.strays:
+            one.move(first * SIZE)
+        with open(self.path, "rb") as file:
+            counts, start = capture.header_of(file.read(capture.HEADER))
+            for piece in pieces_of(file, start, counts, first * SIZE):
+                self.look(piece)
+
+
+def pieces_of(file: BufferedReader, start: int, counts: Sequence[int], byte: int = 0) -> Iterator[Piece]:
+    """The bytes and the bits of three lanes of a capture that begin at a place of its file, some blocks of each at a time, from a byte of
+    each on."""
+    size, lengths, at = SIZE, [(count + 7) // 8 for count in counts], byte
+    file.seek(capture.place_of(start, lengths, 0, byte))
     block = np.empty((BLOCKS, 3, capture.BLOCK), np.uint8)
     room = memoryview(cast(Any, block)).cast("B")
     while at + size <= min(lengths):

@@ -54,6 +54,10 @@ class Strays:
         self.at = 0  # how many bytes came
         self.kept = np.zeros(0, np.uint8)
 
+    def move(self, at: int) -> None:
+        """The next piece begins at this byte, a multiple of 80 behind those that came, among which there is none."""
+        self.at, self.kept = at, self.kept[:0]
+
     def has(self, piece: Bytes) -> bool:
         """Whether there is one in this piece, or begins in the one before it."""
         found = self.looks(np.concatenate([self.kept, piece[:KEPT]]), self.at - len(self.kept)) or self.looks(piece, self.at)

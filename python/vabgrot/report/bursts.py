@@ -25,6 +25,8 @@ def bursts_of(faults: Faults, periods: Periods) -> list[Burst]:
     """The bursts among the faults of a listing, in the order of their columns. No row and no island that stands alone lies in
     one; nor does a slip or a relock."""
     order = sorted(range(len(faults["at"])), key=faults["at"].__getitem__)
+    if not order:
+        return []
     certain = list(standing_alone(periods, sorted(faults["at"])))
     groups: list[list[int]] = []
     for number in order:

@@ -11,13 +11,14 @@ from typing import Generic, Protocol, TypedDict, TypeVar
 import numpy as np
 
 from vabgrot import packets
-from vabgrot.batch import Batch, Gathering
-from vabgrot.contents import Contents
+from vabgrot.batch import CARRIED, Batch, Gathering
+from vabgrot.contents import SAMPLES, Contents, odd_sides, sides_of
 from vabgrot.formats.characters import TEN
 from vabgrot.formats.faults import ANEW, LANED, OF_PACKET, UNCOUNTED
-from vabgrot.link import CLOSE, CONTROL, ISLAND_PACKET, KINDS as LISTED, OPEN, VIDEO, Columns, Doubts, Frame, Frames, Thing
+from vabgrot.link import CLOSE, ISLAND_PACKET, KINDS as LISTED, OPEN, VIDEO, Columns, Doubts, Frame, Frames, Ints, Thing
 from vabgrot.report.fields import Fields
 from vabgrot.report.sound import Sound
+from vabgrot.report.text import Text
 from vabgrot.video import images
 from vabgrot.video.colours import Signal
 from vabgrot.video.signals import Signals
@@ -25,76 +26,9 @@ from vabgrot.video.timings import Meter
 
 PERIODS = ("control", "video", "packet", "open", "close", "unknown", "unaligned")
 NUMBERS = {name: number for number, name in enumerate(PERIODS)}
-FULL_TEXT = 1_000_000  # bytes up to which the listing is kept whole
-FIRST_DIGITS = 48  # of a long row
 MOST_KNOWN = 4096  # unlike packets whose content is kept
-DIGITS = bytes(ord("0123"[value & 3]) for value in range(256))  # of sync values
 KINDS = {name: PERIODS.index(name) for name in ("control", "video", "packet", "open", "close")}
 OF_KIND = np.array([KINDS.get(name, 0) for name in LISTED], np.int64)  # the period that a line of a batch is
-
-
-class Text:
-    """The lines of the listing: whole where it is short, else without the pixels behind the first ones of a row."""
-
-    def __init__(self) -> None:
-        self.short: list[str] = []
-        self.rows: dict[int, str] = {}  # whole long rows, by the numbers of their lines from 0, as long as the listing is short
-        self.size = 0  # bytes
-        self.controls: dict[tuple[int, int], str] = {}  # each control line once, by its value and columns
-
-    def take(self, batch: Batch) -> None:
-        """The next lines."""
-        kinds = batch.kinds
-        lines = [""] * len(kinds)
-        controls, rows = np.flatnonzero(kinds == CONTROL).tolist(), np.flatnonzero(kinds == VIDEO).tolist()
-        known = self.controls
-        for place, key in zip(controls, zip(batch.values[controls].tolist(), batch.columns[controls].tolist())):
-            lines[place] = known.get(key) or known.setdefault(key, f"c {key[0]:02x} {key[1]}")
-        for place in np.flatnonzero((kinds == OPEN) | (kinds == CLOSE)).tolist():
-            value = int(batch.values[place])
-            lines[place] = f"{'i' if kinds[place] == OPEN else 'e'} {value & 3}{value >> 2}"
-        for place in np.flatnonzero(kinds == ISLAND_PACKET).tolist():
-            lines[place] = packet_line(batch, place)
-        for place, thing in batch.special:
-            lines[place] = f"cut {thing.column}" if thing.kind == "cut" else " ".join(("!", *map(str, thing.fields)))
-        for place, at, pixels in zip(rows, batch.offsets[rows].tolist(), batch.values[rows].tolist()):
-            lines[place] = self.row(len(self.short) + place, batch.data, at, pixels)
-        self.size += sum(map(len, lines)) + len(lines)
-        self.short += lines
-        if not self.is_whole:
-            self.rows.clear()
-
-    def row(self, number: int, data: bytes, at: int, pixels: int) -> str:
-        """A row, without most of its digits where it is long; these are kept as long as the listing is short."""
-        if 6 * pixels <= FIRST_DIGITS + 24:
-            return f"v {data[at : at + 3 * pixels].hex()}"
-        short = f"v {data[at : at + FIRST_DIGITS // 2].hex()}.. ({pixels} pixels)"
-        self.size += len("v ") + 6 * pixels - len(short)
-        if self.is_whole:
-            self.rows[number] = f"v {data[at : at + 3 * pixels].hex()}"
-        return short
-
-    def end(self) -> None:
-        """The line `end`."""
-        self.short.append("end")
-        self.size += len("end\n")
-
-    @property
-    def is_whole(self) -> bool:
-        """Whether the lines are kept as they are."""
-        return self.size <= FULL_TEXT
-
-    @property
-    def lines(self) -> list[str]:
-        """The lines, whole or short."""
-        rows = self.rows if self.is_whole else {}
-        return [rows.get(place, line) for place, line in enumerate(self.short)] if rows else self.short
-
-
-def packet_line(batch: Batch, place: int) -> str:
-    """A line of a packet."""
-    packet = batch.packet(place)
-    return " ".join(("p", packet.header.hex(), *(body.hex() for body in packet.bodies), batch.syncs(place).translate(DIGITS).decode()))
 
 
 LEFT, RIGHT = 0x0F << 48 | 0xFFFFFF, 0xF0 << 48 | 0xFFFFFF << 24  # the bits of a side in the body of a sample
@@ -108,7 +42,15 @@ class Told:
 
     def of(self, packet: packets.Packet) -> packets.Content:
         """What a packet carries."""
-        key = packet.header if packet.kind == 2 and are_even(packet) else packet.header + packet.bytes
+        is_plain = packet.kind == SAMPLES and are_even(packet)
+        return self.of_samples(packet) if is_plain else self.by(packet.header + packet.bytes, packet)
+
+    def of_samples(self, packet: packets.Packet) -> packets.Content:
+        """What a packet of samples carries without a wrong parity, in words."""
+        return self.by(packet.header, packet)
+
+    def by(self, key: bytes, packet: packets.Packet) -> packets.Content:
+        """What a packet carries, and all that are alike by this key."""
         found = self.known.get(key)
         if found is None:
             found = packets.content_of(packet)
@@ -308,16 +250,37 @@ class Findings(Generic[Shown]):
         rows = begin + np.flatnonzero(kinds == VIDEO)
         self.rows += len(rows)
         self.frames_of.rows(batch, rows)
-        for place in (begin + np.flatnonzero(kinds == ISLAND_PACKET)).tolist():
-            self.settle()
-            column = int(batch.at[place])
-            self.last = Received(batch.first + place, batch.epoch, column - batch.before, column, batch.packet(place))
+        self.take_packets(batch, begin + np.flatnonzero(kinds == ISLAND_PACKET))
         if kinds[-1] != ISLAND_PACKET:
             self.settle()
         values = np.where((kinds == OPEN) | (kinds == CLOSE), 0, batch.values[lines])
         lists = OF_KIND[kinds], batch.at[lines], batch.columns[lines], np.arange(batch.first + begin, batch.first + stop), values
         for table, numbers in zip(tables_of(self.periods), lists):
             table.frombytes(numbers.tobytes())
+
+    def take_packets(self, batch: Batch, places: Ints) -> None:
+        """Packets that follow one another, with no fault between them: what is said of the last one may follow."""
+        if not len(places):
+            return
+        self.settle()
+        octets = batch.octets(places, 0, CARRIED)
+        samples = octets[:, 0] == SAMPLES
+        samples[-1] = False
+        together = not odd_sides(*sides_of(octets[samples])).any()
+        if together:
+            self.sound.take_samples(octets[samples])
+        for place, column, is_sample in zip(places.tolist(), batch.at[places].tolist(), samples.tolist()):
+            self.settle()
+            self.last = Received(batch.first + place, batch.epoch, column - batch.before, column, batch.packet(place))
+            if together and is_sample:
+                self.keep(self.last, self.told.of_samples(self.last.packet))
+
+    def keep(self, received: Received, content: packets.Content) -> None:
+        """Keeps a packet of samples that are taken already."""
+        received.content, self.last = content, None
+        self.packets.append(received)
+        if content.faults:
+            self.content_counts.update(fault.split()[0] for fault in content.faults)
 
     def shift(self, columns: int) -> None:
         """The last period whose length is not known has so many columns more, and all behind it begins as much later."""
@@ -428,7 +391,8 @@ class Findings(Generic[Shown]):
             self.faults["frame"][fault] = number
             self.convert(fault, frame, signal)
         self.pending = []
-        ragged = sum(len(row) != len(frame.rows[0]) for row in frame.rows)
+        sizes = [*map(len, frame.rows)]
+        ragged = len(sizes) - sizes.count(sizes[0])
         other = frame.is_whole and packets.is_other_size(self.vic, signal.sent(frame.width), len(frame.rows))
         self.content_counts.update({"ragged": ragged * frame.is_whole, "vic": int(other)})
         self.fields.take(number, frame, signal.pixels(frame.width))

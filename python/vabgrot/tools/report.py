@@ -26,9 +26,9 @@ from vabgrot.judging.verdicts import total_of
 from vabgrot.link import Frame
 from vabgrot.reading import ANEW, RELOCK, Reading
 from vabgrot.replacing import replacing
-from vabgrot.report import bursts, judged
+from vabgrot.report import bursts, judged, packing
 from vabgrot.report.album import Album
-from vabgrot.report.findings import Findings, tables_of
+from vabgrot.report.findings import Findings
 from vabgrot.report.said import ADVICE, NOT_EXACT
 from vabgrot.report.sound import Told
 from vabgrot.video.colours import DEPTHS, Signal
@@ -112,7 +112,7 @@ class Show:
         self.frames += 1
         self.whole += frame.is_whole
         left = max(0, round((self.columns - at) * self.frames / max(at, 1)))
-        picture, _ = self.album.add(frame, left, signal)
+        picture = self.album.add(frame, left, signal)
         says = ENDS[frame.ended] if frame.is_whole or frame.ended != "vsync" else "begun before the capture"
         if ragged:
             says += f", {ragged} rows of another width"
@@ -300,7 +300,7 @@ def data_of(name: str, found: Found, album: Album, characters: list[str], sound:
         "places": [epoch.place for epoch in found.epochs],
         "hidden": [epoch.hidden for epoch in found.epochs],
         "alignments": [number * epoch.is_aligned for number, epoch in zip(alignments, found.epochs)],
-        "periods": {name: numbers.tolist() for name, numbers in zip(found.periods, tables_of(found.periods))},
+        "periods": packing.packed(found.periods),
         "doubts": [found.doubts.begins, [*found.doubts.ends, found.columns]],
         "faults": found.faults | {"characters": characters},
         "bursts": [burst._asdict() for burst in bursts.bursts_of(found.faults, found.periods)],
@@ -308,12 +308,12 @@ def data_of(name: str, found: Found, album: Album, characters: list[str], sound:
         "limits": [kind for kind, fault in CONTENT.items() if fault.is_limit],
         "frames": found.frames,
         "shown": found.fields.shown(),
-        "thumbs": [small for _, small in sorted(album.numbers.values())],
+        "thumbs": album.small,
         "packets": table,
         "packetNames": packets.NAMES,
         "words": list(words),
         "blocks": BLOCKS,
-        "lines": found.text.lines,
+        "lines": found.text.packed(),
         "sound": {"choices": sound["choices"], "order": sound["order"]} if sound else None,
     }
     return b64encode(zlib.compress(json.dumps(data, separators=(",", ":")).encode(), 6)).decode()
@@ -511,7 +511,7 @@ def sections_of(
         "packets": found.packets,
         "infos": infos_of(found),
         "sound": sound,
-        "listing_says": f"What “{' '.join(words)}” wrote, {whole}: {len(found.text.lines):,} lines, {found.text.size:,} bytes.",
+        "listing_says": f"What “{' '.join(words)}” wrote, {whole}: {len(found.text.of):,} lines, {found.text.size:,} bytes.",
     }
 
 

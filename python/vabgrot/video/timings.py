@@ -10,6 +10,7 @@ import numpy as np
 import numpy.typing as npt
 
 from vabgrot import link, packets
+from vabgrot.batch import CARRIED
 from vabgrot.formats.characters import HSYNC, PACKET, VSYNC
 from vabgrot.formats.faults import OF_PACKET, UNCOUNTED
 
@@ -207,7 +208,7 @@ class Meter:
             levels.append(batch.values[guards] >> shift & 3)
         islands = lines.start + np.flatnonzero(kinds == link.ISLAND_PACKET)
         if len(islands):
-            syncs = np.stack([np.frombuffer(batch.syncs(place), np.uint8) for place in islands.tolist()]).astype(np.int64)
+            syncs = batch.octets(islands, CARRIED).astype(np.int64)
             alike = (syncs == syncs[:, :1]).all(axis=1)
             columns += [batch.at[islands[alike]], (batch.at[islands[~alike], None] + np.arange(PACKET)).reshape(-1)]
             levels += [syncs[alike, 0], syncs[~alike].reshape(-1)]

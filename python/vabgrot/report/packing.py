@@ -1,0 +1,40 @@
+"""The table of periods as a page has it: a page unpacks it (`page/start.js`)."""
+
+from __future__ import annotations
+
+from typing import TypedDict
+
+import numpy as np
+
+from vabgrot.link import Ints
+from vabgrot.report.findings import Periods
+
+KIND, VALUE = 3, 16  # bits of a key that are the kind, and with these the value
+
+
+class Packed(TypedDict):
+    """Periods: the unlike ones with their kind, columns and value; of each its number among them; and of some the first column and the
+    line of the listing, by their numbers: where they do not follow from the period before."""
+
+    unlike: list[list[int]]
+    of: list[int]
+    at: list[list[int]]
+    line: list[list[int]]
+
+
+def packed(periods: Periods) -> Packed:
+    """The table."""
+    kinds, at, columns, lines, values = (
+        np.array(periods[name], np.int64) for name in ("kind", "at", "columns", "line", "value")
+    )
+    keys, of = np.unique(columns << VALUE | values << KIND | kinds, return_inverse=True)
+    unlike = np.column_stack([keys & (1 << KIND) - 1, keys >> VALUE, (keys & (1 << VALUE) - 1) >> KIND])
+    return {"unlike": unlike.tolist(), "of": of.tolist(), "at": steps(at, columns), "line": steps(lines, np.ones_like(lines))}
+
+
+def steps(numbers: Ints, behind: Ints) -> list[list[int]]:
+    """The numbers that are not so much more than the one before them as is told, and their places."""
+    wanted = np.concatenate((np.full(min(1, len(numbers)), -1), (numbers + behind)[:-1]))
+    places = np.flatnonzero(numbers != wanted)
+    found: list[list[int]] = np.column_stack([places, numbers[places]]).tolist()
+    return found
