@@ -112,6 +112,7 @@ class Meter:
         self.firsts, self.widths, self.levels = array("q"), array("q"), array("b")
         self.words, self.known = array("q"), array("q")  # damaged columns, and from where on the syncs are known again
         self.damaged = array("q")  # packets with a fault, by their first columns
+        self.slips = array("q")  # the first columns behind them
         self.avis: list[tuple[int, Avi]] = []
         self.depths: list[tuple[int, int]] = []  # columns, and the bits of a pixel from there on
         self.next, self.value = 0, LOST
@@ -148,6 +149,7 @@ class Meter:
             if thing.digits.startswith(TOLD):
                 self.tell(at, packets.packet_of(thing.texts, thing.line))
         elif kind == "slip":
+            self.slips.append(at)
             self.lose(at)
         elif kind != "cut":
             self.syncs(at, thing.digits)
@@ -354,6 +356,52 @@ def without_pulses(entries: Ints, places: Ints, most: int) -> Ints:
             keep[place : place + 2] = False
     kept: Ints = entries[keep]
     return kept
+
+
+def period_of(hsync: Edges) -> int:
+    """The columns of a line: what most leading edges of HSYNC are apart; 0 where there are no two."""
+    rises = hsync.columns[hsync.seen & (hsync.levels == 1)]
+    apart, counts = np.unique(np.diff(rises), return_counts=True)
+    return int(apart[np.argmax(counts)]) if len(apart) else 0
+
+
+def without_gaps(entries: Ints, most: int, slips: Ints) -> tuple[list[int], dict[int, int]]:
+    """Changes without what is not known for so many columns at most, unless a lane slips there; and where that began, by the columns
+    behind it."""
+    kept: list[int] = []
+    gaps: dict[int, int] = {}
+    for entry in entries.tolist():
+        if len(kept) > 1 and kept[-1] & 3 == LOST != entry & 3:
+            begin, column = kept[-1] >> 2, entry >> 2
+            has_slip = np.searchsorted(slips, begin) < np.searchsorted(slips, column, "right")
+            if column - begin <= most and not has_slip:
+                kept.pop()
+                gaps[column] = begin
+        if not kept or kept[-1] & 3 != entry & 3:
+            kept.append(entry)
+    return kept, gaps
+
+
+def without_short(entries: list[int], most: int) -> list[int]:
+    """Changes without values that last for so many columns at most between others that are like each other."""
+    kept: list[int] = []
+    for entry in entries:
+        if len(kept) > 1 and LOST != kept[-2] & 3 == entry & 3 != kept[-1] & 3 != LOST and (entry >> 2) - (kept[-1] >> 2) <= most:
+            kept.pop()
+        elif not kept or kept[-1] & 3 != entry & 3:
+            kept.append(entry)
+    return kept
+
+
+def held(entries: Ints, period: int, slips: Ints) -> Ints:
+    """Changes of VSYNC as most columns of the lines of so many columns have it: what lasts for less than a line is none, the shortest
+    first, since one wrong bit of a character can turn it and a row holds it; nor does it end where it is not known for up to a line and a
+    half."""
+    kept, gaps = without_gaps(entries, 3 * period // 2, slips)
+    for most in (GLITCH, period - 1):
+        kept = without_short(kept, most)
+    found = [it for entry in kept for it in ([gaps[entry >> 2] << 2 | LOST] if entry >> 2 in gaps else []) + [entry]]
+    return np.array(found, np.int64)
 
 
 def edges(entries: Ints, words: Ints, damaged: Ints) -> Edges:
@@ -632,6 +680,10 @@ def rasters(meter: Meter) -> Iterator[Raster]:
         return
     words = spans(ints(meter.words), ints(meter.known))
     damaged = spans(ints(meter.damaged), ints(meter.damaged) + PACKET)
+    slips = ints(meter.slips)
     for part in parts_of(meter):
-        sides = (edges(part.slice(ints(side)), words, damaged) for side in (meter.hsync, meter.vsync))
-        yield from rasters_of(part, *sides)
+        hsync = edges(part.slice(ints(meter.hsync)), words, damaged)
+        vsync, period = part.slice(ints(meter.vsync)), period_of(hsync)
+        if period:
+            vsync = held(without_pulses(vsync, words, np.iinfo(np.int64).max), period, slips)
+        yield from rasters_of(part, hsync, edges(vsync, words, damaged))
