@@ -14,6 +14,7 @@ from vabgrot.events import Kind
 from vabgrot.lanes import repeating
 from vabgrot.receiving import RECORD
 from vabgrot.recovery import ListedRecords, Told
+from vabgrot.watching import records
 from vabgrot.watching.blocks import LONGEST, Blocks
 from vabgrot.watching.counting import Count
 from vabgrot.watching.lines import Lines, Pieces
@@ -48,10 +49,10 @@ def batches_of_text(text, rng):
 
 def batches_of_records(text, rng):
     """The batches of the same as records, some at a time, and whether the listing tells all columns."""
-    records, told, size = ListedRecords(), Told(is_dvi=False), rng.choice((1, 7, 1000))
+    listed, told, size = ListedRecords(), Told(is_dvi=False), rng.choice((1, 7, 1000))
     for thing in told.things(listing.lines(io.BytesIO(text), listing.LINK, is_whole=False)):
-        records.take(thing)
-    found, data = np.array(records.found, RECORD), np.frombuffer(bytes(records.data), np.uint8)
+        listed.take(thing)
+    found, data = np.array(listed.found, RECORD), np.frombuffer(bytes(listed.data), np.uint8)
     at, parts = 0, []
     while at < len(found):
         stop = at + size
@@ -71,8 +72,10 @@ def counted(batches):
     return count, look, heard
 
 
-def test_text_and_records(compare):
-    """Faults, columns, frames, packets as they stand, and what is looked at."""
+@pytest.mark.parametrize("few", (1, 8, records.FEW))
+def test_text_and_records(compare, monkeypatch, few):
+    """Faults, columns, frames, packets as they stand, and what is looked at, also where as few events as may be are taken at once."""
+    monkeypatch.setattr(records, "FEW", few)
 
     def cases():
         for case in range(CAPTURES):
@@ -80,8 +83,8 @@ def test_text_and_records(compare):
             _, text = hearing.link_of(feeding.made_capture(rng)[1])
             if not text:
                 continue
-            records, is_exact = batches_of_records(text, rng)
-            (one, seen, heard), (other, shown, told) = counted(batches_of_text(text, rng)), counted(records)
+            batches, is_exact = batches_of_records(text, rng)
+            (one, seen, heard), (other, shown, told) = counted(batches_of_text(text, rng)), counted(batches)
             yield case, told, heard
             yield case, (other.faults, other.last, other.standing), (one.faults, one.last, one.standing)
             for its in (one, other, seen, shown):

@@ -18,6 +18,7 @@ from vabgrot.link import Columns
 from vabgrot.video.timings import Meter
 
 Ints = npt.NDArray[np.int64]
+Kinds = npt.NDArray[np.int8]
 Bytes = npt.NDArray[np.uint8]
 Key = tuple[str, int | None]  # the kind of a fault, and its lane
 RUN, LINE, PACKET, WORD = map(int, (Kind.RUN, Kind.LINE, Kind.PACKET, Kind.WORD))  # NumPy compares plain numbers sooner
@@ -26,12 +27,12 @@ NAMES: dict[int, str] = {**{int(kind): name for kind, name in events.NAMES.items
 KINDS = {name: kind for kind, name in NAMES.items()}
 HAS_LANE = np.array([NAMES.get(kind) in LANED for kind in range(SLIP + 1)])
 PARTS = np.isin(np.arange(SLIP + 1), (RUN, WORD), invert=True)  # whether an event parts control columns
+PARTS_NOT = bytes((RUN, WORD))
 LEAST = 3  # neighbouring columns of one value of VSYNC, from which on it has it
+SIZE, TYPES = 31, 256  # bytes of a packet, and types that it can have
 SAMPLES = 2  # the type of packets of samples
-STANDS = np.isin(np.arange(256), (0, SAMPLES, 7, 8, 9), invert=True)  # the types but null packets and those of sound
-SIZE = 31  # bytes of a packet
+STANDS = np.isin(np.arange(TYPES), (0, SAMPLES, 7, 8, 9), invert=True)  # the types but null packets and those of sound
 LAST = 10  # faults that are kept
-TAIL = 32  # events among which the last one that parts control columns mostly is
 WAYS = len(LANES) + 1  # a fault has one of the lanes, or none
 
 
@@ -57,11 +58,23 @@ Ear = Callable[[Fault], None]
 class Batch(Protocol):
     """Some events one after another. Places are their numbers in the batch, from 0."""
 
-    kinds: Ints  # of each a Kind, SLIP or END
+    kinds: Kinds  # of each a Kind, SLIP or END
 
     @property
     def size(self) -> int:
         """How many bytes they take."""
+
+    @property
+    def runs(self) -> tuple[Ints, Bytes]:
+        """The places of the runs of control columns, and VSYNC in each, 0 or 1."""
+
+    @property
+    def lines(self) -> Ints:
+        """The places of the lines."""
+
+    @property
+    def packets(self) -> tuple[Ints, Bytes]:
+        """The places of the packets without a lost block, and the type of each."""
 
     def until(self, stop: int) -> Self:
         """The first of these events, so many."""
@@ -69,20 +82,14 @@ class Batch(Protocol):
     def lanes(self, faults: Ints) -> Ints:
         """The lanes of the faults at these places, as far as they have one."""
 
-    def runs(self, places: Ints) -> tuple[Ints, Ints]:
-        """VSYNC, 0 or 1, and the columns of the runs of control columns at these places."""
+    def lengths(self, runs: Ints) -> Ints:
+        """The columns of the runs at these places."""
 
     def fault(self, place: int, epoch: int) -> Fault:
         """The fault at a place."""
 
     def told(self, begin: int, stop: int, before: int) -> int:
         """How many columns are told once the events from one place up to another came, where so many were before."""
-
-    def packets(self) -> Ints:
-        """The places of the packets without a lost block."""
-
-    def types(self, packets: Ints) -> Ints:
-        """The types of the packets at these places."""
 
     def octets(self, packets: Ints) -> Bytes:
         """The header and the bodies of the packets at these places, a row each."""
@@ -116,25 +123,26 @@ class Syncs:
 
     def take(self, batch: Batch, begin: int, stop: int) -> list[int]:
         """The events of a batch from one place up to another. Answers before which of them VSYNC changed."""
+        runs, levels = batch.runs
+        if stop - begin < len(batch.kinds):
+            part = slice(*np.searchsorted(runs, (begin, stop)).tolist())
+            runs, levels = runs[part], levels[part]
         kinds = batch.kinds[begin:stop]
-        runs = places_of(kinds == RUN)
-        levels, counts = batch.runs(runs + begin)
         if (levels == self.heard).all():
-            self.go_on(kinds, counts)
+            self.go_on(kinds, runs, batch)
             return []
-        places = np.append(runs, stop - begin)
+        places = np.append(runs, stop) - begin
         parts, rows = (np.searchsorted(places_of(one), places) for one in (PARTS[kinds], kinds == LINE))
-        return [begin + int(runs[at]) for at in self.changed(levels, counts, parts, rows)]
+        return [int(runs[at]) for at in self.changed(levels.astype(np.int64), batch.lengths(runs), parts, rows)]
 
-    def go_on(self, kinds: Ints, counts: Ints) -> None:
-        """Events whose runs, of so many columns, have the value of VSYNC that it had before."""
+    def go_on(self, kinds: Kinds, runs: Ints, batch: Batch) -> None:
+        """Events whose runs have the value of VSYNC that it had before."""
         self.rows += int(np.count_nonzero(kinds == LINE))
-        behind = kinds[-TAIL:] if PARTS[kinds[-TAIL:]].any() else kinds
-        parts = places_of(PARTS[behind])
-        runs = int(np.count_nonzero(behind[int(parts[-1]) if len(parts) else 0 :] == RUN))
-        goes_on = not len(parts) and (self.level == self.heard or not len(counts))
-        self.streak = self.streak * goes_on + int(counts[len(counts) - runs :].sum())
-        self.level = self.heard if len(counts) else self.level
+        told = kinds.tobytes()
+        last = told[len(told.rstrip(PARTS_NOT)) :]  # those behind the last one that parts control columns
+        goes_on = len(last) == len(told) and (self.level == self.heard or not len(runs))
+        self.streak = self.streak * goes_on + int(batch.lengths(runs[len(runs) - last.count(RUN) :]).sum())
+        self.level = self.heard if len(runs) else self.level
 
     def changed(self, levels: Ints, counts: Ints, parts: Ints, rows: Ints) -> list[int]:
         """Runs: their levels and columns, and before each how many events part a streak, and how many are rows; of the last two one more,
@@ -176,7 +184,8 @@ class Count:
     is_aligned: bool = False
     times: Ints = field(default_factory=lambda: np.zeros((SLIP + 1) * WAYS, np.int64))  # of faults, by kind and lane
     last: deque[Fault] = field(default_factory=lambda: deque(maxlen=LAST))
-    standing: dict[int, bytes] = field(default_factory=dict)  # of each type the last packet: its header and its bodies
+    kept: Bytes = field(default_factory=lambda: np.zeros((TYPES, SIZE), np.uint8))  # of each type the last packet: its header, its bodies
+    has: npt.NDArray[np.bool_] = field(default_factory=lambda: np.zeros(TYPES, np.bool_))  # whether there was one
     syncs: Syncs = field(default_factory=Syncs)
     slip: Fault | None = None  # the last one
 
@@ -190,10 +199,15 @@ class Count:
         """How many faults of each kind and lane there were."""
         return counter_of(self.times)
 
+    @property
+    def standing(self) -> dict[int, bytes]:
+        """The last packet of each type that no block was lost of, but of sound: its header and its bodies."""
+        return {kind: self.kept[kind].tobytes() for kind in places_of(self.has).tolist()}
+
     def take(self, batch: Batch, ear: Ear | None = None) -> None:
         """The next events. The ear is told each fault; it takes time."""
         kinds, begin, end = batch.kinds, 0, len(batch.kinds)
-        faults = places_of(kinds >= WORD) if end and kinds.max() >= WORD else kinds[:0]
+        faults = places_of(kinds >= WORD)
         for stop in [*faults[kinds[faults] == SLIP].tolist(), end] if len(faults) else [end]:
             self.part(batch, begin, stop)
             here = faults[(faults >= begin) & (faults <= stop)] if len(faults) else faults
@@ -203,8 +217,9 @@ class Count:
                 self.restart(batch.fault(stop, self.epoch))
             begin = stop + 1
         if len(faults):
-            lanes = np.where(HAS_LANE[kinds[faults]], batch.lanes(faults), -1)
-            self.times += np.bincount(kinds[faults] * WAYS + lanes + 1, minlength=len(self.times))
+            those = kinds[faults].astype(np.int64)
+            lanes = np.where(HAS_LANE[those], batch.lanes(faults), -1)
+            self.times += np.bincount(those * WAYS + lanes + 1, minlength=len(self.times))
         self.stand(batch)
 
     def part(self, batch: Batch, begin: int, stop: int) -> None:
@@ -231,16 +246,12 @@ class Count:
 
     def stand(self, batch: Batch) -> None:
         """Keeps the last packet of each type that no block is lost of."""
-        packets = batch.packets()
-        if not len(packets):
-            return
-        types = batch.types(packets)
-        stands = STANDS[types]
+        packets, types = batch.packets
+        stands = STANDS[types] if len(types) else self.has[:0]
         if stands.any():
-            places = np.full(256, -1)
-            places[types[stands]] = packets[stands]  # of those of one type the last
-            found = places_of(places >= 0)
-            self.standing.update(zip(found.tolist(), map(bytes, batch.octets(places[found]))))
+            those = types[stands].astype(np.int64)
+            self.kept[those] = batch.octets(packets[stands])  # of those of one type the last
+            self.has[those] = True
 
 
 def counter_of(times: Ints) -> Counter[Key]:

@@ -5,6 +5,7 @@ from __future__ import annotations
 import io
 import os
 from functools import cached_property
+from string import hexdigits
 
 import numpy as np
 
@@ -15,24 +16,24 @@ from vabgrot.formats.characters import PACKET, VSYNC
 from vabgrot.formats.faults import LANED, NEXT, OF_PACKET
 from vabgrot.link import Columns
 from vabgrot.video.timings import Meter
-from vabgrot.watching.counting import END, KINDS, SIZE, SLIP, Bytes, Fault, Ints
+from vabgrot.watching.counting import END, KINDS, SIZE, SLIP, Bytes, Fault, Ints, Kinds
 
 Text = bytes | memoryview
 CONTROL, ROW, PACKETS, OPEN, CLOSE, FAULT, FEED = b"cvpie!\n"
 UNKNOWN, IS_FAULT = -3, -2  # in place of a kind
-OF_NAME = np.full(256, UNKNOWN, np.int64)  # the kinds of lines by their first byte; those of `cut` and `end` are told by their second
+OF_NAME = np.full(256, UNKNOWN, np.int8)  # the kinds of lines by their first byte; those of `cut` and `end` are told by their second
 OF_NAME[[CONTROL, ROW, PACKETS, OPEN, CLOSE, FAULT]] = Kind.RUN, Kind.LINE, Kind.PACKET, Kind.OPEN, Kind.CLOSE, IS_FAULT
 OF_KIND = np.zeros(SLIP + 2, np.int64)  # the columns of lines of one length; the last one is that of END
 OF_KIND[[Kind.PACKET, Kind.OPEN, Kind.CLOSE, Kind.NOISE]] = PACKET, 2, 2, 1
 LETTERS = (0, 1, 4)  # of the name of a fault and the space behind it: they tell each kind
 KEYS = {sum(ord(f"{name} "[at]) << 8 * place for place, at in enumerate(LETTERS)): kind for name, kind in KINDS.items()}
 SORTED = np.array(sorted(KEYS), np.int64)
-NUMBERS = np.array([KEYS[key] for key in sorted(KEYS)], np.int64)
+NUMBERS = np.array([KEYS[key] for key in sorted(KEYS)], np.int8)
 IS_ANCHOR = np.isin(np.arange(SLIP + 2), [KINDS[name] for name in NEXT | OF_PACKET] + [Kind.CUT])  # they name a column that is known
 NAME_AT, LANE_AT, COUNT_AT, LEVEL_AT = 2, 7, 5, 3  # in a fault line, in one whose kind has four letters, and in a control line
 PIECE = 1 << 20  # bytes that are read at a time, at most
 DIGITS = 10  # of a number, at most
-OF_LEVEL = np.array([int(chr(one), 16) & VSYNC and 1 if chr(one) in "0123456789abcdefABCDEF" else 0 for one in range(256)])
+OF_LEVEL = np.array([int(chr(one), 16) & VSYNC and 1 if chr(one) in hexdigits else 0 for one in range(256)], np.uint8)
 
 
 def fault_of(line: bytes, epoch: int) -> Fault:
@@ -88,7 +89,7 @@ class Lines:
         self.bytes: Bytes = np.frombuffer(text, np.uint8)
         self.ends: Ints = np.flatnonzero(self.bytes == FEED)
         self.starts: Ints = np.concatenate((np.zeros(1, np.int64), self.ends[:-1] + 1)) if len(self.ends) else self.ends
-        self.kinds: Ints = OF_NAME[self.bytes[self.starts]]
+        self.kinds: Kinds = OF_NAME[self.bytes[self.starts]]
         unknown = self.kinds == UNKNOWN
         if unknown.any():
             raise Refused(f"`{self.begin(int(np.argmax(unknown)))}` begins no line of a link listing")
@@ -125,7 +126,7 @@ class Lines:
         found: Ints = self.bytes[np.minimum(self.starts[lines] + place, len(self.bytes) - 1)].astype(np.int64)
         return found
 
-    def kinds_of(self, faults: Ints) -> Ints:
+    def kinds_of(self, faults: Ints) -> Kinds:
         """The kinds of fault lines."""
         keys = np.zeros(len(faults), np.int64)
         for place, at in enumerate(LETTERS):
@@ -134,7 +135,7 @@ class Lines:
         unknown = SORTED[places] != keys
         if unknown.any():
             raise Refused(f"`{self.begin(int(faults[np.argmax(unknown)]))}` is no fault line")
-        found: Ints = NUMBERS[places]
+        found: Kinds = NUMBERS[places]
         return found
 
     def lanes(self, faults: Ints) -> Ints:
@@ -145,10 +146,20 @@ class Lines:
         """What a fault line says."""
         return fault_of(self.line(place), epoch)
 
-    def runs(self, places: Ints) -> tuple[Ints, Ints]:
-        """VSYNC and the columns of control lines."""
-        levels: Ints = OF_LEVEL[self.byte(places, LEVEL_AT)]
-        return levels, self.own[places]
+    @cached_property
+    def runs(self) -> tuple[Ints, Bytes]:
+        """The control lines, and VSYNC in each."""
+        places = self.named(Kind.RUN)
+        return places, OF_LEVEL[self.byte(places, LEVEL_AT)]
+
+    @cached_property
+    def lines(self) -> Ints:
+        """The lines of pixels."""
+        return self.named(Kind.LINE)
+
+    def lengths(self, runs: Ints) -> Ints:
+        """The columns of control lines."""
+        return self.own[runs]
 
     def counts(self, lines: Ints) -> Ints:
         """The decimal numbers with which these control lines end."""
@@ -196,16 +207,15 @@ class Lines:
             named = fault.column + PACKET * (fault.kind in OF_PACKET)
         return named + int(own[at:].sum())
 
-    def packets(self) -> Ints:
-        """The packets without a lost block: `! lost` stands between a packet and the next line that is no fault."""
+    @cached_property
+    def packets(self) -> tuple[Ints, Bytes]:
+        """The packets without a lost block (`! lost` stands between a packet and the next line that is no fault), and the first two digits
+        of the header of each."""
         packets, lost = self.named(Kind.PACKET), self.named(Kind.LOST)
-        return np.setdiff1d(packets, self.others[np.searchsorted(self.others, lost) - 1]) if len(lost) and len(packets) else packets
-
-    def types(self, packets: Ints) -> Ints:
-        """The first two digits of the headers of packet lines."""
+        if len(lost) and len(packets):
+            packets = np.setdiff1d(packets, self.others[np.searchsorted(self.others, lost) - 1])
         digits = OF_DIGIT[np.stack([self.byte(packets, 2), self.byte(packets, 3)])]
-        found: Ints = digits[0] << 4 | digits[1]
-        return found
+        return packets, (digits[0] << 4 | digits[1]).astype(np.uint8)
 
     def octets(self, packets: Ints) -> Bytes:
         """The bytes of packet lines but those of their syncs."""
@@ -228,7 +238,7 @@ class Lines:
             meter.take(columns.take(number, name, fields))
 
 
-OF_DIGIT = np.array([int(chr(one), 16) if chr(one) in "0123456789abcdefABCDEF" else 0 for one in range(256)])
+OF_DIGIT = np.array([int(chr(one), 16) if chr(one) in hexdigits else 0 for one in range(256)], np.uint8)
 
 
 def packet_in(line: bytes) -> bytes:

@@ -2,6 +2,7 @@
 
 from __future__ import annotations
 
+import functools
 import time
 from collections.abc import Callable
 from dataclasses import dataclass, field
@@ -18,8 +19,8 @@ from vabgrot.video.colours import Signal
 from vabgrot.video.matching import Rate, Timing, timings
 from vabgrot.video.signals import Signals
 from vabgrot.video.timings import Meter
-from vabgrot.watching.counting import LINE, SAMPLES, SLIP, Batch, Ints, Syncs
-from vabgrot.watching.records import packet_of
+from vabgrot.watching.counting import SAMPLES, SLIP, Batch, Ints, Syncs, places_of
+from vabgrot.watching.records import MANY, packet_of
 
 SHARE, GRACE = 0.05, 0.2  # of the time that may be looked, and seconds that may be so in any case
 FRAMES = 12  # whole frames after which a look begins anew: its raster and its sound are those of so many
@@ -86,7 +87,7 @@ class Look:
         self.size += batch.size
         batch.measure(self.meter, self.columns)
         begin, end = 0, len(batch.kinds)
-        for stop in [*np.flatnonzero(batch.kinds == SLIP).tolist(), end]:
+        for stop in [*places_of(batch.kinds == SLIP).tolist(), end]:
             self.part(batch, begin, stop)
             if stop < end:
                 self.syncs.reset()
@@ -96,8 +97,9 @@ class Look:
 
     def part(self, batch: Batch, begin: int, stop: int) -> None:
         """The rows between two slips."""
-        lines = begin + np.flatnonzero(batch.kinds[begin:stop] == LINE)
-        at = 0
+        lines, at = batch.lines, 0
+        if stop - begin < len(batch.kinds):
+            lines = lines[slice(*np.searchsorted(lines, (begin, stop)).tolist())]
         for change in self.syncs.take(batch, begin, stop):
             behind = int(np.searchsorted(lines, change))
             self.add(batch, lines[at:behind])
@@ -120,15 +122,21 @@ class Look:
 
     def hear(self, batch: Batch) -> None:
         """The samples of a batch, and its last audio InfoFrame that is right."""
-        found = batch.packets()
-        types = batch.types(found) if len(found) else found
+        found, types = batch.packets
         if len(samples := found[types == SAMPLES]):
             self.sound.take_samples(batch.octets(samples))
-        for at in reversed(np.flatnonzero(types == AUDIO).tolist()):
-            packet = packet_of(bytes(batch.octets(found[at : at + 1])[0]))
-            if not packets.content_of(packet).faults:
-                self.sound.allocation = packet.bytes[4]
+        for octets in batch.octets(found[types == AUDIO])[::-1]:
+            allocation = allocation_of(octets.tobytes())
+            if allocation is not None:
+                self.sound.allocation = allocation
                 break
+
+
+@functools.lru_cache(MANY)
+def allocation_of(data: bytes) -> int | None:
+    """The speakers of an audio InfoFrame by its bytes; None where it has a fault. Most are as one before."""
+    packet = packet_of(data)
+    return None if packets.content_of(packet).faults else packet.bytes[4]
 
 
 @dataclass

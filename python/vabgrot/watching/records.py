@@ -2,7 +2,11 @@
 
 from __future__ import annotations
 
+import functools
+from functools import cached_property
+
 import numpy as np
+import numpy.typing as npt
 
 from vabgrot.events import BLOCKED, LANED, Kind
 from vabgrot.formats.characters import HSYNC, VSYNC
@@ -11,17 +15,22 @@ from vabgrot.link import Columns, Thing
 from vabgrot.packets import Packet
 from vabgrot.receiving import Octets, Records
 from vabgrot.video.timings import Meter
-from vabgrot.watching.counting import LINE, NAMES, PACKET, RUN, SIZE, SLIP, Bytes, Fault, Ints, places_of
+from vabgrot.watching.counting import LINE, NAMES, PACKET, RUN, SIZE, SLIP, Bytes, Fault, Ints, Kinds, places_of
 
-GUARDS = 2  # columns before the pixels of a row, and of those that open or close an island
+GUARDS, PIXEL = 2, 3  # columns before the pixels of a row, and of those that open or close an island; bytes of a pixel
 BODY = 7  # bytes of a body of a packet
 AT_NAMED = {Kind.CUT: 0, Kind.NOISE: 1, Kind.EMPTY: GUARDS}  # events that tell the columns up to the one that they name, and so many more
 AT_COLUMN = {Kind.RUN: 0, Kind.LINE: 0, Kind.OPEN: 1, Kind.PACKET: 1, Kind.CLOSE: 1}  # and those that tell them up to their own
 TELLS = np.isin(np.arange(SLIP + 1), [*AT_NAMED, *AT_COLUMN])
-BEHIND = np.array([AT_COLUMN.get(kind, 0) for kind in map(Kind, range(Kind.CLOSE + 1))])  # the column after an event is so much more
 OPEN, CLOSE, LOST = map(int, (Kind.OPEN, Kind.CLOSE, Kind.LOST))
 AVI, CONTROL = 0x82, 3  # types of packets that a meter reads
-HALF, LOW = 32, (1 << 32) - 1  # of a number of 64 bits that holds two
+LOW = (1 << 32) - 1  # of a number of 64 bits that holds two of 32
+RECORD = 48  # bytes of a record
+KIND_AT, VALUE_AT, SECOND_AT = 36, 40, 44  # where the lowest bytes of these numbers stand in it
+TAIL = 32  # events among which the last two that tell columns mostly are
+SYNCS = np.uint8(HSYNC | VSYNC)
+MANY = 64  # unlike packets that are kept as they were read
+FEW = 64  # events that are quicker taken one by one, at most
 
 
 class Recorded:
@@ -29,9 +38,11 @@ class Recorded:
 
     def __init__(self, records: Records, data: Octets) -> None:
         self.records, self.data = records, data
-        numbers: Ints = records.view(np.int64).reshape(-1, 6)  # column, named, count, offset, size and kind, value and second
-        self.column, self.named, self.count, self.offset, self.sizes, self.values = numbers.T
-        self.kinds: Ints = self.sizes >> HALF
+        octets: Bytes = np.ndarray((len(records), RECORD), np.uint8, records)
+        numbers: Ints = np.ndarray((len(records), RECORD // 8), np.int64, records)
+        self.column, self.named, self.count, self.offset, self.sizes, self.values = numbers.T  # sizes with kinds, values with seconds
+        self.kinds: Kinds = octets[:, KIND_AT].astype(np.int8)
+        self.firsts, self.seconds = octets[:, VALUE_AT], octets[:, SECOND_AT]  # the lowest bytes of values and seconds
 
     @property
     def size(self) -> int:
@@ -42,14 +53,34 @@ class Recorded:
         """The first records, so many."""
         return Recorded(self.records[:stop], self.data)
 
+    @cached_property
+    def runs(self) -> tuple[Ints, Bytes]:
+        """The runs, and VSYNC in each."""
+        places = places_of(self.kinds == RUN)
+        return places, ((self.firsts[places] & VSYNC) != 0).view(np.uint8)
+
+    @cached_property
+    def lines(self) -> Ints:
+        """The lines."""
+        return places_of(self.kinds == LINE)
+
+    @cached_property
+    def packets(self) -> tuple[Ints, Bytes]:
+        """The packets without a lost block, and the first byte of each."""
+        packets = places_of(self.kinds == PACKET)
+        lost = places_of(self.kinds == LOST) if len(packets) else packets
+        packets = packets[~np.isin(self.named[packets], self.named[lost])] if len(lost) else packets
+        return packets, self.data[self.offset[packets]]
+
     def lanes(self, faults: Ints) -> Ints:
         """What some faults have as their lane."""
         found: Ints = self.values[faults] & LOW
         return found
 
-    def runs(self, places: Ints) -> tuple[Ints, Ints]:
-        """VSYNC and the columns of runs."""
-        return (self.values[places] & VSYNC) // VSYNC, self.count[places]
+    def lengths(self, runs: Ints) -> Ints:
+        """The columns of runs."""
+        found: Ints = self.count[runs]
+        return found
 
     def fault(self, place: int, epoch: int) -> Fault:
         """The fault of a record."""
@@ -60,7 +91,9 @@ class Recorded:
         """The columns up to those of the last event that is no mere remark."""
         if self.kinds[stop - 1] == RUN:
             return int(self.column[stop - 1])
-        last = begin + places_of(TELLS[self.kinds[begin:stop]])[-2:]
+        last = places_of(TELLS[self.kinds[max(begin, stop - TAIL) : stop]])[-2:] + max(begin, stop - TAIL)
+        if len(last) < 2:
+            last = places_of(TELLS[self.kinds[begin:stop]])[-2:] + begin
         return max([before, *map(self.behind, last.tolist())])
 
     def behind(self, place: int) -> int:
@@ -68,20 +101,16 @@ class Recorded:
         kind = Kind(self.kinds[place])
         return int(self.column[place]) + AT_COLUMN[kind] if kind in AT_COLUMN else int(self.named[place]) + AT_NAMED[kind]
 
-    def packets(self) -> Ints:
-        """The packets without a lost block."""
-        packets = places_of(self.kinds == PACKET)
-        lost = places_of(self.kinds == LOST) if len(packets) else packets
-        return packets[~np.isin(self.named[packets], self.named[lost])] if len(lost) else packets
-
-    def types(self, packets: Ints) -> Ints:
-        """The first byte of each packet."""
-        found: Ints = self.data[self.offset[packets]].astype(np.int64)
-        return found
-
     def octets(self, packets: Ints) -> Bytes:
         """The bytes of packets but those of their syncs."""
-        found: Bytes = self.data[self.offset[packets][:, None] + np.arange(SIZE)]
+        return self.parts(packets, 0, SIZE)
+
+    def parts(self, packets: Ints, begin: int, stop: int) -> Bytes:
+        """The bytes of packets from one place in each up to another, a row each."""
+        if not len(packets):
+            return np.empty((0, stop - begin), np.uint8)
+        windows: npt.NDArray[np.void] = np.ndarray((len(self.data) - stop + 1,), f"V{stop - begin}", self.data, begin, (1,))
+        found: Bytes = windows[self.offset[packets]].view(np.uint8).reshape(-1, stop - begin)
         return found
 
     def rows(self, places: Ints) -> list[bytes]:
@@ -95,52 +124,73 @@ class Recorded:
         return row
 
     def measure(self, meter: Meter, _: Columns) -> None:
-        """Has a meter take the events: all at once where none is a fault."""
-        if len(self.kinds) and self.kinds.max() <= CLOSE:
-            self.measure_all(meter)
-            return
-        data = self.data.data
-        for numbers in self.records.tolist():
-            meter.take(thing_of(numbers, data))
+        """Has a meter take the events: those between two faults at once, but for few."""
+        data, begin = self.data.data, 0
+        for stop in [*places_of(self.kinds > CLOSE).tolist(), len(self.kinds)]:
+            if stop - begin >= FEW:
+                part = self if stop - begin == len(self.kinds) else Recorded(self.records[begin:stop], self.data)
+                part.measure_all(meter)
+                begin = stop
+            for numbers in self.records[begin : stop + 1].tolist():
+                meter.take(thing_of(numbers, data))
+            begin = stop + 1
 
     def measure_all(self, meter: Meter) -> None:
         """Has a meter take events without a fault."""
-        lines = places_of(self.kinds == LINE)
-        pixels = (self.sizes[lines] & LOW) // 3
-        behind = self.column + BEHIND[self.kinds]
-        events, columns, values = self.syncs()
-        level = meter.follow(self.first(), int(behind[-1]), columns, values)
-        at = np.searchsorted(events, lines) - 1
-        meter.lines(behind[lines], pixels, np.where(at < 0, level, values[at]) if len(values) else np.full(len(lines), level))
-        packets = places_of(self.kinds == PACKET)
-        types = self.types(packets)
-        for place in packets[(types == AVI) | (types == CONTROL)].tolist():
-            meter.tell(int(self.named[place]), packet_of(bytes(self.octets(np.array([place]))[0])))
+        begin, events = self.first(), places_of(self.kinds != LINE)
+        first, last = self.syncs(events)
+        columns, values = self.changes(events, first, last, meter.value if begin == meter.next else -1)
+        level = meter.follow(begin, self.behind(len(self.kinds) - 1), columns, values)
+        lines = self.lines
+        before = np.concatenate((np.array([level]), last))[lines - np.arange(len(lines))]  # of the events before each
+        meter.lines(self.column[lines], (self.sizes[lines] & LOW) // PIXEL, before)
+        packets, types = self.packets
+        told = packets[(types == AVI) | (types == CONTROL)]
+        for column, octets in zip(self.named[told].tolist(), self.octets(told)):
+            meter.tell(column, packet_of(octets.tobytes()))
 
     def first(self) -> int:
         """The column with which the first event begins."""
         column, named, count, _, size, kind, _, _ = self.records[0].tolist()
         if kind == PACKET:
             return int(named)
-        return int(column - (count if kind == RUN else size // 3 + GUARDS if kind == LINE else 1))
+        return int(column - (count if kind == RUN else size // PIXEL + GUARDS if kind == LINE else 1))
 
-    def syncs(self) -> tuple[Ints, Ints, Ints]:
-        """HSYNC and twice VSYNC as they are told: the place of the event, the column, the value; of a packet with one value once."""
-        kinds = self.kinds
-        packets = places_of(kinds == PACKET)
-        levels = self.data[self.offset[packets][:, None] + np.arange(SIZE, SIZE + COLUMNS)] if len(packets) else np.zeros((0, COLUMNS))
-        is_alike = (levels == levels[:, :1]).all(axis=1)
-        times = np.where((kinds == OPEN) | (kinds == CLOSE), GUARDS, (kinds == RUN).astype(np.int64))
-        times[packets] = np.where(is_alike, 1, COLUMNS)
-        events = np.repeat(np.arange(len(kinds)), times)
-        within = np.arange(len(events)) - np.repeat(np.cumsum(times) - times, times)
-        begins = np.where(kinds == RUN, self.column - self.count, np.where(kinds == PACKET, self.named, self.column - 1))
-        values = np.where(within == 0, self.values[events], self.values[events] >> HALF) & (HSYNC | VSYNC)
-        if len(packets):
-            number = np.searchsorted(packets, events)
-            is_packet = kinds[events] == PACKET
-            values[is_packet] = levels[number[is_packet], within[is_packet]]
-        return events, begins[events] + within, values
+    @cached_property
+    def levels(self) -> Bytes:
+        """HSYNC and twice VSYNC in each column of the packets, a row each."""
+        return self.parts(self.packets[0], SIZE, SIZE + COLUMNS)
+
+    def syncs(self, events: Ints) -> tuple[Bytes, Bytes]:
+        """HSYNC and twice VSYNC in the first and in the last column of events that tell them."""
+        found = self.firsts[events] & SYNCS
+        packets = np.searchsorted(events, self.packets[0])
+        found[packets] = self.levels[:, 0]
+        last = found.copy()
+        last[packets] = self.levels[:, -1]
+        kinds = self.kinds[events]
+        guards = places_of((kinds == OPEN) | (kinds == CLOSE))
+        last[guards] = self.seconds[events[guards]] & SYNCS
+        return found, last
+
+    def changes(self, events: Ints, first: Bytes, last: Bytes, before: int) -> tuple[Ints, Ints]:
+        """Where the syncs have another value than before, and which: at these events, and within guards and packets."""
+        new = places_of(first[1:] != last[:-1]) + 1
+        if len(first) and first[0] != before:
+            new = np.concatenate((np.zeros(1, np.int64), new))
+        places = events[new]
+        kinds = self.kinds[places]
+        begins = np.where(kinds == PACKET, self.named[places], self.column[places] - np.where(kinds == RUN, self.count[places], 1))
+        unlike = places_of(first != last)
+        guards = unlike[self.kinds[events[unlike]] != PACKET]
+        rows, steps = np.divmod(places_of((self.levels[:, 1:] != self.levels[:, :-1]).reshape(-1)), COLUMNS - 1)
+        if not len(rows) and not len(guards):
+            return begins, first[new].astype(np.int64)
+        packets = self.packets[0][rows]
+        columns = np.concatenate((begins, self.column[events[guards]], self.named[packets] + 1 + steps))
+        values = np.concatenate((first[new], last[guards], self.levels[rows, steps + 1]))
+        order = np.argsort(columns, kind="stable")
+        return columns[order], values[order].astype(np.int64)
 
 
 def more_of(kind: int, count: int, value: int, second: int) -> tuple[int, ...]:
@@ -150,8 +200,9 @@ def more_of(kind: int, count: int, value: int, second: int) -> tuple[int, ...]:
     return (count,) if kind == Kind.SYMBOLS else ()
 
 
+@functools.lru_cache(MANY)
 def packet_of(data: bytes) -> Packet:
-    """The packet of the bytes of its header and its bodies."""
+    """The packet of the bytes of its header and its bodies; most are as one before."""
     return Packet(data[:3], [data[at : at + BODY] for at in range(3, SIZE, BODY)])
 
 
@@ -161,7 +212,7 @@ def thing_of(numbers: tuple[int, ...], data: memoryview) -> Thing:
     if kind == Kind.RUN:
         return made("control", column - count, count, value)
     if kind == Kind.LINE:
-        columns = size // 3 + GUARDS
+        columns = size // PIXEL + GUARDS
         return made("video", column - columns, columns, data[offset : offset + size].hex())
     if kind == Kind.PACKET:
         return made("packet", named, column + 1 - named, *texts_of(data[offset : offset + size]))
