@@ -134,8 +134,11 @@ def main() -> None:
         found = [rows_listed(program, f"rates {rate} {case}", rate, lost) for case in range(60)]
         whole, sums = sum(clean for clean, _ in found), [sum(counts) for counts in zip(*(listed for _, listed in found))]
         nothing = [sum(clean > 0 and listed[at] == 0 for clean, listed in found) for at in range(len(COMMANDS))]
-        print(rate, lost, whole, *(f"{' '.join(words)}: {100 * kept / whole:.2f} ({none} of 60 captures without any)"
-                             for words, kept, none in zip(COMMANDS, sums, nothing)), sep="; ")
+        said = (
+            f"{' '.join(words)}: {100 * kept / whole:.2f} ({none} of 60 captures without any)"
+            for words, kept, none in zip(COMMANDS, sums, nothing)
+        )
+        print(rate, lost, whole, *said, sep="; ")
 
 
 TABLES = (marginal, rows_kept)

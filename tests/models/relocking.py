@@ -28,7 +28,10 @@ def edges(bits, places, start):
 def triples(rows):
     """The edges of three lanes, any two near each other, in the order of the greatest of them."""
     for last, lane in sorted((edge, lane) for lane, row in enumerate(rows) for edge in row):
-        near = [row[bisect.bisect_left(row, last - NEAR) : bisect.bisect_right(row, last)] if at != lane else [last] for at, row in enumerate(rows)]
+        near = [
+            row[bisect.bisect_left(row, last - NEAR) : bisect.bisect_right(row, last)] if at != lane else [last]
+            for at, row in enumerate(rows)
+        ]
         for triple in itertools.product(*near):
             if max(triple) - min(triple) <= NEAR:
                 yield triple
@@ -60,7 +63,9 @@ def opens_nothing(lanes, own, triple):
     """Whether by the alignment a control period ends where the others' does, and the two columns after it open no period."""
     before = sorted((edge - place) // 10 for edge, place in zip(triple, own))[1]
     places = [place + 10 * before for place in own]
-    controls = [sum(bits[place + past : place + past + 10] in model.SENT_CONTROL for bits, place in zip(lanes, places)) for past in (-10, 0)]
+    controls = [
+        sum(bits[place + past : place + past + 10] in model.SENT_CONTROL for bits, place in zip(lanes, places)) for past in (-10, 0)
+    ]
     counts = columns_at(lanes, places)
     return counts is not None and controls[0] >= 2 > controls[1] and all(here + after < 5 for here, after in counts)
 

@@ -9,6 +9,7 @@ use Rattle.island_pack.specs.Conforming.{IsConforming, conforms, is_control_peri
 use Rattle.island_pack.specs.Periods.{ControlRun, DataIsland, Period, control, video, island, values_of, has_preamble, period_columns, columns_of, VIDEO_PREAMBLE, ISLAND_PREAMBLE}
 use Rattle.island_pack.specs.Runs.{longest}
 use Rattle.island_pack.specs.Spelling.{Spells}
+use Rattle.island_pack.specs.Taken.{first_lost}
 use Rattle.island_pack.specs.declared.packet.Packet.{Packet}
 use Rattle.island_pack.specs.declared.packet.PacketVerdicts.{PacketVerdicts}
 use Rattle.island_pack.proofs.Spelled.{conforming_is_spelled}
@@ -123,7 +124,7 @@ abbrev from_line : List Period
 from_line = control (announces VIDEO_PREAMBLE) ∷ (video (replicate 3 16) ∷ (control twelve ∷ []))
 
 are_sent : relayed island_and_line ≡ control (announces ISLAND_PREAMBLE) ∷ (island one_packet ∷ from_line)
-unfolding relayed conformed settled gathered nulled kept kept_from without_faults announcing longest is_data_island is_packet is_video_period
+unfolding relayed conformed settled gathered nulled kept kept_from without_faults announcing longest is_data_island is_packet is_video_period first_lost
 are_sent = refl
 
 few_columns : columns_of (relayed island_and_line) ≤ COLUMN_LIMIT

@@ -1,5 +1,5 @@
 -- The content lines of a packet that is as sent in the account, and of the packets of periods.
-use Rattle.std.proofs.Common.{◌≡◌, ℕ, ◌-◌, ◌<◌, Bool, true, false, if◌then◌else◌, List, [], ◌∷◌, map, length, take, drop, Option, None, refl, sym, ap₂, subst, ◌∙◌, arith}
+use Rattle.std.proofs.Common.{◌≡◌, ℕ, ◌-◌, ◌<◌, Bool, true, false, if◌then◌else◌, List, [], ◌∷◌, map, length, take, drop, Option, None, refl, sym, ap, ap₂, subst, ◌∙◌, arith}
 use Rattle.std.specs.Prelude.{is_some, slice_index, nat_le, Ok, Err, ◌==◌}
 use Rattle.std.specs.List.{find}
 use Rattle.tmds_word.specs.Column.{Column}
@@ -59,7 +59,7 @@ lines_freely p sent received carries long few column =
     lines_of_payload reported p v column h.header h.bodies
     ∙ lines_are p v column
     ∙ lines_bare (first_lost v) p column
-    ∙ ap₂ (λ (a b : Option ℕ). lines_by a b (bare p.header p.bodies) column) (none_lost v h.kept ∙ sym spotless_kept) (none_missing v h.kept ∙ sym spotless_whole)
+    ∙ ap (λ (lost : Option ℕ). lines_by lost (bare p.header p.bodies) column) (none_lost v h.kept ∙ sym none_spotless)
     ∙ sym (lines_bare (first_lost spotless) p column)
     ∙ sym (lines_are p spotless column)
 

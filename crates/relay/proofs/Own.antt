@@ -14,7 +14,7 @@ use Rattle.island_pack.specs.Periods.{ControlRun, SyncPair, DataIsland, Period, 
 use Rattle.island_pack.specs.Conforming.{is_run, is_control_period, is_video_period, is_sync_pair, is_data_island, conforms, are_bytes}
 use Rattle.island_pack.specs.Ranges.{is_line_in_range}
 use Rattle.island_pack.specs.Packets.{CarriesFreely}
-use Rattle.island_pack.specs.Taken.{spotless}
+use Rattle.island_pack.specs.Taken.{first_lost, spotless}
 use Rattle.island_pack.specs.Repaired.{packet_in, verdicts_in, verdicts_of}
 use Rattle.island_pack.specs.Runs.{longest}
 use Rattle.island_pack.specs.Sparse.{unlike_words}
@@ -192,6 +192,7 @@ abbrev clean_island : DataIsland → WholeIsland
 clean_island x = record { opening = x.opening; packets = map clean_one x.packets; closing = x.closing }
 
 sure_back : (ps : List Packet) → map (λ p. p.packet) (map sure (map clean_one ps)) ≡ ps
+unfolding first_lost
 sure_back [] = refl
 sure_back (p ∷ ps) = ap (λ qs. p ∷ qs) (sure_back ps)
 

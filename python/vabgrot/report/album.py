@@ -139,7 +139,7 @@ def quick_file(image: Image.Image, most: int) -> bytes:
     np.subtract(rows[1:], rows[:-1], out=told[1:, 1:])
     packer, packed = zlib.compressobj(LEVEL), bytearray()
     for part in np.array_split(told, -(-told.size // PART)):
-        packed += packer.compress(part)
+        packed += packer.compress(part.tobytes())
         if len(packed) > most:
             return b""
     packed += packer.flush()

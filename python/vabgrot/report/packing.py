@@ -25,7 +25,8 @@ class Packed(TypedDict):
 def packed(periods: Periods) -> Packed:
     """The table."""
     kinds, at, columns, lines, values = (
-        np.array(periods[name], np.int64) for name in ("kind", "at", "columns", "line", "value")
+        np.array(column, np.int64)
+        for column in (periods["kind"], periods["at"], periods["columns"], periods["line"], periods["value"])
     )
     keys, of = np.unique(columns << VALUE | values << KIND | kinds, return_inverse=True)
     unlike = np.column_stack([keys & (1 << KIND) - 1, keys >> VALUE, (keys & (1 << VALUE) - 1) >> KIND])
