@@ -8,8 +8,8 @@ PROGRAM is crates/hdmi_cli/out/hdmi_cli by default; ./vabgrot builds it. The par
     instructions  each command's instructions by valgrind's callgrind, a column: the difference of a large and a small input, so
                   that what the start takes is left out. Lines have 1,920 noisy pixels and 280 columns of control and no
                   island, captures begin with bit 0; frames are of code 16 (1,920 by 1,080). Then islands alone, what cannot be aligned, and
-                  control columns, through recover link, and lanes that slip every 130 bits through recover track. The same
-                  is told of `read biphase` a byte.
+                  control columns, through recover link and recover relock, and lanes that slip every 130 bits through
+                  recover track. The same is told of `read biphase` a byte.
     times         each command over LINES lines (4,000 if not given, at least 3) of 5,000 columns, 20,000,000 in all. Lines
                   have an island of one packet where the command reads islands; the readers are given the capture from bit
                   123,457 on with the skews 0, 70 and 35, so that no character begins where a byte does. Contents are eight
@@ -49,7 +49,14 @@ FRAME_COLUMNS = 2200 * 1125
 FRAMES = 8
 TAP = ["--offset", "123457", "--skew", "0,70,35"]
 DAMAGE = ["damage", "1:1000:2cc", "0:12345:133", "2:20007:001"]
-READERS = (["recover", "link"], ["check"], DAMAGE, ["slip", "1:1000:3"], ["recover", "track"], ["recover", "biphase", "0"], ["relay"])
+READERS = (
+    *(["recover", it] for it in ("link", "track", "relock")),
+    ["check"],
+    DAMAGE,
+    ["slip", "1:1000:3"],
+    ["recover", "biphase", "0"],
+    ["relay"],
+)
 ENDS = (0, 1)  # a fault may be told
 
 
@@ -174,6 +181,9 @@ class Bench:
             ("recover link: control columns", ["recover", "link"], inputs.clean_control, (100_000, 600_000)),
             ("recover link: damaged control columns", ["recover", "link"], inputs.damaged_control, (100_000, 600_000)),
             ("recover track: a slip every 130 bits", ["recover", "track"], inputs.slipping, (20_000, 60_000)),
+            ("recover relock: three lanes of noise", ["recover", "relock"], inputs.noisy, (100_000, 600_000)),
+            ("recover relock: control beside two of noise", ["recover", "relock"], inputs.one_lock, (100_000, 600_000)),
+            ("recover relock: control columns", ["recover", "relock"], inputs.clean_control, (100_000, 600_000)),
         ):
             paths = [self.path(f"{columns}.unaligned") for columns in sizes]
             for path, columns in zip(paths, sizes):

@@ -10,7 +10,7 @@ use Rattle.lane_align.proofs.Controls.{control_here}
 use Rattle.lane_align.proofs.Parts.{take_piece}
 use Rattle.lane_track.specs.Scouts.{HoldsBits}
 
-byte_here : (bytes : List ℕ) (j : ℕ) → AreBytes bytes → j < length bytes → get_or bytes j 0 ≡ (number (bytes_bits bytes) / 2 ^ (8 * j)) % 256
+pub byte_here : (bytes : List ℕ) (j : ℕ) → AreBytes bytes → j < length bytes → get_or bytes j 0 ≡ (number (bytes_bits bytes) / 2 ^ (8 * j)) % 256
 byte_here bytes j are lt =
     let n = number (bytes_bits (drop (suc j) bytes)) in
     let first : number (bytes_bits (drop j bytes)) ≡ get_or bytes j 0 + 256 * n =

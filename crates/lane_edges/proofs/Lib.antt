@@ -1,3 +1,5 @@
 mod Scanning
 mod Holding
+mod Passing
+mod Passed
 pub mod Growing

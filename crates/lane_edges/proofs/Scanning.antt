@@ -1,5 +1,5 @@
 -- What a finder knows after it looked at one more character.
-use Rattle.std.proofs.Common.{◌≡◌, ℕ, suc, zero, ◌+◌, ◌-◌, ◌*◌, ◌/◌, ◌%◌, ◌<◌, ◌≤◌, min, Bool, true, false, List, ◌++◌, length, length-append, take, drop, refl, ap, ◌∙◌, sym, subst, arith, inl, inr}
+use Rattle.std.proofs.Common.{◌≡◌, ℕ, suc, zero, ◌+◌, ◌-◌, ◌*◌, ◌%◌, ◌<◌, ◌≤◌, min, Bool, true, false, List, ◌++◌, length, length-append, take, drop, refl, ap, ◌∙◌, sym, subst, arith, inl, inr}
 use Rattle.std.proofs.lemmas.Bool.{cases_lt}
 use Rattle.tmds_word.specs.Bits.{number}
 use Rattle.lane_align.specs.Lanes.{HasControl, IsLock, IsEdge, IsNextEdge}
@@ -75,6 +75,10 @@ pub scanned_more : (xs : List Bool) (lock : ℕ) (before now : EdgeFinder) (cont
 scanned_more xs lock before now true was at many long is = scanned_control xs lock before now was at many long (is.0 refl)
 scanned_more xs lock before now false was at many long is = scanned_other xs lock before now was at many long (λ has. let e : false ≡ true = is.1 has in cc)
 
+-- no edge lies in no bits
+pub none_yet : (xs : List Bool) (from : ℕ) → HasNoEdge xs from from
+none_yet xs from e after before edge = omega arith
+
 -- an edge at or after the next character lies whole characters past it
 pub edge_apart : (xs : List Bool) (lock e : ℕ) (finder : EdgeFinder) → HasScanned xs lock finder → IsEdge xs e → e % 10 ≡ finder.next % 10
 edge_apart xs lock e finder was edge =
@@ -130,43 +134,6 @@ edge_here xs lock from finder was long many not after none =
       after = after;
       least = λ d from_d before edge. none d from_d before edge;
     }
-
--- twelve control words and one more are twelve
-pub full_after : (run : ℕ) (control : Bool) → run ≡ 12 → control ≡ true → run ≡ run_after run control
-full_after run true full is = omega arith
-full_after run false full is = cc
-
--- no edge lies among twelve characters before which none is a control word
-none_passed : (xs : List Bool) (lock from : ℕ) (finder : EdgeFinder) → HasScanned xs lock finder → finder.run ≡ 0 → HasNoEdge xs from finder.next → HasNoEdge xs from (finder.next + 120)
-none_passed xs lock from finder was empty none e after before edge = elim (cases_lt e finder.next) [
-  | inl less ↦ none e after less edge
-  | inr here ↦
-      let past = was.past in
-      let apart = edge_apart xs lock e finder was edge in
-      let k = 11 - (e - finder.next) / 10 in
-      let at : e - 120 + 10 * k ≡ finder.next - 10 - 10 * finder.run = omega arith in
-      was.other (omega arith) (subst (HasControl xs) at (edge.run k (omega arith)))
-]
-
--- twelve characters, of which the last is none
-pub scanned_passed : (xs : List Bool) (lock from : ℕ) (before now : EdgeFinder) → HasScanned xs lock before → before.run ≡ 0 → now.next ≡ before.next + 120 → now.run ≡ 0
-    → before.next + 120 ≤ length xs → (HasControl xs (before.next + 110) → ⊥) → HasNoEdge xs from before.next → HasScanned xs lock now × HasNoEdge xs from now.next
-scanned_passed xs lock from before now was empty at none long not no_edge =
-    let past = was.past in
-    let aligned = was.aligned in (
-      record {
-        is_lock = was.is_lock;
-        past = omega arith;
-        aligned = omega arith;
-        within = omega arith;
-        few = omega arith;
-        control = λ k lt. absurd (omega arith);
-        other = λ lt has.
-            let e : now.next - 10 - 10 * now.run ≡ before.next + 110 = omega arith in
-            not (subst (HasControl xs) e has);
-      },
-      subst (HasNoEdge xs from) (sym at) (none_passed xs lock from before was empty no_edge),
-    )
 
 pub length_grown : (xs us more : List Bool) → us ≡ xs ++ more → length xs ≤ length us
 length_grown xs us more grown = let e : length us ≡ length xs + length more = ap length grown ∙ length-append xs more in omega arith

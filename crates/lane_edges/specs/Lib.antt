@@ -1,1 +1,2 @@
 pub mod Finders
+pub mod Passing

@@ -1,10 +1,11 @@
 //! Looks through the characters of a lane, part after part of its bits, for its edges.
-ghost use Rattle.std.specs.Prelude.{◌≡◌, ◌<◌, ◌≤◌, ◌+◌, ◌*◌, ◌^◌, max, ℕ, Bool, List, length, drop, IfSome};
+ghost use Rattle.std.specs.Prelude.{◌≡◌, ◌<◌, ◌≤◌, ◌+◌, ◌*◌, ◌^◌, ◌/◌, max, min, ℕ, Bool, List, length, drop, IfSome};
 ghost use Rattle.tmds_word.specs.Bits.{bytes_bits};
 ghost use Rattle.lane_align.specs.Lanes.{IsLock};
 ghost use Rattle.lane_track.specs.Scouts.{HoldsBits};
 ghost use Rattle.lane_edges.specs.Finders.{HasScanned, HasNoEdge, IsFound, run_after};
 
+use crate::stretches::{passed_controls, passed_others};
 use crate::word_at;
 use lane_align::RUN_BITS;
 use terc4::{RUN, is_control_word};
@@ -15,8 +16,11 @@ const ENOUGH: u8 = RUN as u8;
 /// How many bits a character has.
 const WORD_BITS: u64 = 10;
 
-/// From the first of so many characters to the last.
-const SPAN: u64 = RUN_BITS as u64 - WORD_BITS;
+/// So many words of a run show that the next are control words too, where each is the one as many before it.
+const REPEATED: u8 = 4;
+
+/// How many bits these have.
+const REPEATED_BITS: u64 = REPEATED as u64 * WORD_BITS;
 
 /// How far the characters of a lane were looked through for its edges.
 #[derive(Clone, Copy, Debug)]
@@ -60,6 +64,7 @@ impl EdgeFinder {
         ensures found { (xs : List Bool) (lock count : ℕ) → HoldsBits (drop skip (bytes_bits bytes.now)) xs base count → until + 9 ≤ base + count
             → HasScanned xs lock self.old → HasScanned xs lock self.new × IsFound xs self.old.next self.new.next until result }
     {
+        self.pass(bytes, skip, base, until);
         'characters: while self.next < until {
             let place = self.next;
             let run = self.run;
@@ -74,9 +79,9 @@ impl EdgeFinder {
         None
     }
 
-    /// Passes characters that are no edges, where none or twelve control words run up to the next one.
+    /// Passes characters that are no edges, many at a time.
     fn pass(&mut self, bytes: &[u8], skip: u32, base: u64, until: u64)
-        requires after { base ≤ self.old.next }
+        requires after { self.old.next < until → base ≤ self.old.next }
         requires room { self.old.next < until → skip + until + 23 ≤ base + 8 * length bytes.now }
         requires small { skip + until < base + 2 ^ 31 }
         requires total { until + 10 < 2 ^ 64 }
@@ -85,54 +90,17 @@ impl EdgeFinder {
         ensures passed { (xs : List Bool) (lock count from : ℕ) → HoldsBits (drop skip (bytes_bits bytes.now)) xs base count → until + 9 ≤ base + count
             → HasScanned xs lock self.old → HasNoEdge xs from self.old.next → HasScanned xs lock self.new × HasNoEdge xs from self.new.next }
     {
+        if self.next >= until {
+            return;
+        }
+        let place = skip + (self.next - base) as u32;
+        let bits = (until - self.next) as u32;
         if self.run == 0 {
-            self.pass_others(bytes, skip, base, until);
-        } else if self.run == ENOUGH {
-            self.pass_controls(bytes, skip, base, until);
-        }
-    }
-
-    /// The same where none run up to it: twelve characters at a time, of which the last is no control word. No edge is among them,
-    /// since the one before them is none either.
-    fn pass_others(&mut self, bytes: &[u8], skip: u32, base: u64, until: u64)
-        requires none { self.old.run ≡ 0 }
-        requires after { base ≤ self.old.next }
-        requires room { self.old.next < until → skip + until + 23 ≤ base + 8 * length bytes.now }
-        requires small { skip + until < base + 2 ^ 31 }
-        requires total { until + 10 < 2 ^ 64 }
-        ensures rises { self.old.next ≤ self.new.next }
-        ensures near { self.new.next ≤ max self.old.next (until + 9) }
-        ensures passed { (xs : List Bool) (lock count from : ℕ) → HoldsBits (drop skip (bytes_bits bytes.now)) xs base count → until + 9 ≤ base + count
-            → HasScanned xs lock self.old → HasNoEdge xs from self.old.next → HasScanned xs lock self.new × HasNoEdge xs from self.new.next }
-    {
-        let end = until.saturating_sub(SPAN);
-        'stretches: while self.next < end {
-            let last = self.next + SPAN;
-            if is_control_word(word_at(bytes, skip + (last - base) as u32)) {
-                return;
-            }
-            self.next = last + WORD_BITS;
-        }
-    }
-
-    /// The same where twelve do: control words.
-    fn pass_controls(&mut self, bytes: &[u8], skip: u32, base: u64, until: u64)
-        requires full { self.old.run ≡ 12 }
-        requires after { base ≤ self.old.next }
-        requires room { self.old.next < until → skip + until + 23 ≤ base + 8 * length bytes.now }
-        requires small { skip + until < base + 2 ^ 31 }
-        requires total { until + 10 < 2 ^ 64 }
-        ensures rises { self.old.next ≤ self.new.next }
-        ensures near { self.new.next ≤ max self.old.next (until + 9) }
-        ensures passed { (xs : List Bool) (lock count from : ℕ) → HoldsBits (drop skip (bytes_bits bytes.now)) xs base count → until + 9 ≤ base + count
-            → HasScanned xs lock self.old → HasNoEdge xs from self.old.next → HasScanned xs lock self.new × HasNoEdge xs from self.new.next }
-    {
-        'controls: while self.next < until {
-            let next = self.next;
-            if !is_control_word(word_at(bytes, skip + (next - base) as u32)) {
-                return;
-            }
-            self.next = next + WORD_BITS;
+            self.next += u64::from(passed_others(bytes, place, bits));
+        } else if self.run >= REPEATED && self.next - base >= REPEATED_BITS {
+            let passed = passed_controls(bytes, place, bits);
+            self.next += u64::from(passed);
+            self.run = grown(self.run, passed);
         }
     }
 }
@@ -148,4 +116,11 @@ fn counted(run: u8, control: bool) -> u8
     } else {
         ENOUGH
     }
+}
+
+/// How many control words run up to the character after so many bits of more.
+fn grown(run: u8, bits: u32) -> u8
+    ensures { result ≡ min (run + bits / 10) 12 }
+{
+    (u32::from(run) + bits / WORD_BITS as u32).min(RUN) as u8
 }

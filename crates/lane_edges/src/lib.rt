@@ -2,6 +2,7 @@
 #![tactic(auto)]
 
 mod finder;
+mod stretches;
 mod window;
 
 pub use finder::EdgeFinder;

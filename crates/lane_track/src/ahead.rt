@@ -49,7 +49,7 @@ fn phase_past(phase: u32, skip: u32) -> u32
 }
 
 /// Answers as `first_run` does, and sooner where no seven transitions in a row lie beside the phase.
-fn next_run(bytes: &[u8], from: u32, until: u32, phase: u32) -> Option<u32>
+pub fn next_run(bytes: &[u8], from: u32, until: u32, phase: u32) -> Option<u32>
     requires phase { phase ≤ 10 }
     requires room { from < until → until + 119 ≤ 8 * length bytes.now }
     requires small { until < 2 ^ 31 }

@@ -5,7 +5,7 @@ mod ahead;
 pub mod laws;
 mod scout;
 
-pub use ahead::eight_bytes;
+pub use ahead::{eight_bytes, next_run};
 pub use scout::Scout;
 
 #[cfg(test)]

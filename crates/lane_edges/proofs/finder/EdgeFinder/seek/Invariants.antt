@@ -9,8 +9,8 @@ invariant-characters l = record {
   rises : l.initial.self.next ≤ l.self.next;
   near : l.self.next ≤ max l.initial.self.next (l.until + 9);
   none :
-      (xs : List Bool) (lock count : ℕ) → HoldsBits (drop l.skip (bytes_bits l.bytes)) xs l.base count → l.until + 9 ≤ l.base + count
-      → HasScanned xs lock l.initial.self → HasScanned xs lock l.self × HasNoEdge xs l.initial.self.next l.self.next;
+      (xs : List Bool) (lock count from : ℕ) → HoldsBits (drop l.skip (bytes_bits l.bytes)) xs l.base count → l.until + 9 ≤ l.base + count
+      → HasScanned xs lock l.initial.self → HasNoEdge xs from l.initial.self.next → HasScanned xs lock l.self × HasNoEdge xs from l.self.next;
 }
 
 abbrev pub decreases-characters : goal.decreases-characters
