@@ -16,3 +16,4 @@ pub mod Repaired
 pub mod RepairedBlocks
 pub mod Apart
 pub mod Losses
+mod KeptColumns

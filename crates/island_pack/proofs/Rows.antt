@@ -12,7 +12,7 @@ use Rattle.tmds_word.proofs.Below.{passes_below, passes_at}
 use Rattle.terc4.specs.Tables.{is_terc}
 use Rattle.bch_block.specs.Bits.{bit, byte_bits, bits_of_bytes}
 use Rattle.island_pack.specs.Nibbles.{nibble_of, nibbles_of, by_turns, is_foreign, foreign_on, foreign_words}
-use Rattle.island_pack.specs.Registers.{code_of, spread_of, HasCodes, blue_code, other_code, AreBlueRows, AreOtherRows, bits_set, foreign_of, sync_in}
+use Rattle.island_pack.specs.Registers.{code_of, spread_of, HasCodes, blue_code, other_code, AreBlueRows, AreOtherRows, bits_set, foreign_of, mark_of, sync_in}
 use Rattle.island_pack.proofs.Columns.{nibble_of_code, strange_of_code, code_below, length-nibbles_of}
 use Rattle.island_pack.proofs.Parts.{four_from, eight_from, four_lists, eight_lists, turns_part, map_part}
 
@@ -267,6 +267,33 @@ foreign_of_rows columns blue others long four eight are others_are =
       other_count columns (get_or others 5 []) 20 long (omega arith) (others_are 5 (omega arith)),
       other_count columns (get_or others 6 []) 24 long (omega arith) (others_are 6 (omega arith)),
       other_count columns (get_or others 7 []) 28 long (omega arith) (others_are 7 (omega arith)),
+    )
+
+-- where no byte of bits 4 has one, none stands there
+bits_of_none : (n : ℕ) → n ≡ 0 → bits_set n ≡ 0
+unfolding bits_set
+bits_of_none n e = omega (arith, e)
+
+pub none_marked : (blue others : List (List ℕ)) → length blue ≡ 4 → length others ≡ 8 → sum_by mark_of blue + sum_by mark_of others ≡ 0
+    → sum_by foreign_of blue + sum_by foreign_of others ≡ 0
+none_marked blue others four eight e =
+    let all = ap₂ (λ (xs ys : List (List ℕ)). sum_by mark_of xs + sum_by mark_of ys) (sym (four_lists blue four)) (sym (eight_lists others eight)) ∙ e in
+    let none : (row : List ℕ) → slice_index row 4 ≡ 0 → bits_set (slice_index row 4) ≡ 0 = λ row z. bits_of_none (slice_index row 4) z in
+    ap₂ (λ (xs ys : List (List ℕ)). sum_by foreign_of xs + sum_by foreign_of ys) (four_lists blue four) (eight_lists others eight)
+    ∙ omega (
+      arith,
+      none (get_or blue 0 []) (omega (arith, all)),
+      none (get_or blue 1 []) (omega (arith, all)),
+      none (get_or blue 2 []) (omega (arith, all)),
+      none (get_or blue 3 []) (omega (arith, all)),
+      none (get_or others 0 []) (omega (arith, all)),
+      none (get_or others 1 []) (omega (arith, all)),
+      none (get_or others 2 []) (omega (arith, all)),
+      none (get_or others 3 []) (omega (arith, all)),
+      none (get_or others 4 []) (omega (arith, all)),
+      none (get_or others 5 []) (omega (arith, all)),
+      none (get_or others 6 []) (omega (arith, all)),
+      none (get_or others 7 []) (omega (arith, all)),
     )
 
 -- The sum of eight spread codes.

@@ -38,6 +38,10 @@ AreOtherRows columns rows = (r : ℕ) → r < 8 → HasCodes (slice_index_or row
 unfoldable pub bits_set : ℕ → ℕ
 bits_set n = bit_at n 0 + bit_at n 1 + bit_at n 2 + bit_at n 3 + bit_at n 4 + bit_at n 5 + bit_at n 6 + bit_at n 7
 
+-- the byte of a row that says which of its words are no TERC4 words
+abbrev pub mark_of : List ℕ → ℕ
+mark_of row = slice_index row 4
+
 -- how many words of a row are no TERC4 words
 abbrev pub foreign_of : List ℕ → ℕ
 foreign_of row = bits_set (slice_index row 4)

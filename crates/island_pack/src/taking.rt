@@ -2,12 +2,13 @@
 ghost use Rattle.std.specs.Prelude.{◌≡◌, ◌<◌, ◌≤◌, ◌+◌, ◌*◌, ◌++◌, [], ℕ, All, length, map, take, slice_index, slice_index_or};
 ghost use Rattle.std.specs.List.{sum_by};
 ghost use Rattle.bch_block.specs.Bits.{bits_of_bytes};
-ghost use Rattle.island_pack.specs.Registers.{code_of, HasCodes, blue_code, other_code, AreBlueRows, AreOtherRows, foreign_of, sync_in};
+ghost use Rattle.island_pack.specs.Registers.{code_of, HasCodes, blue_code, other_code, AreBlueRows, AreOtherRows, foreign_of, mark_of, sync_in};
 ghost use Rattle.island_pack.specs.Taken.{IsTaken, Taken};
 ghost use Rattle.island_pack.specs.Repaired.{packet_in, verdicts_in};
 
 use crate::laying::apart;
 use crate::packet::{Packet, PacketVerdicts};
+use crate::packet_columns::PacketColumns;
 use crate::spread::spread;
 use bch_block::{Verdict, repair32, repair64};
 use tmds_word::Word;
@@ -18,12 +19,21 @@ pub fn take(columns: &[[Word; 3]; 32]) -> (Packet, PacketVerdicts)
     ensures packet { result.0 ≡ packet_in columns.now }
     ensures verdicts { result.1 ≡ verdicts_in columns.now }
 {
+    take_kept(&PacketColumns::of(columns))
+}
+
+/// Takes a packet from 32 columns that are kept lane by lane, as `take` does.
+pub fn take_kept(columns: &PacketColumns) -> (Packet, PacketVerdicts)
+    ensures packet { result.0 ≡ packet_in columns.now }
+    ensures verdicts { result.1 ≡ verdicts_in columns.now }
+{
     taken(columns)
 }
 
 /// The packet, from the bits of its words' codes.
-fn taken(columns: &[[Word; 3]; 32]) -> (Packet, PacketVerdicts)
-    ensures { Taken columns.now result.0 result.1 }
+fn taken(columns: &PacketColumns) -> (Packet, PacketVerdicts)
+    ensures taken { Taken columns.now result.0 result.1 }
+    ensures columns { length columns.now ≡ 32 }
 {
     let blue = blue_rows(columns);
     let others = other_rows(columns);
@@ -45,8 +55,9 @@ fn taken(columns: &[[Word; 3]; 32]) -> (Packet, PacketVerdicts)
 }
 
 /// For each eight columns, the bits of the codes of lane 0.
-fn blue_rows(columns: &[[Word; 3]; 32]) -> [[u8; 8]; 4]
-    ensures { AreBlueRows columns.now result }
+fn blue_rows(columns: &PacketColumns) -> [[u8; 8]; 4]
+    ensures rows { AreBlueRows columns.now result }
+    ensures columns { length columns.now ≡ 32 }
 {
     [
         blue_row(columns, 0),
@@ -57,24 +68,25 @@ fn blue_rows(columns: &[[Word; 3]; 32]) -> [[u8; 8]; 4]
 }
 
 /// The bits of the codes of lane 0 in eight columns.
-fn blue_row(columns: &[[Word; 3]; 32], at: usize) -> [u8; 8]
+fn blue_row(columns: &PacketColumns, at: usize) -> [u8; 8]
     requires { at + 8 ≤ 32 }
-    ensures { HasCodes result (λ k. blue_code columns.now (at + k)) }
+    ensures codes { HasCodes result (λ k. blue_code columns.now (at + k)) }
+    ensures columns { length columns.now ≡ 32 }
 {
     gathered(&[
-        blue(&columns[at]),
-        blue(&columns[at + 1]),
-        blue(&columns[at + 2]),
-        blue(&columns[at + 3]),
-        blue(&columns[at + 4]),
-        blue(&columns[at + 5]),
-        blue(&columns[at + 6]),
-        blue(&columns[at + 7]),
+        columns.blue(at),
+        columns.blue(at + 1),
+        columns.blue(at + 2),
+        columns.blue(at + 3),
+        columns.blue(at + 4),
+        columns.blue(at + 5),
+        columns.blue(at + 6),
+        columns.blue(at + 7),
     ])
 }
 
 /// For each four columns, the bits of the codes of lanes 1 and 2 by turns.
-fn other_rows(columns: &[[Word; 3]; 32]) -> [[u8; 8]; 8]
+fn other_rows(columns: &PacketColumns) -> [[u8; 8]; 8]
     ensures { AreOtherRows columns.now result }
 {
     [
@@ -90,57 +102,70 @@ fn other_rows(columns: &[[Word; 3]; 32]) -> [[u8; 8]; 8]
 }
 
 /// The bits of the codes of lanes 1 and 2 by turns in four columns.
-fn other_row(columns: &[[Word; 3]; 32], at: usize) -> [u8; 8]
+fn other_row(columns: &PacketColumns, at: usize) -> [u8; 8]
     requires { at + 4 ≤ 32 }
     ensures { HasCodes result (other_code columns.now at) }
 {
     gathered(&[
-        green(&columns[at]),
-        red(&columns[at]),
-        green(&columns[at + 1]),
-        red(&columns[at + 1]),
-        green(&columns[at + 2]),
-        red(&columns[at + 2]),
-        green(&columns[at + 3]),
-        red(&columns[at + 3]),
+        columns.green(at),
+        columns.red(at),
+        columns.green(at + 1),
+        columns.red(at + 1),
+        columns.green(at + 2),
+        columns.red(at + 2),
+        columns.green(at + 3),
+        columns.red(at + 3),
     ])
-}
-
-/// The word of lane 0.
-fn blue(column: &[Word; 3]) -> Word
-    ensures { result ≡ slice_index column.now 0 }
-{
-    column[0]
-}
-
-/// The word of lane 1.
-fn green(column: &[Word; 3]) -> Word
-    ensures { result ≡ slice_index column.now 1 }
-{
-    column[1]
-}
-
-/// The word of lane 2.
-fn red(column: &[Word; 3]) -> Word
-    ensures { result ≡ slice_index column.now 2 }
-{
-    column[2]
 }
 
 /// The bits of the codes of eight words: byte b has bit b of each.
 fn gathered(words: &[Word; 8]) -> [u8; 8]
     ensures { HasCodes result (λ k. code_of (slice_index words.now k)) }
 {
-    let low = spread(words[0]) + 2 * spread(words[1]) + 4 * spread(words[2]) + 8 * spread(words[3]);
-    let high = spread(words[4])
-        + 2 * spread(words[5])
-        + 4 * spread(words[6])
-        + 8 * spread(words[7]);
-    (low + 16 * high).to_le_bytes()
+    let codes = spread(words[6]) + 2 * spread(words[7]);
+    let codes = spread(words[5]) + 2 * codes;
+    let codes = spread(words[4]) + 2 * codes;
+    let codes = spread(words[3]) + 2 * codes;
+    let codes = spread(words[2]) + 2 * codes;
+    let codes = spread(words[1]) + 2 * codes;
+    (spread(words[0]) + 2 * codes).to_le_bytes()
 }
 
 /// How many words' codes have bit 4: those that are no TERC4 words.
 fn foreign_in(blue: &[[u8; 8]; 4], others: &[[u8; 8]; 8]) -> u8
+    ensures { result ≡ sum_by foreign_of blue.now + sum_by foreign_of others.now }
+{
+    // Nearly every packet has none.
+    if marks(blue, others) == 0 {
+        0
+    } else {
+        counted(blue, others)
+    }
+}
+
+/// The sum of the bytes of bits 4.
+fn marks(blue: &[[u8; 8]; 4], others: &[[u8; 8]; 8]) -> u16
+    ensures { result ≡ sum_by mark_of blue.now + sum_by mark_of others.now }
+{
+    let [a, b, c, d] = *blue;
+    let [e, f, g, h, i, j, k, l] = *others;
+    let of_blue = mark(&a) + mark(&b) + mark(&c) + mark(&d);
+    let first = mark(&e) + mark(&f) + mark(&g) + mark(&h);
+    let last = mark(&i) + mark(&j) + mark(&k) + mark(&l);
+    of_blue + first + last
+}
+
+/// The byte of bits 4 of a row.
+fn mark(row: &[u8; 8]) -> u16
+    ensures value { result ≡ mark_of row.now }
+    ensures below { result < 256 }
+{
+    u16::from(row[4])
+}
+
+/// How many bits of these bytes are 1. It stands apart, so that what nearly every packet takes is short.
+#[inline(never)]
+fn counted(blue: &[[u8; 8]; 4], others: &[[u8; 8]; 8]) -> u8
     ensures { result ≡ sum_by foreign_of blue.now + sum_by foreign_of others.now }
 {
     let [a, b, c, d] = *blue;

@@ -1,5 +1,5 @@
 -- The bytes of hexadecimal digits, from the digits' values.
-use Rattle.std.proofs.Common.{◌≡◌, ℕ, suc, zero, ◌+◌, ◌-◌, ◌*◌, ◌/◌, ◌%◌, ◌<◌, ◌≤◌, Bool, true, false, List, [], ◌∷◌, ◌++◌, ◌&&◌, ◌==◌, length, take, drop, get_or, set, refl, ap, ap₂, ◌∙◌, sym, subst, arith, eqb-true, bit_and, length-append, length-take-le, length-drop}
+use Rattle.std.proofs.Common.{◌≡◌, ℕ, suc, zero, ◌+◌, ◌-◌, ◌*◌, ◌/◌, ◌%◌, ◌<◌, ◌≤◌, Bool, true, false, List, [], ◌∷◌, ◌++◌, ◌&&◌, ◌==◌, length, take, drop, get_or, set, refl, ap, ap₂, ◌∙◌, sym, subst, arith, eqb-true, bit_and, min, not, nat_lt, length-append, length-take-le, length-drop}
 use Rattle.std.specs.Prelude.{Option, Some, None, Result, Ok, Err, IsErr, if◌then◌else◌}
 use Rattle.std.specs.List.{list_all}
 use Rattle.tmds_word.proofs.Below.{and-left, and-right, passes_below, passes_at}
@@ -58,6 +58,29 @@ not_read s h = by_cases s h (decode_of s) refl
     by_cases : (t : List ℕ) → list_all is_hex_digit t ≡ false → (r : Result (List ℕ) FromHexError) → decode_of t ≡ r → IsErr r
     by_cases t bad (Ok bytes) e = cc (sym bad ∙ list_all-from_AllPass is_hex_digit t (decode_of-ok t bytes e).1)
     by_cases t bad (Err x) e = refl
+
+-- Digits apart from other bytes, without a branch.
+
+-- how far a byte is from the digits, or, if that is less, from the letters, four further
+distance : ℕ → ℕ
+distance byte = min ((byte + 208) % 256) (min ((bit_and byte 223 + 191) % 256 + 4) 255)
+
+is_near : ℕ → Bool
+is_near byte = if is_hex_digit byte then nat_lt (distance byte) 10 else not (nat_lt (distance byte) 10)
+
+all_near : passes_below 256 is_near ≡ true
+unfolding passes_below is_near distance
+all_near = refl
+
+same_answer : (a b : Bool) → (if b then a else not a) ≡ true → a ≡ b
+same_answer a b h = grind arith
+
+pub near_digits : (byte letter result : ℕ) → byte < 256 → letter ≡ min ((bit_and byte 223 + 191) % 256 + 4) 255 → result ≡ min ((byte + 208) % 256) letter
+    → nat_lt result 10 ≡ is_hex_digit byte
+unfolding is_near distance
+near_digits byte letter result lt l r =
+    ap (λ n. nat_lt n 10) (r ∙ ap (min ((byte + 208) % 256)) l)
+    ∙ same_answer (nat_lt (distance byte) 10) (is_hex_digit byte) (passes_at 256 is_near byte all_near lt)
 
 -- Two digits at once.
 

@@ -1,5 +1,5 @@
 //! The bytes that hexadecimal digits are, without a branch at each digit.
-ghost use Rattle.std.specs.Prelude.{◌≡◌, ◌+◌, ◌*◌, ◌/◌, ◌%◌, ◌≤◌, length, slice_index, true};
+ghost use Rattle.std.specs.Prelude.{◌≡◌, ◌+◌, ◌*◌, ◌/◌, ◌%◌, ◌≤◌, length, nat_lt, slice_index, true};
 ghost use Rattle.std.specs.List.{list_all};
 ghost use Rattle.hex.specs.Hex.{decode_of, is_hex_digit};
 ghost use Rattle.listing_reader.specs.HexValues.{value_of, AreBytesOf};
@@ -8,11 +8,11 @@ ghost use Rattle.listing_reader.specs.HexValues.{value_of, AreBytesOf};
 pub(crate) fn are_digits(text: &[u8]) -> bool
     ensures { result ≡ list_all is_hex_digit text.now }
 {
-    let mut all = true;
+    let mut worst = 0;
     for byte in text {
-        all = all & is_digit(*byte);
+        worst = worst.max(distance(*byte));
     }
-    all
+    worst < 10
 }
 
 /// Writes the bytes of hexadecimal digits, two a byte.
@@ -47,11 +47,12 @@ fn byte_of(digits: u16) -> u8
     (values % 16 * 16 + values / 256 % 16) as u8
 }
 
-/// Whether a byte is a hexadecimal digit, in either case.
-fn is_digit(byte: u8) -> bool
-    ensures { result ≡ is_hex_digit byte }
+/// How far a byte is from `0`, or, if that is less, four more than how far it is from the letter A, in either case: below 10 exactly
+/// where the byte is a hexadecimal digit.
+fn distance(byte: u8) -> u8
+    ensures { nat_lt result 10 ≡ is_hex_digit byte }
 {
-    (byte >= b'0' && byte <= b'9')
-        || (byte >= b'A' && byte <= b'F')
-        || (byte >= b'a' && byte <= b'f')
+    let digit = byte.wrapping_sub(b'0');
+    let letter = (byte & 0xdf).wrapping_sub(b'A').saturating_add(4);
+    digit.min(letter)
 }

@@ -3,11 +3,11 @@ ghost use Rattle.std.specs.Prelude.{◌≡◌, ◌≤◌, ◌++◌, ◌∷◌, [
 ghost use Rattle.infoframe.specs.Frames.{kind_of};
 ghost use Rattle.listing_writer.specs.ContentText.{avi_words, audio_words, spd_words, raw_words, info_words};
 
-use crate::line::{Line, fields_line, put, put_hex};
+use crate::line::{TextLine, fields_line, put, put_hex};
 use infoframe::{AudioInfo, Avi, InfoRef, Spd};
 
 /// The line of an InfoFrame with this type code.
-pub(crate) fn info_line(type_code: u8, info: &InfoRef<'_>) -> Line
+pub(crate) fn info_line(type_code: u8, info: &InfoRef<'_>) -> TextLine
     requires { type_code ≡ info.now.type_code }
     ensures { result.items ≡ info_words (kind_of info.now.type_code info.now.version) info.now ++ codes "\n" }
 {
@@ -24,7 +24,7 @@ pub(crate) fn info_line(type_code: u8, info: &InfoRef<'_>) -> Line
 }
 
 #[tactic(auto, unfolding(crate::specs::ContentText::avi_words))]
-fn avi_line(avi: &Avi) -> Line
+fn avi_line(avi: &Avi) -> TextLine
     ensures { result.items ≡ avi_words avi.now ++ codes "\n" }
 {
     let numbers = [
@@ -50,7 +50,7 @@ fn avi_line(avi: &Avi) -> Line
 }
 
 #[tactic(auto, unfolding(crate::specs::ContentText::audio_words))]
-fn audio_line(audio: &AudioInfo) -> Line
+fn audio_line(audio: &AudioInfo) -> TextLine
     ensures { result.items ≡ audio_words audio.now ++ codes "\n" }
 {
     let numbers = [
@@ -66,10 +66,10 @@ fn audio_line(audio: &AudioInfo) -> Line
 }
 
 #[tactic(auto, unfolding(crate::specs::ContentText::spd_words))]
-fn spd_line(spd: &Spd) -> Line
+fn spd_line(spd: &Spd) -> TextLine
     ensures { result.items ≡ spd_words spd.now ++ codes "\n" }
 {
-    let mut line = Line::new();
+    let mut line = TextLine::new();
     put(&mut line, b"spd ");
     put_hex(&mut line, &spd.vendor);
     put(&mut line, b" ");
@@ -81,11 +81,11 @@ fn spd_line(spd: &Spd) -> Line
 }
 
 #[tactic(auto, unfolding(crate::specs::ContentText::raw_words))]
-fn raw_line(type_code: u8, version: u8, payload: &[u8]) -> Line
+fn raw_line(type_code: u8, version: u8, payload: &[u8]) -> TextLine
     requires { length payload.now ≤ 27 }
     ensures { result.items ≡ raw_words type_code version payload.now ++ codes "\n" }
 {
-    let mut line = Line::new();
+    let mut line = TextLine::new();
     put(&mut line, b"info ");
     put_hex(&mut line, &[type_code]);
     put(&mut line, b" ");

@@ -7,7 +7,7 @@ ghost use Rattle.listing_writer.specs.Texts.{counted};
 ghost use Rattle.listing_writer.specs.ContentAdded.{Adds};
 
 use crate::digit_pairs::DigitPairs;
-use crate::line::{Line, fields_line};
+use crate::line::{TextLine, fields_line};
 use crate::lister::encode_pixels;
 use frame_build::{FrameNote, LineNote};
 use source_end::Mode;
@@ -74,7 +74,7 @@ impl Lines {
     }
 
     /// Adds a line.
-    pub(crate) fn add(&mut self, line: Line)
+    pub(crate) fn add(&mut self, line: TextLine)
         requires { length self.old.text + 192 ≤ 24773 }
         ensures size { length self.new.text ≤ length self.old.text + 192 }
         ensures added { (words : List ℕ) → line.items ≡ words ++ codes "\n" → is_fault_line words ≡ false → Adds self.old self.new (words ∷ []) }
@@ -83,7 +83,7 @@ impl Lines {
     }
 
     /// Adds a fault line.
-    pub(crate) fn add_fault(&mut self, line: Line)
+    pub(crate) fn add_fault(&mut self, line: TextLine)
         requires { length self.old.text + 192 ≤ 24773 }
         ensures size { length self.new.text ≤ length self.old.text + 192 }
         ensures added { (words : List ℕ) → line.items ≡ words ++ codes "\n" → is_fault_line words ≡ true → Adds self.old self.new (words ∷ []) }

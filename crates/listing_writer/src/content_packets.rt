@@ -11,7 +11,7 @@ ghost use Rattle.listing_writer.specs.ContentAdded.{Adds};
 use crate::content_info::info_line;
 use crate::content_lines::Lines;
 use crate::line::{
-    Line, fields_line, long_line, put, put_bytes, put_field, put_hex, put_long_field,
+    TextLine, fields_line, long_line, put, put_bytes, put_field, put_hex, put_long_field,
 };
 use audio_packets::{AudioFault, Sample, SampleNote, read_acr, samples};
 use infoframe::{Avi, InfoFault, InfoRef};
@@ -158,11 +158,11 @@ fn is_usual(depth: u64) -> bool
 
 /// The line of a sample.
 #[tactic(auto, unfolding(crate::specs::ContentText::sample_words))]
-fn sample_line(sample: &Sample) -> Line
+fn sample_line(sample: &Sample) -> TextLine
     ensures items { result.items ≡ sample_words sample.now ++ codes "\n" }
     ensures few { array_vec_len result ≤ 60 }
 {
-    let mut line = Line::new();
+    let mut line = TextLine::new();
     put(&mut line, b"s ");
     put_value(&mut line, sample.left);
     put(&mut line, b" ");
@@ -177,7 +177,7 @@ fn sample_line(sample: &Sample) -> Line
 
 /// Puts the six digits of a value of 24 bits.
 #[tactic(auto, unfolding(crate::specs::ContentText::value_digits))]
-fn put_value(line: &mut Line, value: u32)
+fn put_value(line: &mut TextLine, value: u32)
     requires { length line.old.items + 6 ≤ 192 }
     ensures items { line.new.items ≡ line.old.items ++ value_digits value }
     ensures len { length line.new.items ≡ length line.old.items + 6 }
@@ -188,11 +188,11 @@ fn put_value(line: &mut Line, value: u32)
 
 /// The line of a side that is not even.
 #[tactic(auto, unfolding(crate::specs::ContentText::parity_words))]
-fn parity_line(column: u64, place: u8, side: &[u8]) -> Line
+fn parity_line(column: u64, place: u8, side: &[u8]) -> TextLine
     requires { length side.now ≤ 1 }
     ensures { result.items ≡ parity_words column place side.now ++ codes "\n" }
 {
-    let mut line = Line::new();
+    let mut line = TextLine::new();
     put(&mut line, b"! parity");
     put_long_field(&mut line, column);
     put_field(&mut line, u32::from(place));
@@ -204,7 +204,7 @@ fn parity_line(column: u64, place: u8, side: &[u8]) -> Line
 
 /// The line of general control.
 #[tactic(auto, unfolding(crate::specs::ContentText::control_words))]
-fn control_line(bodies: &[u8; 28]) -> Line
+fn control_line(bodies: &[u8; 28]) -> TextLine
     ensures { result.items ≡ control_words bodies.now ++ codes "\n" }
 {
     let numbers = [
@@ -217,10 +217,10 @@ fn control_line(bodies: &[u8; 28]) -> Line
 
 /// The line of an InfoFrame whose bytes have this sum.
 #[tactic(auto, unfolding(crate::specs::ContentText::checksum_words))]
-fn checksum_line(column: u64, sum: u8) -> Line
+fn checksum_line(column: u64, sum: u8) -> TextLine
     ensures { result.items ≡ checksum_words column sum ++ codes "\n" }
 {
-    let mut line = Line::new();
+    let mut line = TextLine::new();
     put(&mut line, b"! checksum");
     put_long_field(&mut line, column);
     put(&mut line, b" ");
@@ -231,10 +231,10 @@ fn checksum_line(column: u64, sum: u8) -> Line
 
 /// The line of a packet of a type that has no line of its own.
 #[tactic(auto, unfolding(crate::specs::ContentText::other_words))]
-fn other_line(packet: PacketRef<'_>) -> Line
+fn other_line(packet: PacketRef<'_>) -> TextLine
     ensures { result.items ≡ other_words packet.entry.packet.now ++ codes "\n" }
 {
-    let mut line = Line::new();
+    let mut line = TextLine::new();
     put(&mut line, b"packet ");
     put_bytes(&mut line, packet.header());
     put_bytes(&mut line, packet.body(0));

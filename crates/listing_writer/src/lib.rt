@@ -10,8 +10,9 @@ mod content_state;
 mod digit_pairs;
 mod line;
 mod lister;
+mod packet_line;
 
 pub use checker::CheckLister;
 pub use content_lister::ContentLister;
-pub use line::Line;
+pub use line::TextLine;
 pub use lister::LinkLister;

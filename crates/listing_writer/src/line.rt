@@ -3,22 +3,21 @@ ghost use Rattle.std.specs.Prelude.{◌≡◌, ◌+◌, ◌*◌, ◌<◌, ◌≤
 ghost use Rattle.arrayvec.specs.ArrayVec.{array_vec_len};
 ghost use Rattle.hex.specs.Hex.{encode_lower};
 ghost use Rattle.period_grammar.specs.Lending.{fault_event};
-ghost use Rattle.period_grammar.specs.Events.{run as run_event, packet as packet_event};
+ghost use Rattle.period_grammar.specs.Events.{run as run_event};
 ghost use Rattle.listing_writer.specs.Texts.{line_words, field, slip_text, relock_text, sync_digits};
 ghost use Rattle.listing_writer.specs.Fields.{with_fields};
 
 use arrayvec::ArrayVec;
-use island_pack::PacketRef;
 use period_grammar::Fault;
 
 /// A short line, with room for the longest, an AVI InfoFrame's with its seventeen numbers.
-pub type Line = ArrayVec<u8, 192>;
+pub type TextLine = ArrayVec<u8, 192>;
 
 /// The line of a run of control columns.
-pub(crate) fn run_line(value: u8, count: u64) -> Line
+pub(crate) fn run_line(value: u8, count: u64) -> TextLine
     ensures { result.items ≡ line_words (run_event value count) ++ codes "\n" }
 {
-    let mut line = Line::new();
+    let mut line = TextLine::new();
     put(&mut line, b"c ");
     put_hex(&mut line, &[value]);
     put_long_field(&mut line, count);
@@ -27,39 +26,22 @@ pub(crate) fn run_line(value: u8, count: u64) -> Line
 }
 
 /// The line of an island's guard.
-pub(crate) fn guard_line(name: &[u8], first: u8, second: u8) -> Line
+pub(crate) fn guard_line(name: &[u8], first: u8, second: u8) -> TextLine
     requires named { length name.now ≤ 2 }
     requires first { first < 4 }
     requires second { second < 4 }
     ensures { result.items ≡ name.now ++ sync_digits (first ∷ second ∷ []) ++ codes "\n" }
 {
-    let mut line = Line::new();
+    let mut line = TextLine::new();
     put(&mut line, name);
     put_sync(&mut line, &[first, second]);
     put(&mut line, b"\n");
     line
 }
 
-/// The line of a packet.
-pub(crate) fn packet_line(packet: PacketRef<'_>) -> Line
-    requires { All (λ digit. digit < 4) packet.packet.now.sync }
-    ensures { result.items ≡ line_words (packet_event packet.entry.packet.now packet.entry.verdicts.now 0) ++ codes "\n" }
-{
-    let mut line = Line::new();
-    put(&mut line, b"p ");
-    put_bytes(&mut line, packet.header());
-    put_bytes(&mut line, packet.body(0));
-    put_bytes(&mut line, packet.body(1));
-    put_bytes(&mut line, packet.body(2));
-    put_bytes(&mut line, packet.body(3));
-    put_sync(&mut line, packet.sync());
-    put(&mut line, b"\n");
-    line
-}
-
 /// The line of a fault.
 #[tactic(auto, unfolding(crate::specs::Texts::line_words))]
-pub(crate) fn fault_line(fault: Fault) -> Line
+pub(crate) fn fault_line(fault: Fault) -> TextLine
     ensures { result.items ≡ line_words (fault_event fault) ++ codes "\n" }
 {
     match fault {
@@ -83,10 +65,10 @@ pub(crate) fn fault_line(fault: Fault) -> Line
 
 /// The line of a slip.
 #[tactic(auto, unfolding(crate::specs::Texts::slip_text))]
-pub(crate) fn slip_line(lane: u8, place: u64) -> Line
+pub(crate) fn slip_line(lane: u8, place: u64) -> TextLine
     ensures { result.items ≡ slip_text lane place }
 {
-    let mut line = Line::new();
+    let mut line = TextLine::new();
     put(&mut line, b"! slip");
     put_field(&mut line, u32::from(lane));
     put_long_field(&mut line, place);
@@ -96,10 +78,10 @@ pub(crate) fn slip_line(lane: u8, place: u64) -> Line
 
 /// The line of an alignment that was refuted.
 #[tactic(auto, unfolding(crate::specs::Texts::relock_text))]
-pub(crate) fn relock_line(place: u64) -> Line
+pub(crate) fn relock_line(place: u64) -> TextLine
     ensures { result.items ≡ relock_text place }
 {
-    let mut line = Line::new();
+    let mut line = TextLine::new();
     put(&mut line, b"! relock");
     put_long_field(&mut line, place);
     put(&mut line, b"\n");
@@ -107,11 +89,11 @@ pub(crate) fn relock_line(place: u64) -> Line
 }
 
 /// A line of a name and numbers.
-pub(crate) fn fields_line(name: &[u8], numbers: &[u32]) -> Line
+pub(crate) fn fields_line(name: &[u8], numbers: &[u32]) -> TextLine
     requires { length name.now + 11 * length numbers.now < 192 }
     ensures { result.items ≡ with_fields name.now numbers.now ++ codes "\n" }
 {
-    let mut line = Line::new();
+    let mut line = TextLine::new();
     put(&mut line, name);
     for number in numbers {
         put_field(&mut line, *number);
@@ -121,11 +103,11 @@ pub(crate) fn fields_line(name: &[u8], numbers: &[u32]) -> Line
 }
 
 /// A line of a name and numbers, columns among them.
-pub(crate) fn long_line(name: &[u8], numbers: &[u64]) -> Line
+pub(crate) fn long_line(name: &[u8], numbers: &[u64]) -> TextLine
     requires { length name.now + 21 * length numbers.now < 192 }
     ensures { result.items ≡ with_fields name.now numbers.now ++ codes "\n" }
 {
-    let mut line = Line::new();
+    let mut line = TextLine::new();
     put(&mut line, name);
     for number in numbers {
         put_long_field(&mut line, *number);
@@ -135,7 +117,7 @@ pub(crate) fn long_line(name: &[u8], numbers: &[u64]) -> Line
 }
 
 /// Puts a space and a number's decimal digits.
-pub(crate) fn put_field(line: &mut Line, number: u32)
+pub(crate) fn put_field(line: &mut TextLine, number: u32)
     requires { array_vec_len line.old + 11 ≤ 192 }
     ensures items { line.new.items ≡ line.old.items ++ field number }
     ensures len { array_vec_len line.new ≤ array_vec_len line.old + 11 }
@@ -146,7 +128,7 @@ pub(crate) fn put_field(line: &mut Line, number: u32)
 }
 
 /// Puts a space and a great number's decimal digits.
-pub(crate) fn put_long_field(line: &mut Line, number: u64)
+pub(crate) fn put_long_field(line: &mut TextLine, number: u64)
     requires { array_vec_len line.old + 21 ≤ 192 }
     ensures items { line.new.items ≡ line.old.items ++ field number }
     ensures len { array_vec_len line.new ≤ array_vec_len line.old + 21 }
@@ -157,7 +139,7 @@ pub(crate) fn put_long_field(line: &mut Line, number: u64)
 }
 
 /// Puts the hexadecimal digits of at most 27 bytes.
-pub(crate) fn put_hex(line: &mut Line, bytes: &[u8])
+pub(crate) fn put_hex(line: &mut TextLine, bytes: &[u8])
     requires few { length bytes.now ≤ 27 }
     requires room { array_vec_len line.old + 2 * length bytes.now ≤ 192 }
     ensures items { line.new.items ≡ line.old.items ++ encode_lower bytes.now }
@@ -172,7 +154,7 @@ pub(crate) fn put_hex(line: &mut Line, bytes: &[u8])
 }
 
 /// Puts the hexadecimal digits of at most seven bytes, and a space.
-pub(crate) fn put_bytes(line: &mut Line, bytes: &[u8])
+pub(crate) fn put_bytes(line: &mut TextLine, bytes: &[u8])
     requires few { length bytes.now ≤ 7 }
     requires room { array_vec_len line.old + 15 ≤ 192 }
     ensures items { line.new.items ≡ line.old.items ++ (encode_lower bytes.now ++ codes " ") }
@@ -183,7 +165,7 @@ pub(crate) fn put_bytes(line: &mut Line, bytes: &[u8])
 }
 
 /// Puts a digit for each sync value.
-fn put_sync(line: &mut Line, values: &[u8])
+fn put_sync(line: &mut TextLine, values: &[u8])
     requires digits { All (λ digit. digit < 4) values.now }
     requires room { array_vec_len line.old + length values.now ≤ 192 }
     ensures items { line.new.items ≡ line.old.items ++ sync_digits values.now }
@@ -195,7 +177,7 @@ fn put_sync(line: &mut Line, values: &[u8])
 }
 
 /// Puts a text.
-pub(crate) fn put(line: &mut Line, text: &[u8])
+pub(crate) fn put(line: &mut TextLine, text: &[u8])
     requires { array_vec_len line.old + length text.now ≤ 192 }
     ensures items { line.new.items ≡ line.old.items ++ text.now }
     ensures len { array_vec_len line.new ≡ array_vec_len line.old + length text.now }

@@ -8,9 +8,8 @@ ghost use Rattle.hex.specs.Hex.{encode_lower};
 ghost use Rattle.listing_writer.specs.Texts.{lines_of, fault_lines, counted, slip_text, relock_text};
 
 use crate::digit_pairs::DigitPairs;
-use crate::line::{
-    Line, fault_line, guard_line, long_line, packet_line, relock_line, run_line, slip_line,
-};
+use crate::line::{TextLine, fault_line, guard_line, long_line, relock_line, run_line, slip_line};
+use crate::packet_line::packet_line;
 use link_sink::Ear;
 use outside_io::{Failed, Sink, write_all};
 use period_grammar::EventRef;
@@ -124,7 +123,9 @@ impl<'a, K: Sink> Ear for LinkLister<'a, K> {
                 write_line(self.sink, &self.pixel_line[..size])
             }
             EventRef::Open { sync } => write_short(self.sink, guard_line(b"i ", sync[0], sync[1])),
-            EventRef::Packet { packet, column: _ } => write_short(self.sink, packet_line(packet)),
+            EventRef::Packet { packet, column: _ } => {
+                write_line(self.sink, &packet_line(&self.digits, packet)[..])
+            }
             EventRef::Close { sync } => write_short(self.sink, guard_line(b"e ", sync[0], sync[1])),
             EventRef::Cut { column } => write_short(self.sink, long_line(b"cut", &[column])),
             EventRef::Fault(fault) => {
@@ -187,7 +188,7 @@ pub(crate) fn write_line<K: Sink>(sink: &mut K, line: &[u8]) -> Result<(), Faile
 }
 
 /// Writes a short line, or a part of it where a write fails.
-pub(crate) fn write_short<K: Sink>(sink: &mut K, line: Line) -> Result<(), Failed>
+pub(crate) fn write_short<K: Sink>(sink: &mut K, line: TextLine) -> Result<(), Failed>
     ensures whole { OnOk result (Appends (K.held sink.old) (K.held sink.new) line.items) }
     ensures part { OnErr result ((n : ℕ) × (n < length line.items) × Appends (K.held sink.old) (K.held sink.new) (take n line.items)) }
     ensures cause { HasCause (K.faults sink.old) (K.faults sink.new) result }

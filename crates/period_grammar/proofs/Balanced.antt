@@ -14,7 +14,7 @@ use Rattle.tmds_code.specs.Pasts.{IsJudgeAfter}
 use Rattle.period_grammar.specs.Coding.{is_coded, first_from}
 use Rattle.period_grammar.specs.Judged.{IsLaneAfter}
 use Rattle.period_grammar.specs.Balanced.{is_pixel}
-use Rattle.period_grammar.specs.declared.lane.Lane.{Lane}
+use Rattle.period_grammar.specs.declared.lane.LaneJudge.{LaneJudge}
 
 -- a wrong word stays
 pub none_some : (ws : List ℕ) (e : ℤ) → followed_all None ws ≡ Some e → ⊥
@@ -39,7 +39,7 @@ still_first d t e n (w ∷ ws) vs s h =
     ap (λ o. cond (is_coded d w) o (Some n))
     (still_first (d +ℤ balance (word_bits w)) t e (n + 1) ws vs (s ∙ sym (+ℤ_assoc d (balance (word_bits w)) (disparity_of ws))) h)
 
-pub lane_followed : (old new : Lane) (e : ℤ) (ws vs : List ℕ) → IsLaneAfter old ws → followed_all (Some old.judge.disparity) vs ≡ Some e → IsJudgeAfter new.judge (ws ++ vs) → new.first ≡ old.first
+pub lane_followed : (old new : LaneJudge) (e : ℤ) (ws vs : List ℕ) → IsLaneAfter old ws → followed_all (Some old.judge.disparity) vs ≡ Some e → IsJudgeAfter new.judge (ws ++ vs) → new.first ≡ old.first
     → IsLaneAfter new (ws ++ vs)
 lane_followed old new e ws vs was h judge first = grind (arith, still_first)
 

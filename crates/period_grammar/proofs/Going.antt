@@ -12,7 +12,7 @@ use Rattle.period_grammar.specs.ControlAfter.{IsControlAfter}
 use Rattle.period_grammar.specs.Stands.{IsStretchAfter, closed, going_on}
 use Rattle.period_grammar.specs.declared.island.Island.{Island}
 use Rattle.period_grammar.specs.declared.control.ControlState.{ControlState}
-use Rattle.period_grammar.specs.declared.phase.Phase.TheVariants.{Control, First, Noise}
+use Rattle.period_grammar.specs.declared.phase.Phase.TheVariants.{Control, First, Noise, Video}
 use Rattle.period_grammar.proofs.Leads.{no_change, goes_run}
 use Rattle.period_grammar.proofs.Phases.{close_control}
 
@@ -51,6 +51,9 @@ closes_nothing kept line isle n b c x whole was = close_control kept line isle n
 -- what goes on in a control period, and in a line
 pub control_goes : (kept : ControlState) (line : LineSeen) (isle : Island) (n : ℕ) (c : Column) (x : Stretch) → IsStretchAfter Control kept line isle n x → goes_on_run (runs (going_on x)) c ≡ goes_on x c
 control_goes kept line isle n c x h = grind arith
+
+pub line_goes : (kept : ControlState) (line : LineSeen) (isle : Island) (n start : ℕ) (c : Column) (x : Stretch) → IsStretchAfter (Video start) kept line isle n x → is_control_column c ≡ false → true ≡ goes_on x c
+line_goes kept line isle n start c x h e = grind arith
 
 pub first_stays : (kept : ControlState) (line : LineSeen) (isle : Island) (n start p q digit : ℕ) (c : Column) (x : Stretch) → IsStretchAfter (First start p q digit) kept line isle n x → false ≡ goes_on x c
 first_stays kept line isle n start p q digit c x h = grind arith

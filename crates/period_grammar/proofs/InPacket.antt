@@ -1,7 +1,7 @@
 -- Columns that go on with the packet that is being received: nothing is reported of them, and what is kept of them.
 use Rattle.std.proofs.Common.{◌≡◌, ℕ, suc, ◌+◌, ◌<◌, ◌≤◌, Bool, true, false, not, ◌&&◌, nat_lt, nat_le, List, [], ◌∷◌, ◌++◌, length, map, take, drop, All, zero, zero-add, refl, ap, ap₂, sym, ◌∙◌, subst, arith, append_assoc, append-nil, length-append, Some, slice_get, if◌then◌else◌}
 use Rattle.std.proofs.lemmas.Bool.{ltb-true, lt-ltb}
-use Rattle.std.proofs.lemmas.List.{length-take-le, length-map, take-take, drop-drop, map_push, length_push, drop_more, drop_all}
+use Rattle.std.proofs.lemmas.List.{length-take-le, length-map, take-take, take-map, drop-drop, length_push, drop_more, drop_all}
 use Rattle.std.proofs.lemmas.List.Elements.{All-head, All-tail, All-nil, All-cons, All-append}
 use Rattle.std.proofs.Math.Seq.{take-add, take-append-add}
 use Rattle.std.proofs.lemmas.Option.{slice_get_within, get_or_from_slice_get}
@@ -244,12 +244,14 @@ pixels_push cols i d e other was =
     subst (λ (cs : List Column). All (λ c. is_pixel c ≡ true) cs) (sym (take_next cols i d e))
     (All-append (λ c. is_pixel c ≡ true) (take i cols) (d ∷ []) was (All-cons (λ c. is_pixel c ≡ true) d [] (ap not other) (All-nil (λ c. is_pixel c ≡ true))))
 
-pub put_push : (cols : List Column) (i at : ℕ) (d : Column) (old mid new : List (List ℕ)) → slice_get cols i ≡ Some d → take (at + i) mid ≡ take at old ++ map column_words (take i cols)
-    → take ((at + i) + 1) new ≡ take (at + i) mid ++ column_words d ∷ [] → take (at + (i + 1)) new ≡ take at old ++ map column_words (take (i + 1) cols)
-put_push cols i at d old mid new e was put =
-    let place : at + (i + 1) ≡ (at + i) + 1 = omega arith in
-    ap (λ n. take n new) place ∙ put ∙ ap (λ ws. ws ++ column_words d ∷ []) was ∙ append_assoc (take at old) (map column_words (take i cols)) (column_words d ∷ [])
-    ∙ ap (λ ws. take at old ++ ws) (sym (map_push column_words (take i cols) d) ∙ ap (map column_words) (sym (take_next cols i d e)))
+-- the first of the columns that are put
+pub put_front : (cols : List Column) (old new : List (List ℕ)) (at n : ℕ) → length old ≡ 32 → at ≤ 32 → n ≤ length cols
+    → take (at + length cols) new ≡ take at old ++ map column_words cols → take (at + n) new ≡ take at old ++ map column_words (take n cols)
+put_front cols old new at n room le few put =
+    let long = length-take-le at old (omega arith) in
+    sym (take-take (at + n) (at + length cols) new (omega arith)) ∙ ap (take (at + n)) put
+    ∙ ap (λ k. take (k + n) (take at old ++ map column_words cols)) (sym long) ∙ take-append-add (take at old) (map column_words cols) n
+    ∙ ap (λ ws. take at old ++ ws) (take-map column_words n cols)
 
 -- the columns that are put within a packet
 pub record WithinHeard (isle : Island) (new : List (List ℕ)) (n : ℕ) (rest cols : List Column) : Type 0 where

@@ -9,7 +9,7 @@ use Rattle.tmds_code.specs.Lanes.{disparity_of}
 use Rattle.tmds_code.specs.Pasts.{IsJudgeAfter}
 use Rattle.period_grammar.specs.Coding.{is_coded, first_from}
 use Rattle.period_grammar.specs.Judged.{first_next, IsLaneAfter}
-use Rattle.period_grammar.specs.declared.lane.Lane.{Lane}
+use Rattle.period_grammar.specs.declared.lane.LaneJudge.{LaneJudge}
 
 at_first : (p : Bool) (n : ℕ) → cond p None (Some n) ≡ first_next None p n
 at_first p n = grind arith
@@ -35,7 +35,7 @@ pub coded_test : (p : Bool) (disparity : ℤ) (w : ℕ) → (IsTrue p ↔ Coded 
 unfolding is_coded
 coded_test p disparity w h = same_test p _ (λ e. eq-eqb w _ (h.0 e)) (λ e. h.1 (eqb-true w _ e))
 
-pub lane_push : (old new : Lane) (w n : ℕ) (ws : List ℕ) (right : Bool) → old.judge.count ≡ n → IsLaneAfter old ws → IsJudgeAfter new.judge (ws ++ w ∷ [])
+pub lane_push : (old new : LaneJudge) (w n : ℕ) (ws : List ℕ) (right : Bool) → old.judge.count ≡ n → IsLaneAfter old ws → IsJudgeAfter new.judge (ws ++ w ∷ [])
     → right ≡ is_coded old.judge.disparity w → new.first ≡ first_next old.first right n → IsLaneAfter new (ws ++ w ∷ [])
 lane_push old new w n ws right same was judge e f = grind (arith, first_push)
 

@@ -12,7 +12,7 @@ use Rattle.period_grammar.specs.declared.island.WholePacket.{WholePacket}
 use Rattle.period_grammar.specs.declared.event_queue.QueuedEvent.TheVariants.{Line, Fault as FaultNoted}
 use Rattle.period_grammar.specs.declared.event.Fault.TheVariants.{LongLine, Empty}
 use Rattle.period_grammar.specs.Judged.{IsLaneAfter}
-use Rattle.period_grammar.specs.declared.lane.Lane.{Lane}
+use Rattle.period_grammar.specs.declared.lane.LaneJudge.{LaneJudge}
 use Rattle.period_grammar.specs.LineSeen.{LineSeen}
 use Rattle.period_grammar.specs.Lines.{IsLineAfter}
 
@@ -38,7 +38,7 @@ within : (cs : List Column) (c : Column) → length cs < 4096 → take 4096 (cs 
 within cs c lt =
     take_all 4096 (cs ++ c ∷ []) (omega (arith, length_push cs c)) ∙ ap (λ xs. xs ++ c ∷ []) (sym (take_all 4096 cs (omega arith)))
 
-judge_more : (f : Column → ℕ) (cs : List Column) (c : Column) (word : ℕ) (j : Lane)
+judge_more : (f : Column → ℕ) (cs : List Column) (c : Column) (word : ℕ) (j : LaneJudge)
     → length cs < 4096 → word ≡ f c → IsLaneAfter j (map f (take 4096 cs) ++ word ∷ []) → IsLaneAfter j (map f (take 4096 (cs ++ c ∷ [])))
 judge_more f cs c word j lt e was =
     subst (λ ws. IsLaneAfter j ws) (ap (λ w. map f (take 4096 cs) ++ w ∷ []) e ∙ sym (map_push f (take 4096 cs) c) ∙ ap (map f) (sym (within cs c lt))) was
@@ -77,7 +77,7 @@ unfolding line_bytes
 line_bytes_append [] ds = refl
 line_bytes_append (c ∷ cs) ds = ap (λ xs. pixel c ++ xs) (line_bytes_append cs ds)
 
-lane_more : (f : Column → ℕ) (cs ds : List Column) (ws : List ℕ) (j : Lane) → map f ds ≡ ws → take 4096 (cs ++ ds) ≡ cs ++ ds → take 4096 cs ≡ cs
+lane_more : (f : Column → ℕ) (cs ds : List Column) (ws : List ℕ) (j : LaneJudge) → map f ds ≡ ws → take 4096 (cs ++ ds) ≡ cs ++ ds → take 4096 cs ≡ cs
     → IsLaneAfter j (map f (take 4096 cs) ++ ws) → IsLaneAfter j (map f (take 4096 (cs ++ ds)))
 lane_more f cs ds ws j e all few was =
     subst (λ vs. IsLaneAfter j vs) (ap (λ vs. map f (take 4096 cs) ++ vs) (sym e) ∙ ap (λ (xs : List Column). map f xs ++ map f ds) few ∙ sym (map-append f cs ds) ∙ ap (map f) (sym all)) was

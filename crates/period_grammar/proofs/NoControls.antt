@@ -1,7 +1,8 @@
 -- Columns with no control word on lanes 1 and 2 are no control columns.
-use Rattle.std.proofs.Common.{◌≡◌, Bool, true, false, not, List, [], ◌∷◌, All, ◌+◌, nat_le, arith}
-use Rattle.std.proofs.lemmas.List.Elements.{All-head, All-tail, All-nil, All-cons}
-use Rattle.tmds_word.specs.Column.{Column, greens, reds}
+use Rattle.std.proofs.Common.{◌≡◌, ℕ, Bool, true, false, not, List, [], ◌∷◌, ◌++◌, All, ◌+◌, length, map, take, nat_le, slice_index, subst, arith}
+use Rattle.std.proofs.lemmas.List.Elements.{All-head, All-tail, All-nil, All-cons, All-take}
+use Rattle.tmds_word.specs.Column.{Column}
+use Rattle.island_pack.specs.Spelling.{column_words}
 use Rattle.terc4.specs.Tables.{is_control}
 use Rattle.terc4.specs.Columns.{is_control_column, one_if}
 use Rattle.period_grammar.specs.Balanced.{is_pixel}
@@ -14,9 +15,23 @@ no_control_on : (c : Column) → is_control c.green ≡ false → is_control c.r
 unfolding is_pixel is_control_column
 no_control_on c g r = one_at_most (is_control c.blue) (is_control c.green) (is_control c.red) g r
 
-pub pixels_from_lanes : (cs : List Column) → All (λ w. is_control w ≡ false) (greens cs) → All (λ w. is_control w ≡ false) (reds cs) → All (λ c. is_pixel c ≡ true) cs
-pixels_from_lanes [] g r = All-nil (λ c. is_pixel c ≡ true)
-pixels_from_lanes (c ∷ cs) g r =
-    All-cons (λ d. is_pixel d ≡ true) c cs
-    (no_control_on c (All-head (λ w. is_control w ≡ false) c.green (greens cs) g) (All-head (λ w. is_control w ≡ false) c.red (reds cs) r))
-    (pixels_from_lanes cs (All-tail (λ w. is_control w ≡ false) c.green (greens cs) g) (All-tail (λ w. is_control w ≡ false) c.red (reds cs) r))
+-- no control words on lanes 1 and 2
+abbrev HasNone : List ℕ → Type 0
+HasNone words = (is_control (slice_index words 1) ≡ false) × (is_control (slice_index words 2) ≡ false)
+
+pixels_of_words : (cs : List Column) → All (λ (words : List ℕ). HasNone words) (map column_words cs) → All (λ c. is_pixel c ≡ true) cs
+pixels_of_words [] all = All-nil (λ c. is_pixel c ≡ true)
+pixels_of_words (c ∷ cs) all =
+    let own = All-head (λ (words : List ℕ). HasNone words) (column_words c) (map column_words cs) all in
+    All-cons (λ d. is_pixel d ≡ true) c cs (no_control_on c own.0 own.1)
+    (pixels_of_words cs (All-tail (λ (words : List ℕ). HasNone words) (column_words c) (map column_words cs) all))
+
+pixels_after : (xs : List (List ℕ)) (cs : List Column) → All (λ (words : List ℕ). HasNone words) (xs ++ map column_words cs) → All (λ c. is_pixel c ≡ true) cs
+pixels_after [] cs all = pixels_of_words cs all
+pixels_after (x ∷ xs) cs all = pixels_after xs cs (All-tail (λ (words : List ℕ). HasNone words) x (xs ++ map column_words cs) all)
+
+-- columns that are put where no word of lanes 1 and 2 is a control word
+pub pixels_kept : (cs : List Column) (old new : List (List ℕ)) (at : ℕ) → All (λ (words : List ℕ). HasNone words) new
+    → take (at + length cs) new ≡ take at old ++ map column_words cs → All (λ c. is_pixel c ≡ true) cs
+pixels_kept cs old new at all put =
+    pixels_after (take at old) cs (subst (λ (ws : List (List ℕ)). All (λ (words : List ℕ). HasNone words) ws) put (All-take (λ (words : List ℕ). HasNone words) (at + length cs) new all))

@@ -5,7 +5,6 @@ ghost use Rattle.tmds_word.specs.Column.{Column, column_of};
 ghost use Rattle.tmds_word.specs.Lent.{columns_in};
 ghost use Rattle.period_grammar.specs.Column.{sync_digit};
 ghost use Rattle.terc4.specs.Columns.{is_island_guard, closing_words};
-ghost use Rattle.terc4.specs.Tables.{is_control};
 ghost use Rattle.period_grammar.specs.Events.{Event, guard, empty, symbols, long_island};
 ghost use Rattle.island_pack.specs.Spelling.{column_words};
 ghost use Rattle.island_pack.specs.Repaired.{packet_of, verdicts_of, packet_in, verdicts_in};
@@ -20,7 +19,7 @@ use crate::column;
 use crate::event::Fault;
 use crate::event_queue::{EventQueue, QueuedEvent};
 use bch_block::Verdict;
-use island_pack::{Packet, PacketVerdicts, take};
+use island_pack::{Packet, PacketColumns, PacketVerdicts, take_kept};
 use terc4::{closing_guard_words, is_control_column, is_island_guard, terc};
 use tmds_word::{Columns, Word};
 
@@ -44,7 +43,7 @@ pub struct WholePacket {
 /// The words of the packet that is being received, how many packets were received whole, and the last of them.
 #[derive(Drop)]
 pub struct Island {
-    pub block: [[Word; 3]; 32],
+    pub block: PacketColumns,
     pub packets: u64,
     pub within: u32,
     pub left: Left,
@@ -118,11 +117,11 @@ fn tell_packet(at: u64, packets: u64, whole: &WholePacket, notes: &mut EventQueu
 }
 
 /// Takes the packet of 32 columns.
-fn taken(columns: &[[Word; 3]; 32]) -> WholePacket
+fn taken(columns: &PacketColumns) -> WholePacket
     ensures packet { result.packet ≡ packet_in columns.now }
     ensures verdicts { result.verdicts ≡ verdicts_in columns.now }
 {
-    let (packet, verdicts) = take(columns);
+    let (packet, verdicts) = take_kept(columns);
     WholePacket { packet, verdicts }
 }
 
@@ -177,76 +176,30 @@ fn is_closed_by(words: u8, column: &[Word; 3]) -> bool
     column::at_least(3, words, closing_guard_words(column))
 }
 
-/// Puts a column at a place after those before it.
-fn put_column(block: &mut [[Word; 3]; 32], at: usize, column: &[Word; 3])
-    requires { at < 32 }
-    ensures whole { length block.new ≡ 32 }
-    ensures put { take (at + 1) block.new ≡ take at block.old ++ column_words (column_of column.now) ∷ [] }
-{
-    block[at] = *column;
-}
-
 /// Puts columns at a place after those before it, as long as they are no control columns, and answers how many these are.
-fn put_columns(block: &mut [[Word; 3]; 32], at: usize, columns: Columns<'_>) -> usize
+fn put_columns(block: &mut PacketColumns, at: usize, columns: Columns<'_>) -> usize
     requires { at + length (columns_in columns) ≤ 32 }
     ensures within { result ≤ length (columns_in columns.entry) }
     ensures pixels { All (λ c. is_pixel c ≡ true) (take result (columns_in columns.entry)) }
     ensures put { take (at + result) block.new ≡ take at block.old ++ map column_words (take result (columns_in columns.entry)) }
 {
+    block.put_all(at, columns);
     // A control column has a control word on lane 1 or 2.
-    if has_control(columns.green()) || has_control(columns.red()) {
-        return put_leading(block, at, columns);
+    if block.has_control() {
+        return count_others(columns);
     }
-    put_all(block, at, columns);
     columns.len()
 }
 
-/// Whether one of at most 32 words is a control word.
-fn has_control(words: &[u16]) -> bool
-    requires words { All (λ w. w < 1024) words.now }
-    requires few { length words.now ≤ 32 }
-    ensures { OnFalse result (All (λ w. is_control w ≡ false) words.now) }
-{
-    let mut count = 0;
-    for i in 0..words.len() {
-        count += u16::from(is_control(words[i]));
-    }
-    count != 0
-}
-
-/// Whether a word is a control word: two of these differ in bit 9 alone, and the two others have all their bits turned over.
-fn is_control(word: u16) -> bool
-    requires { word < 1024 }
-    ensures { result ≡ is_control word }
-{
-    let low = word % 512;
-    (low == 0x0ab) | (low == 0x154)
-}
-
-/// Puts columns at a place after those before it.
-fn put_all(block: &mut [[Word; 3]; 32], at: usize, columns: Columns<'_>)
-    requires { at + length (columns_in columns) ≤ 32 }
-    ensures put { take (at + length (columns_in columns.entry)) block.new ≡ take at block.old ++ map column_words (columns_in columns.entry) }
-{
-    for i in 0..columns.len() {
-        put_column(block, at + i, &columns.get(i));
-    }
-}
-
-/// Puts columns at a place after those before it, one by one, as long as they are no control columns, and answers how many
-/// these are.
-fn put_leading(block: &mut [[Word; 3]; 32], at: usize, columns: Columns<'_>) -> usize
-    requires { at + length (columns_in columns) ≤ 32 }
+/// How many columns, from the first on, are no control columns.
+fn count_others(columns: Columns<'_>) -> usize
     ensures within { result ≤ length (columns_in columns.entry) }
     ensures pixels { All (λ c. is_pixel c ≡ true) (take result (columns_in columns.entry)) }
-    ensures put { take (at + result) block.new ≡ take at block.old ++ map column_words (take result (columns_in columns.entry)) }
 {
     for i in 0..columns.len() {
-        let column = columns.get(i);
-        if is_control_column(&column) {
+        if is_control_column(&columns.get(i)) {
             return i;
         }
-        put_column(block, at + i, &column);
     }
     columns.len()
 }
@@ -261,8 +214,7 @@ fn is_packet(left: &Left) -> bool
 impl WholePacket {
     /// A packet of zeros, which no note names.
     pub fn unused() -> WholePacket {
-        let word = terc(0);
-        taken(&[[word; 3]; 32])
+        taken(&PacketColumns::new(terc(0)))
     }
 }
 
@@ -272,14 +224,12 @@ impl Island {
         ensures blocked { IsBlocked result }
         ensures heard { IsIslandAfter result [] }
     {
-        let word = terc(0);
-        let block = [[word; 3]; 32];
         Island {
-            block,
+            block: PacketColumns::new(terc(0)),
             packets: 0,
             within: 0,
             left: Left::Packet,
-            whole: taken(&block),
+            whole: WholePacket::unused(),
         }
     }
 
@@ -303,7 +253,7 @@ impl Island {
         ensures whole { self.new.whole ≡ self.old.whole }
         ensures heard { (x : Payload) → IsPartsAfter Left.Packet self.old.packets 0 self.old.block x → IsPartsAfter self.new.left self.new.packets self.new.within self.new.block (after_payload (column_of column.now) x) }
     {
-        put_column(&mut self.block, 0, column);
+        self.block.put(0, column);
         self.within = 1;
         self.left = Left::First {
             words: closing_guard_words(column),
@@ -330,7 +280,7 @@ impl Island {
                     self.begin(column);
                     return;
                 }
-                put_column(&mut self.block, self.within as usize, column);
+                self.block.put(self.within as usize, column);
                 if self.within == 31 {
                     self.whole = taken(&self.block);
                     tell_packet(at, self.packets, &self.whole, notes);
@@ -350,7 +300,7 @@ impl Island {
                     self.left = Left::Closed;
                     return;
                 }
-                put_column(&mut self.block, 1, column);
+                self.block.put(1, column);
                 self.within = 2;
                 self.left = Left::Packet;
             }
@@ -431,7 +381,7 @@ impl Island {
                 if self.within == 31 {
                     return false;
                 }
-                put_column(&mut self.block, self.within as usize, column);
+                self.block.put(self.within as usize, column);
                 self.within += 1;
                 true
             }
@@ -439,7 +389,7 @@ impl Island {
                 if is_closed_by(words, column) {
                     return false;
                 }
-                put_column(&mut self.block, 1, column);
+                self.block.put(1, column);
                 self.within = 2;
                 self.left = Left::Packet;
                 true

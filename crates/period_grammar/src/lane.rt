@@ -11,18 +11,18 @@ use tmds_word::Word;
 
 /// Judges the words of a lane one after another, and keeps the place of the first wrong one.
 #[derive(Clone, Copy, Drop)]
-pub struct Lane {
+pub struct LaneJudge {
     pub judge: CodeJudge,
     pub first: Option<u32>,
 }
 
-impl Lane {
+impl LaneJudge {
     /// A lane before its first word.
-    pub fn new() -> Lane
+    pub fn new() -> LaneJudge
         ensures sized { IsSized result 0 }
         ensures heard { IsLaneAfter result [] }
     {
-        Lane {
+        LaneJudge {
             judge: CodeJudge::new(),
             first: None,
         }

@@ -14,7 +14,7 @@ use crate::event::Fault;
 use crate::event_queue::{EventQueue, QueuedEvent};
 use crate::followed::{Balances, GROUP};
 use crate::held::Bytes;
-use crate::lane::Lane;
+use crate::lane::LaneJudge;
 use island_pack::PIXEL_LIMIT;
 use std::marker::Model;
 use terc4::is_control_column;
@@ -25,9 +25,9 @@ use tmds_word::{Columns, MOST_COLUMNS, Word};
 pub struct Line {
     bytes: Bytes,
     count: u64,
-    blue: Lane,
-    green: Lane,
-    red: Lane,
+    blue: LaneJudge,
+    green: LaneJudge,
+    red: LaneJudge,
 }
 
 impl Model for Line {
@@ -48,9 +48,9 @@ impl Line {
         Line {
             bytes: Bytes::new(),
             count: 0,
-            blue: Lane::new(),
-            green: Lane::new(),
-            red: Lane::new(),
+            blue: LaneJudge::new(),
+            green: LaneJudge::new(),
+            red: LaneJudge::new(),
         }
     }
 
@@ -60,9 +60,9 @@ impl Line {
     {
         self.bytes.clear();
         self.count = 0;
-        self.blue = Lane::new();
-        self.green = Lane::new();
-        self.red = Lane::new();
+        self.blue = LaneJudge::new();
+        self.green = LaneJudge::new();
+        self.red = LaneJudge::new();
     }
 
     /// Hears one pixel column.

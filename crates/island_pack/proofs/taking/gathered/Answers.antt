@@ -13,12 +13,12 @@ returns c =
     has_codes c.to_le_bytes.result _ (λ k. code_of (slice_index words k)) c.to_le_bytes.ensures
     (omega (
       arith,
-      c.spread.ensures.value ∙ word 0 _ (omega arith),
-      c.spread-2.ensures.value ∙ word 1 _ (omega arith),
-      c.spread-3.ensures.value ∙ word 2 _ (omega arith),
-      c.spread-4.ensures.value ∙ word 3 _ (omega arith),
-      c.spread-5.ensures.value ∙ word 4 _ (omega arith),
-      c.spread-6.ensures.value ∙ word 5 _ (omega arith),
-      c.spread-7.ensures.value ∙ word 6 _ (omega arith),
-      c.spread-8.ensures.value ∙ word 7 _ (omega arith),
+      c.spread.ensures.value ∙ word 6 _ (omega arith),
+      c.spread-2.ensures.value ∙ word 7 _ (omega arith),
+      c.spread-3.ensures.value ∙ word 5 _ (omega arith),
+      c.spread-4.ensures.value ∙ word 4 _ (omega arith),
+      c.spread-5.ensures.value ∙ word 3 _ (omega arith),
+      c.spread-6.ensures.value ∙ word 2 _ (omega arith),
+      c.spread-7.ensures.value ∙ word 1 _ (omega arith),
+      c.spread-8.ensures.value ∙ word 0 _ (omega arith),
     ))

@@ -11,14 +11,14 @@ use Rattle.island_pack.proofs.taking.taken.Goals as goal
 moved : (x y : List Bool) (bytes whole : List ℕ) (v : Verdict) → x ≡ y → whole ≡ bytes → IsTaken x bytes v → IsTaken y whole v
 moved x y bytes whole v e f taken = subst (λ z. IsTaken z whole v) e (subst (λ ys. IsTaken x ys v) (sym f) taken)
 
-pub returns : goal.returns
+pub returns-clause-taken : goal.returns-clause-taken
 unfolding body_bits header_bits sync_values
-returns c =
+returns-clause-taken c =
     let columns = c.args.columns.now in
-    let long : length columns ≡ 32 = omega (arith, c.told-columns) in
+    let long : length columns ≡ 32 = c.blue_rows-blue.ensures.columns in
     let blue = c.blue_rows-blue.result in
     let others = c.other_rows-others.result in
-    let are = c.blue_rows-blue.ensures in
+    let are = c.blue_rows-blue.ensures.rows in
     let others_are = c.other_rows-others.ensures in
     let four : length blue ≡ 4 = omega arith in
     let eight : length others ≡ 8 = omega arith in

@@ -46,13 +46,13 @@ pub returns-in-Packet-clause-ok : goal.returns-in-Packet-clause-ok
 unfolding line_words
 returns-in-Packet-clause-ok g c =
     line_took _ _ _ _ _ (lent_event c.args.event) _ _ (ap lent_event c.in-Packet.is) refl
-    c.packet_line.ensures c.write_short-in-Packet.ensures.whole
+    c.packet_line.ensures c.write_line-in-Packet.ensures.whole
 
 pub returns-in-Packet-clause-err : goal.returns-in-Packet-clause-err
 unfolding line_words
 returns-in-Packet-clause-err g c =
     line_broke _ _ _ _ _ (lent_event c.args.event) _ _ (ap lent_event c.in-Packet.is)
-    c.packet_line.ensures c.write_short-in-Packet.ensures.part
+    c.packet_line.ensures c.write_line-in-Packet.ensures.part
 
 pub returns-in-Close-clause-ok : goal.returns-in-Close-clause-ok
 unfolding line_words

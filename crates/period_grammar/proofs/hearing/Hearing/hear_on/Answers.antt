@@ -8,7 +8,7 @@ use Rattle.period_grammar.proofs.Leads.{goes_run}
 use Rattle.period_grammar.specs.Heard.{heard_so_far}
 use Rattle.period_grammar.specs.declared.phase.Phase.{Phase}
 use Rattle.period_grammar.proofs.Phases.{on_video, video_stands}
-use Rattle.period_grammar.proofs.Going.{whole_going, is_column, tells_no_word, still_control, closes_nothing, control_goes}
+use Rattle.period_grammar.proofs.Going.{whole_going, is_column, tells_no_word, still_control, closes_nothing, control_goes, line_goes}
 use Rattle.period_grammar.proofs.InPacket.{one_in_island, island_went}
 use Rattle.period_grammar.proofs.Hearings.{start_of, reported_control, reported_other, stands_control, stands_other}
 use Rattle.period_grammar.proofs.hearing.Hearing.hear_on.Goals as goal
@@ -46,6 +46,15 @@ returns-else-is_control_column-clause-reported c cs was =
     reported_other cs d h.columns [] w.columns (sym c.is_control_column.ensures ∙ c.if-is_control_column.false)
     (on_video h.control h.line h.island h.columns [] d _ refl x (start_of cs) (subst (λ (p : Phase). IsStretchAfter p h.control h.line h.island h.columns x) c.in-Video.is w.stretch))
     ∙ append-nil (heard_so_far cs)
+
+pub returns-else-is_control_column-clause-count : goal.returns-else-is_control_column-clause-count
+returns-else-is_control_column-clause-count c cs was =
+    let w = subst (λ (s : Seen). HearingRepresents s cs) (sym c.self.view_is) was in
+    let x = last (stretches cs) in
+    let h = c.self.inside in
+    line_goes h.control h.line h.island h.columns c.in-Video.start (column_of c.args.column.now) x
+    (subst (λ (p : Phase). IsStretchAfter p h.control h.line h.island h.columns x) c.in-Video.is w.stretch)
+    (sym c.is_control_column.ensures ∙ c.if-is_control_column.false)
 
 pub returns-then-not-goes_on-clause-count : goal.returns-then-not-goes_on-clause-count
 returns-then-not-goes_on-clause-count c cs was = grind (arith, still_control, goes_run, control_goes)

@@ -24,12 +24,12 @@ returns-then-self-eq0-clause-heard c rest was =
 
 pub returns-then-self-eq31-clause-reported : goal.returns-then-self-eq31-clause-reported
 returns-then-self-eq31-clause-reported c rest bytes was =
-    whole_reported c.args.self.now.packets c.args.start c.args.self.now.within ((c.args.start + 2) + 32 * c.args.self.now.packets) c.args.self.now.block c.put_column.new.block (column_of c.args.column.now) _ (payload rest) (subst (λ (l : Left). IsPartsAfter l c.args.self.now.packets c.args.self.now.within c.args.self.now.block (payload rest)) c.in-Packet.is was.stands) c.if-self-eq31.true
-    c.put_column.ensures.put c.put_column.ensures.whole refl (λ p e. c.tell_packet.ensures.reported bytes p (c.taken-self.ensures.packet ∙ ap packet_in e) (c.taken-self.ensures.verdicts ∙ ap verdicts_in e))
+    whole_reported c.args.self.now.packets c.args.start c.args.self.now.within ((c.args.start + 2) + 32 * c.args.self.now.packets) c.args.self.now.block c.put.new.self (column_of c.args.column.now) _ (payload rest) (subst (λ (l : Left). IsPartsAfter l c.args.self.now.packets c.args.self.now.within c.args.self.now.block (payload rest)) c.in-Packet.is was.stands) c.if-self-eq31.true
+    c.put.ensures.put c.put.ensures.long refl (λ p e. c.tell_packet.ensures.reported bytes p (c.taken-self.ensures.packet ∙ ap packet_in e) (c.taken-self.ensures.verdicts ∙ ap verdicts_in e))
 
 pub returns-then-self-eq31-clause-heard : goal.returns-then-self-eq31-clause-heard
 returns-then-self-eq31-clause-heard c rest was =
-    after_rest _ rest (column_of c.args.column.now) (subst (λ (l : Left). IsPartsAfter l (c.args.self.now.packets + 1) 0 c.put_column.new.block (after_payload (column_of c.args.column.now) (payload rest))) (sym c.in-Packet.is) (whole_stands c.args.self.now.packets c.args.self.now.within c.args.self.now.block c.put_column.new.block (column_of c.args.column.now) (payload rest) (subst (λ (l : Left). IsPartsAfter l c.args.self.now.packets c.args.self.now.within c.args.self.now.block (payload rest)) c.in-Packet.is was.stands) c.if-self-eq31.true))
+    after_rest _ rest (column_of c.args.column.now) (subst (λ (l : Left). IsPartsAfter l (c.args.self.now.packets + 1) 0 c.put.new.self (after_payload (column_of c.args.column.now) (payload rest))) (sym c.in-Packet.is) (whole_stands c.args.self.now.packets c.args.self.now.within c.args.self.now.block c.put.new.self (column_of c.args.column.now) (payload rest) (subst (λ (l : Left). IsPartsAfter l c.args.self.now.packets c.args.self.now.within c.args.self.now.block (payload rest)) c.in-Packet.is was.stands) c.if-self-eq31.true))
 
 pub returns-else-self-eq31-clause-reported : goal.returns-else-self-eq31-clause-reported
 returns-else-self-eq31-clause-reported c rest bytes was =
@@ -40,7 +40,7 @@ pub returns-else-self-eq31-clause-heard : goal.returns-else-self-eq31-clause-hea
 returns-else-self-eq31-clause-heard c rest was =
     let lt : c.args.self.now.within < 31 = omega arith in
     let pos : 0 < c.args.self.now.within = omega arith in
-    after_rest _ rest (column_of c.args.column.now) (subst (λ (l : Left). IsPartsAfter l c.args.self.now.packets (c.args.self.now.within + 1) c.put_column.new.block (after_payload (column_of c.args.column.now) (payload rest))) (sym c.in-Packet.is) (within_stands c.args.self.now.packets c.args.self.now.within c.args.self.now.block c.put_column.new.block (column_of c.args.column.now) (payload rest) (subst (λ (l : Left). IsPartsAfter l c.args.self.now.packets c.args.self.now.within c.args.self.now.block (payload rest)) c.in-Packet.is was.stands) pos lt c.put_column.ensures.put))
+    after_rest _ rest (column_of c.args.column.now) (subst (λ (l : Left). IsPartsAfter l c.args.self.now.packets (c.args.self.now.within + 1) c.put.new.self (after_payload (column_of c.args.column.now) (payload rest))) (sym c.in-Packet.is) (within_stands c.args.self.now.packets c.args.self.now.within c.args.self.now.block c.put.new.self (column_of c.args.column.now) (payload rest) (subst (λ (l : Left). IsPartsAfter l c.args.self.now.packets c.args.self.now.within c.args.self.now.block (payload rest)) c.in-Packet.is was.stands) pos lt c.put.ensures.put))
 
 pub returns-then-is_closed_by-clause-reported : goal.returns-then-is_closed_by-clause-reported
 returns-then-is_closed_by-clause-reported c rest bytes was =
@@ -58,7 +58,7 @@ returns-else-is_closed_by-clause-reported c rest bytes was =
 
 pub returns-else-is_closed_by-clause-heard : goal.returns-else-is_closed_by-clause-heard
 returns-else-is_closed_by-clause-heard c rest was =
-    after_rest _ rest (column_of c.args.column.now) (second_stands c.args.self.now.packets c.args.self.now.within _ _ _ c.args.self.now.block _ (column_of c.args.column.now) (payload rest) (subst (λ (l : Left). IsPartsAfter l c.args.self.now.packets c.args.self.now.within c.args.self.now.block (payload rest)) c.in-First.is was.stands) (sym c.is_closed_by.ensures ∙ c.if-is_closed_by.false) c.put_column-in-First.ensures.put)
+    after_rest _ rest (column_of c.args.column.now) (second_stands c.args.self.now.packets c.args.self.now.within _ _ _ c.args.self.now.block _ (column_of c.args.column.now) (payload rest) (subst (λ (l : Left). IsPartsAfter l c.args.self.now.packets c.args.self.now.within c.args.self.now.block (payload rest)) c.in-First.is was.stands) (sym c.is_closed_by.ensures ∙ c.if-is_closed_by.false) c.put-in-First.ensures.put)
 
 pub returns-in-Closed-clause-reported : goal.returns-in-Closed-clause-reported
 returns-in-Closed-clause-reported c rest bytes was =

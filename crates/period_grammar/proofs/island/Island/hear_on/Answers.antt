@@ -17,7 +17,7 @@ pub returns-else-self-eq31-clause-heard : goal.returns-else-self-eq31-clause-hea
 returns-else-self-eq31-clause-heard c rest was =
     let lt : c.args.self.now.within < 31 = omega (arith, c.requires.blocked.within) in
     let pos : 0 < c.args.self.now.within = omega arith in
-    after_rest _ rest (column_of c.args.column.now) (subst (λ (l : Left). IsPartsAfter l c.args.self.now.packets (c.args.self.now.within + 1) c.put_column.new.block (after_payload (column_of c.args.column.now) (payload rest))) (sym c.in-Packet.is) (within_stands c.args.self.now.packets c.args.self.now.within c.args.self.now.block c.put_column.new.block (column_of c.args.column.now) (payload rest) (subst (λ (l : Left). IsPartsAfter l c.args.self.now.packets c.args.self.now.within c.args.self.now.block (payload rest)) c.in-Packet.is was.stands) pos lt c.put_column.ensures.put))
+    after_rest _ rest (column_of c.args.column.now) (subst (λ (l : Left). IsPartsAfter l c.args.self.now.packets (c.args.self.now.within + 1) c.put.new.self (after_payload (column_of c.args.column.now) (payload rest))) (sym c.in-Packet.is) (within_stands c.args.self.now.packets c.args.self.now.within c.args.self.now.block c.put.new.self (column_of c.args.column.now) (payload rest) (subst (λ (l : Left). IsPartsAfter l c.args.self.now.packets c.args.self.now.within c.args.self.now.block (payload rest)) c.in-Packet.is was.stands) pos lt c.put.ensures.put))
 
 pub returns-then-is_closed_by-clause-count : goal.returns-then-is_closed_by-clause-count
 returns-then-is_closed_by-clause-count c rest was =
@@ -29,4 +29,4 @@ returns-else-is_closed_by-clause-count c rest was =
 
 pub returns-else-is_closed_by-clause-heard : goal.returns-else-is_closed_by-clause-heard
 returns-else-is_closed_by-clause-heard c rest was =
-    after_rest _ rest (column_of c.args.column.now) (second_stands c.args.self.now.packets c.args.self.now.within _ _ _ c.args.self.now.block _ (column_of c.args.column.now) (payload rest) (subst (λ (l : Left). IsPartsAfter l c.args.self.now.packets c.args.self.now.within c.args.self.now.block (payload rest)) c.in-First.is was.stands) (sym c.is_closed_by.ensures ∙ c.if-is_closed_by.false) c.put_column-in-First.ensures.put)
+    after_rest _ rest (column_of c.args.column.now) (second_stands c.args.self.now.packets c.args.self.now.within _ _ _ c.args.self.now.block _ (column_of c.args.column.now) (payload rest) (subst (λ (l : Left). IsPartsAfter l c.args.self.now.packets c.args.self.now.within c.args.self.now.block (payload rest)) c.in-First.is was.stands) (sym c.is_closed_by.ensures ∙ c.if-is_closed_by.false) c.put-in-First.ensures.put)

@@ -1,0 +1,147 @@
+//! The columns of a packet, kept lane by lane.
+ghost use Rattle.std.specs.Prelude.{◌≡◌, ◌<◌, ◌≤◌, ◌+◌, ◌++◌, ◌∷◌, [], All, length, map, take, false, slice_index, slice_index_or};
+ghost use Rattle.std.specs.Bool.{OnFalse};
+ghost use Rattle.tmds_word.specs.Column.{column_of};
+ghost use Rattle.tmds_word.specs.Lent.{columns_in};
+ghost use Rattle.terc4.specs.Tables.{is_control};
+ghost use Rattle.island_pack.specs.Spelling.{column_words};
+
+use std::marker::Model;
+use tmds_word::{Columns, Word};
+
+/// The words of 32 columns, those of each lane one after another.
+#[derive(Drop)]
+pub struct PacketColumns {
+    blue: [u16; 32],
+    green: [u16; 32],
+    red: [u16; 32],
+}
+
+impl Model for PacketColumns {
+    ghost use Rattle.std.specs.Prelude.{ℕ, List, ◌<◌, All, map};
+    ghost use Rattle.tmds_word.specs.Words.{columns_of};
+    ghost use Rattle.island_pack.specs.Spelling.{column_words};
+
+    ghost Value = { List (List ℕ) };
+
+    ghost view = { λ p. map column_words (columns_of p.blue p.green p.red) };
+
+    ghost invariant = { λ p. All (λ w. w < 1024) p.blue × (All (λ w. w < 1024) p.green × All (λ w. w < 1024) p.red) };
+}
+
+impl PacketColumns {
+    /// Columns of one word on each lane.
+    pub fn new(word: Word) -> PacketColumns
+        ensures { length result ≡ 32 }
+    {
+        PacketColumns {
+            blue: [word.value(); 32],
+            green: [word.value(); 32],
+            red: [word.value(); 32],
+        }
+    }
+
+    /// The same columns, kept lane by lane.
+    pub fn of(columns: &[[Word; 3]; 32]) -> PacketColumns
+        ensures { result ≡ columns.now }
+    {
+        let mut kept = PacketColumns::new(columns[0][0]);
+        for i in 0..32 {
+            kept.put(i, &columns[i]);
+        }
+        kept
+    }
+
+    /// Puts a column at a place.
+    pub fn put(&mut self, at: usize, column: &[Word; 3])
+        requires { at < 32 }
+        ensures long { length self.new ≡ 32 }
+        ensures put { take (at + 1) self.new ≡ take at self.old ++ column_words (column_of column.now) ∷ [] }
+        ensures own { take (at + 1) self.new ≡ take at self.old ++ column.now ∷ [] }
+    {
+        self.blue[at] = column[0].value();
+        self.green[at] = column[1].value();
+        self.red[at] = column[2].value();
+    }
+
+    /// Puts columns at a place after those before it.
+    pub fn put_all(&mut self, at: usize, columns: Columns<'_>)
+        requires { at + length (columns_in columns) ≤ 32 }
+        ensures room { length self.old ≡ 32 }
+        ensures long { length self.new ≡ 32 }
+        ensures put { take (at + length (columns_in columns.entry)) self.new ≡ take at self.old ++ map column_words (columns_in columns.entry) }
+    {
+        put_words(&mut self.blue, at, columns.blue());
+        put_words(&mut self.green, at, columns.green());
+        put_words(&mut self.red, at, columns.red());
+    }
+
+    /// Whether a word of lane 1 or 2 is a control word.
+    pub fn has_control(&self) -> bool
+        ensures { OnFalse result (All (λ words. (is_control (slice_index words 1) ≡ false) × (is_control (slice_index words 2) ≡ false)) self.now) }
+    {
+        has_control(&self.green) || has_control(&self.red)
+    }
+
+    /// The word of lane 0 at a place.
+    #[inline(always)]
+    pub(crate) fn blue(&self, at: usize) -> Word
+        requires { at < 32 }
+        ensures value { result ≡ slice_index (slice_index_or self.now at []) 0 }
+        ensures columns { length self.now ≡ 32 }
+    {
+        Word::of(self.blue[at])
+    }
+
+    /// The word of lane 1 at a place.
+    #[inline(always)]
+    pub(crate) fn green(&self, at: usize) -> Word
+        requires { at < 32 }
+        ensures { result ≡ slice_index (slice_index_or self.now at []) 1 }
+    {
+        Word::of(self.green[at])
+    }
+
+    /// The word of lane 2 at a place.
+    #[inline(always)]
+    pub(crate) fn red(&self, at: usize) -> Word
+        requires { at < 32 }
+        ensures { result ≡ slice_index (slice_index_or self.now at []) 2 }
+    {
+        Word::of(self.red[at])
+    }
+}
+
+/// Puts words at a place after those before it.
+#[inline(always)]
+fn put_words(lane: &mut [u16; 32], at: usize, words: &[u16])
+    requires room { at + length words.now ≤ 32 }
+    requires words { All (λ w. w < 1024) words.now }
+    requires lane { All (λ w. w < 1024) lane.old }
+    ensures lane { All (λ w. w < 1024) lane.new }
+    ensures put { take (at + length words.now) lane.new ≡ take at lane.old ++ words.now }
+{
+    let end = at + words.len();
+    lane[at..end].copy_from_slice(words);
+}
+
+/// Whether one of 32 words is a control word.
+fn has_control(words: &[u16; 32]) -> bool
+    requires { All (λ w. w < 1024) words.now }
+    ensures { OnFalse result (All (λ w. is_control w ≡ false) words.now) }
+{
+    let mut count = 0;
+    for i in 0..32 {
+        count += u16::from(is_control(words[i]));
+    }
+    count != 0
+}
+
+/// Whether a word is a control word: two of these differ in bit 9 alone, and the two others have all their bits turned over.
+fn is_control(word: u16) -> bool
+    requires { word < 1024 }
+    ensures { result ≡ is_control word }
+{
+    let low = word % 512;
+    (low == 0x0ab) | (low == 0x154)
+}
