@@ -49,7 +49,7 @@ unaligned_none aligned x y z columns events is reported = (subst (λ b. reported
 false_or : (a b : Bool) → a ≡ false → b ≡ false → (a || b) ≡ false
 false_or a b first second = ap (λ c. c || b) first ∙ second
 
-none_at_end : (b : Bool) (cause : Cause) (place : ℕ) → b ≡ false → end_events b cause place ≡ []
+none_at_end : (b : Bool) (cause : Cause) (place : ℕ) → b ≡ false → end_events {T = Event} b cause place ≡ []
 none_at_end b (Slip lane) place is = ap (λ c. slip_if c lane place) is
 none_at_end b Unconfirmed place is = refl
 none_at_end b Refuted place is = ap (λ c. relock_if c place) is

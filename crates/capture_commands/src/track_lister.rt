@@ -114,7 +114,11 @@ impl<'a, K: Sink> Ear for LinkTrackLister<'a, K> {
 }
 
 impl<'a, K: Sink> TrackEar for LinkTrackLister<'a, K> {
+    ghost use Rattle.std.specs.Prelude.{map};
     ghost use Rattle.std.proofs.Common.{refl, ◌∙◌};
+    ghost use Rattle.period_grammar.specs.Events.{event_of};
+    ghost use Rattle.track_sink.specs.Columns.{told_both, told_events};
+    ghost use Rattle.track_sink.specs.TrackEvents.{track_event_of};
     ghost use Rattle.capture_commands.specs.TrackText.{tracks_none, tracks_both, grows_none, grows_both, written_events, events_written, counted_events, events_counted};
 
     // The sink grew by the lines, and the count by those of faults, slips and refuted alignments.
@@ -122,6 +126,12 @@ impl<'a, K: Sink> TrackEar for LinkTrackLister<'a, K> {
         (y.lister.sink.ghost_name ≡ x.lister.sink.ghost_name)
         × (y.lister.faults ≡ counted x.lister.faults (track_faults track_events))
         × Appends (K.held x.lister.sink.now) (K.held y.lister.sink.now) (track_lines track_events) };
+
+    // The columns of events are made nothing of.
+    ghost tracked_at = { λ x y told.
+        (y.lister.sink.ghost_name ≡ x.lister.sink.ghost_name)
+        × (y.lister.faults ≡ counted x.lister.faults (track_faults (map track_event_of told)))
+        × Appends (K.held x.lister.sink.now) (K.held y.lister.sink.now) (track_lines (map track_event_of told)) };
 
     // The sink grew by a part of the line, and nothing was counted.
     ghost lost = { λ x y track_event.
@@ -143,6 +153,22 @@ impl<'a, K: Sink> TrackEar for LinkTrackLister<'a, K> {
       then.0 ∙ first.0,
       tracks_both x.lister.faults y.lister.faults z.lister.faults h k first.1 then.1,
       grows_both (K.held x.lister.sink.now) (K.held y.lister.sink.now) (K.held z.lister.sink.now) h k first.2 then.2,
+    ) };
+
+    ghost tracked_none_at = { λ x. (refl, tracks_none x.lister.faults, grows_none (K.held x.lister.sink.now)) };
+
+    ghost tracked_both_at = { λ x y z h k first then. told_both (λ events. (z.lister.sink.ghost_name ≡ x.lister.sink.ghost_name) × (z.lister.faults ≡ counted x.lister.faults (track_faults events)) × Appends (K.held x.lister.sink.now) (K.held z.lister.sink.now) (track_lines events)) h k (
+      then.0 ∙ first.0,
+      tracks_both x.lister.faults y.lister.faults z.lister.faults (map track_event_of h) (map track_event_of k) first.1 then.1,
+      grows_both (K.held x.lister.sink.now) (K.held y.lister.sink.now) (K.held z.lister.sink.now) (map track_event_of h) (map track_event_of k) first.2 then.2,
+    ) };
+
+    ghost tracked_forgets = { λ x y h t. t };
+
+    ghost tracked_events_at = { λ x y h t. told_events (λ events. (y.lister.sink.ghost_name ≡ x.lister.sink.ghost_name) × (y.lister.faults ≡ counted x.lister.faults (track_faults events)) × Appends (K.held x.lister.sink.now) (K.held y.lister.sink.now) (track_lines events)) h (
+      t.0,
+      counted_events x.lister.faults y.lister.faults (map event_of h) t.1,
+      written_events (K.held x.lister.sink.now) (K.held y.lister.sink.now) (map event_of h) t.2,
     ) };
 
     ghost tracked_events = { λ x y h. (
@@ -243,7 +269,11 @@ impl<'a, K: Sink> Ear for ContentTrackLister<'a, K> {
 }
 
 impl<'a, K: Sink> TrackEar for ContentTrackLister<'a, K> {
+    ghost use Rattle.std.specs.Prelude.{map};
     ghost use Rattle.std.proofs.Common.{refl, ◌∙◌};
+    ghost use Rattle.period_grammar.specs.Events.{event_of};
+    ghost use Rattle.track_sink.specs.Columns.{told_both, told_events};
+    ghost use Rattle.track_sink.specs.TrackEvents.{track_event_of};
     ghost use Rattle.capture_commands.specs.TrackListers.{lists_track_none, lists_track_both, listed_track, track_listed};
 
     // For all that was reported before: the sink grew by the lines, and the count by the fault lines.
@@ -251,6 +281,12 @@ impl<'a, K: Sink> TrackEar for ContentTrackLister<'a, K> {
         (y.lister.sink.ghost_name ≡ x.lister.sink.ghost_name)
         × ((reported : List Event) → Recalls x.lister.past reported
         → ListsTrack reported track_events y.lister.past x.lister.faults y.lister.faults (K.held x.lister.sink.now) (K.held y.lister.sink.now)) };
+
+    // The columns of events are made nothing of.
+    ghost tracked_at = { λ x y told.
+        (y.lister.sink.ghost_name ≡ x.lister.sink.ghost_name)
+        × ((reported : List Event) → Recalls x.lister.past reported
+        → ListsTrack reported (map track_event_of told) y.lister.past x.lister.faults y.lister.faults (K.held x.lister.sink.now) (K.held y.lister.sink.now)) };
 
     // The sink grew by a part of the lines, not by all, and nothing was counted.
     ghost lost = { λ x y track_event.
@@ -271,6 +307,20 @@ impl<'a, K: Sink> TrackEar for ContentTrackLister<'a, K> {
     ghost tracked_both = { λ x y z h k first then. (
       then.0 ∙ first.0,
       lists_track_both x.lister.past y.lister.past z.lister.past x.lister.faults y.lister.faults z.lister.faults (K.held x.lister.sink.now) (K.held y.lister.sink.now) (K.held z.lister.sink.now) h k first.1 then.1,
+    ) };
+
+    ghost tracked_none_at = { λ x. (refl, lists_track_none x.lister.past x.lister.faults (K.held x.lister.sink.now)) };
+
+    ghost tracked_both_at = { λ x y z h k first then. told_both (λ events. (z.lister.sink.ghost_name ≡ x.lister.sink.ghost_name) × ((reported : List Event) → Recalls x.lister.past reported → ListsTrack reported events z.lister.past x.lister.faults z.lister.faults (K.held x.lister.sink.now) (K.held z.lister.sink.now))) h k (
+      then.0 ∙ first.0,
+      lists_track_both x.lister.past y.lister.past z.lister.past x.lister.faults y.lister.faults z.lister.faults (K.held x.lister.sink.now) (K.held y.lister.sink.now) (K.held z.lister.sink.now) (map track_event_of h) (map track_event_of k) first.1 then.1,
+    ) };
+
+    ghost tracked_forgets = { λ x y h t. t };
+
+    ghost tracked_events_at = { λ x y h t. told_events (λ events. (y.lister.sink.ghost_name ≡ x.lister.sink.ghost_name) × ((reported : List Event) → Recalls x.lister.past reported → ListsTrack reported events y.lister.past x.lister.faults y.lister.faults (K.held x.lister.sink.now) (K.held y.lister.sink.now))) h (
+      t.0,
+      λ reported recalls. listed_track y.lister.past x.lister.faults y.lister.faults (K.held x.lister.sink.now) (K.held y.lister.sink.now) reported (map event_of h) (t.1 reported recalls),
     ) };
 
     ghost tracked_events = { λ x y h. (

@@ -4,7 +4,7 @@ ghost use Rattle.capture_commands.specs.Commands.{tap_asked};
 ghost use Rattle.capture_commands.specs.Endings.{ColumnsEnd, ListingEnds, StreamEnds};
 
 use crate::ending::Ending;
-use capture_file::{Lanes, Tap, write_capture};
+use capture_file::{LaneRows, Tap, write_capture};
 use command_line::TapWords;
 use listing_reader::ListError;
 use outside_io::Sink;
@@ -39,7 +39,7 @@ pub(crate) fn write_stream<F: Framing, K: Sink>(
     ensures ends { StreamEnds F.spells tap.now stream.now result (K.held output.old) (K.held output.new) (K.faults output.old) (K.faults output.new) }
     ensures later { K.faults output.old ≤ K.faults output.new }
 {
-    let mut lanes = match Lanes::with_capacity(alloc, stream.columns()) {
+    let mut lanes = match LaneRows::with_capacity(alloc, stream.columns()) {
         Ok(lanes) => lanes,
         Err(_) => return Ending::NoMemory,
     };
@@ -50,7 +50,7 @@ pub(crate) fn write_stream<F: Framing, K: Sink>(
 }
 
 /// Writes the capture of a tap of columns.
-pub(crate) fn write_lanes<K: Sink>(lanes: &Lanes, tap: &Tap, output: &mut K) -> Ending
+pub(crate) fn write_lanes<K: Sink>(lanes: &LaneRows, tap: &Tap, output: &mut K) -> Ending
     requires version { (tap.now.version ≡ 1) ⊎ (tap.now.version ≡ 2) }
     ensures ends { ColumnsEnd tap.now lanes.now.columns result (K.held output.old) (K.held output.new) (K.faults output.old) (K.faults output.new) }
     ensures later { K.faults output.old ≤ K.faults output.new }

@@ -53,7 +53,7 @@ reported_twice r rule begun z y n m track_events (more_epochs _ _ _ o events cau
     let e = rule.one_end y cause (Slip lane) p start found end in
     let moved : IsTrackedBy r (begun || o.aligned) (z + start) (rest_of start y) n1 m1 rest = subst (λ q. IsTrackedBy r (begun || o.aligned) (z + q) (rest_of q y) n1 m1 rest) e.1 track in
     let second = epoch_reported r rule (begun || o.aligned) (z + start) (rest_of start y) n1 m1 rest moved no_end in
-    let ended : end_events (begun || o.aligned) cause (z + p) ≡ slip_if (begun || o.aligned) lane (z + start) = ap₂ (λ c q. end_events (begun || o.aligned) c (z + q)) e.0 e.1 in
+    let ended : end_events {T = Event} (begun || o.aligned) cause (z + p) ≡ slip_if (begun || o.aligned) lane (z + start) = ap₂ (λ c q. end_events (begun || o.aligned) c (z + q)) e.0 e.1 in
     record {
       one = o;
       two = second.outcome;

@@ -35,7 +35,7 @@ struct Opening {
 
 /// The last column of a control period, and the two after it.
 #[derive(Clone, Copy)]
-struct Ending {
+struct PeriodEnd {
     last: [Word; 3],
     first: [Word; 3],
     second: [Word; 3],
@@ -178,7 +178,7 @@ fn opening_at(lanes: LentLanes<'_>, places: [u64; 3]) -> Option<Opening>
 }
 
 /// The three columns from three places on; None where a lane ends before the end of its own.
-fn ending_at(lanes: LentLanes<'_>, places: [u64; 3]) -> Option<Ending>
+fn ending_at(lanes: LentLanes<'_>, places: [u64; 3]) -> Option<PeriodEnd>
     requires room { HaveRoom lanes }
     requires base { lanes.base ≤ least places }
     requires small { greatest places < 2 ^ 61 }
@@ -196,7 +196,7 @@ fn ending_at(lanes: LentLanes<'_>, places: [u64; 3]) -> Option<Ending>
         lanes,
         [blue + TWO_WORDS, green + TWO_WORDS, red + TWO_WORDS],
     )?;
-    Some(Ending {
+    Some(PeriodEnd {
         last,
         first,
         second,

@@ -11,7 +11,7 @@ use Rattle.link_sink.specs.Grammar.{link_grammar}
 use Rattle.link_sink.specs.LinkHearing.{link_is_grammar}
 use Rattle.link_sink.specs.Sinks.{Fed, IsReportedSoFar, IsGain, IsLast}
 use Rattle.link_sink.specs.declared.hear.Outcome.{Outcome}
-use Rattle.link_sink.proofs.Following.{reported_one}
+use Rattle.link_sink.proofs.Following.{reported_one, reported_at_first}
 use Rattle.track_sink.specs.TrackEvents.{TrackEvent, event, slip, relock, track_events_of, slip_if, relock_if, end_events}
 use Rattle.track_sink.specs.Epochs.{EpochRule, most_of, rest_of, front_of, IsTrackBy}
 use Rattle.track_sink.specs.Rules.{IsRule, IsWatch}
@@ -148,7 +148,7 @@ passes_turn {r} is t fed end reported outcome last can is_last was =
       begun = t.begun || outcome.aligned;
       epochs = t.epochs + 1;
       aligned = t.aligned + one_if outcome.aligned;
-      follows = follows_closed is fed t.start t.handed end.cause t.begun t.epochs t.aligned reported outcome last (omega arith) ends is_last was;
+      follows = follows_closed reported_at_first is fed t.start t.handed end.cause t.begun t.epochs t.aligned reported outcome last (omega arith) ends is_last was;
       reached = omega arith;
       before = λ cause p here. omega arith;
       early = inl (refl, inl refl);

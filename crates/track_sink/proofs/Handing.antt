@@ -8,21 +8,21 @@ use mir.Val.{bool_byte}
 use Rattle.tmds_word.specs.Bits.{bytes_bits}
 use Rattle.tmds_word.specs.declared.TheConstants.{MOST_BITS}
 use Rattle.terc4.specs.Columns.{one_if}
-use Rattle.period_grammar.specs.Events.{Event}
-use Rattle.link_sink.specs.Sinks.{Fed, grown, IsReportedSoFar, IsGain}
+use Rattle.tmds_word.specs.Column.{Column}
+use Rattle.link_sink.specs.Sinks.{Fed, grown, IsReportedOf, IsGainOf}
 use Rattle.link_sink.specs.Pieces.{no_bits}
 use Rattle.link_sink.specs.Received.{CanFeed}
 use Rattle.link_sink.specs.Streams.{SinkSeen, SinkRepresents, bits_fed, most_bits}
 use Rattle.link_sink.proofs.Feeding.{length_grown}
 use Rattle.link_sink.proofs.Following.{reported_at_first}
-use Rattle.track_sink.specs.TrackEvents.{TrackEvent}
-use Rattle.track_sink.specs.Epochs.{EpochRule, lane_of, most_of, rest_of, front_of, IsTrackBy}
+use Rattle.track_sink.specs.TrackEvents.{TrackEventOf, TrackEvent}
+use Rattle.track_sink.specs.Epochs.{EpochRule, Reporting, lane_of, most_of, rest_of, front_of, IsTrackOf}
 use Rattle.track_sink.specs.Tracks.{Grows}
 use Rattle.track_sink.specs.Rules.{IsRule, IsWatch}
 use Rattle.track_sink.specs.Lanes.{AreFresh, AreHeld, IsReleased}
-use Rattle.track_sink.specs.Trackers.{most_fed, first_tracker, Follows, HoldsRest, Carries, Stands, IsSettled, IsFirst}
-use Rattle.track_sink.specs.declared.lane.Lane.{Lane}
-use Rattle.track_sink.specs.declared.lanes.Lanes.{Lanes}
+use Rattle.track_sink.specs.Trackers.{most_fed, first_tracker, FollowsOf, HasReportedOf, HoldsRest, Carries, Stands, IsSettled, IsFirst}
+use Rattle.track_sink.specs.declared.lane.HeldLane.{HeldLane}
+use Rattle.track_sink.specs.declared.lanes.HeldLanes.{HeldLanes}
 use Rattle.track_sink.specs.declared.tracker.Tracker.{Tracker}
 use Rattle.track_sink.specs.Feds.{fronts_stay, same_fed, no_longer, rest_grows}
 use Rattle.track_sink.proofs.Following.{follows_grown}
@@ -41,11 +41,11 @@ can_hand bytes given most x handed len start bits g e few whole size above below
 ]
 
 -- how many bits of a lane are released
-length_released : (before now : Lane) (bits x : ℕ) → IsReleased before now bits x → x ≡ length now.held.released
+length_released : (before now : HeldLane) (bits x : ℕ) → IsReleased before now bits x → x ≡ length now.held.released
 length_released before now bits x r = omega (arith, r.many, ap length r.released, length-take bits before.held.bits)
 
 -- what a lane's sink has once they are
-hand_lane : (before now : Lane) (bytes : List ℕ) (xs : List Bool) (start handed bits x : ℕ) → before.held.bits ≡ drop (start + handed) xs → IsReleased before now bits x
+hand_lane : (before now : HeldLane) (bytes : List ℕ) (xs : List Bool) (start handed bits x : ℕ) → before.held.bits ≡ drop (start + handed) xs → IsReleased before now bits x
     → take (length now.held.released) (bytes_bits bytes) ≡ now.held.released
     → take handed (drop start xs) ++ take x (bytes_bits bytes) ≡ take (handed + bits) (drop start xs)
 hand_lane before now bytes xs start handed bits x is r same =
@@ -53,7 +53,7 @@ hand_lane before now bytes xs start handed bits x is r same =
     (ap (λ n. take n (bytes_bits bytes)) (length_released before now bits x r) ∙ same ∙ r.released ∙ ap (take bits) (is ∙ sym (drop-drop handed start xs)))
     ∙ sym (take-add handed bits (drop start xs))
 
-pub handed_is : (t : Tracker) (fed : Fed) (lanes : Lanes) (a b c counts : List ℕ) (bits : ℕ) → Carries t fed
+pub handed_is : (t : Tracker) (fed : Fed) (lanes : HeldLanes) (a b c counts : List ℕ) (bits : ℕ) → Carries t fed
     → IsReleased t.lanes.blue lanes.blue bits (slice_index counts 0) → IsReleased t.lanes.green lanes.green bits (slice_index counts 1) → IsReleased t.lanes.red lanes.red bits (slice_index counts 2)
     → take (length lanes.blue.held.released) (bytes_bits a) ≡ lanes.blue.held.released → take (length lanes.green.held.released) (bytes_bits b) ≡ lanes.green.held.released
     → take (length lanes.red.held.released) (bytes_bits c) ≡ lanes.red.held.released
@@ -64,7 +64,7 @@ handed_is t fed lanes a b c counts bits carries rx ry rz sx sy sz =
     (hand_lane t.lanes.green lanes.green b fed.green t.start t.handed bits (slice_index counts 1) carries.green.held ry sy)
     (hand_lane t.lanes.red lanes.red c fed.red t.start t.handed bits (slice_index counts 2) carries.red.held rz sz)
 
-pub can_hand_blue : (t : Tracker) (fed : Fed) (lanes : Lanes) (bytes : List ℕ) (x bits : ℕ) → Carries t fed → t.handed % 8 ≡ 0 → bits ≤ 32768 → IsReleased t.lanes.blue lanes.blue bits x
+pub can_hand_blue : (t : Tracker) (fed : Fed) (lanes : HeldLanes) (bytes : List ℕ) (x bits : ℕ) → Carries t fed → t.handed % 8 ≡ 0 → bits ≤ 32768 → IsReleased t.lanes.blue lanes.blue bits x
     → length bytes ≡ (length lanes.blue.held.released + 7) / 8 → CanFeed (bits_fed t.link 0) (most_bits t.link) bytes x
 can_hand_blue t fed lanes bytes x bits c whole few r size =
     let a = c.blue.given in
@@ -74,7 +74,7 @@ can_hand_blue t fed lanes bytes x bits c whole few r size =
     can_hand bytes (bits_fed t.link 0) (most_bits t.link) x t.handed (length fed.blue) t.start bits a (r.many ∙ ap (λ n. min n bits) (ap length c.blue.held ∙ length-drop (t.start + t.handed) fed.blue)) few whole
     (size ∙ ap (λ n. (n + 7) / 8) (sym (length_released t.lanes.blue lanes.blue bits x r))) (omega arith) (omega arith) (omega arith)
 
-pub can_hand_green : (t : Tracker) (fed : Fed) (lanes : Lanes) (bytes : List ℕ) (x bits : ℕ) → Carries t fed → t.handed % 8 ≡ 0 → bits ≤ 32768 → IsReleased t.lanes.green lanes.green bits x
+pub can_hand_green : (t : Tracker) (fed : Fed) (lanes : HeldLanes) (bytes : List ℕ) (x bits : ℕ) → Carries t fed → t.handed % 8 ≡ 0 → bits ≤ 32768 → IsReleased t.lanes.green lanes.green bits x
     → length bytes ≡ (length lanes.green.held.released + 7) / 8 → CanFeed (bits_fed t.link 1) (most_bits t.link) bytes x
 can_hand_green t fed lanes bytes x bits c whole few r size =
     let a = c.blue.given in
@@ -84,7 +84,7 @@ can_hand_green t fed lanes bytes x bits c whole few r size =
     can_hand bytes (bits_fed t.link 1) (most_bits t.link) x t.handed (length fed.green) t.start bits b (r.many ∙ ap (λ n. min n bits) (ap length c.green.held ∙ length-drop (t.start + t.handed) fed.green)) few whole
     (size ∙ ap (λ n. (n + 7) / 8) (sym (length_released t.lanes.green lanes.green bits x r))) (omega arith) (omega arith) (omega arith)
 
-pub can_hand_red : (t : Tracker) (fed : Fed) (lanes : Lanes) (bytes : List ℕ) (x bits : ℕ) → Carries t fed → t.handed % 8 ≡ 0 → bits ≤ 32768 → IsReleased t.lanes.red lanes.red bits x
+pub can_hand_red : (t : Tracker) (fed : Fed) (lanes : HeldLanes) (bytes : List ℕ) (x bits : ℕ) → Carries t fed → t.handed % 8 ≡ 0 → bits ≤ 32768 → IsReleased t.lanes.red lanes.red bits x
     → length bytes ≡ (length lanes.red.held.released + 7) / 8 → CanFeed (bits_fed t.link 2) (most_bits t.link) bytes x
 can_hand_red t fed lanes bytes x bits c whole few r size =
     let a = c.blue.given in
@@ -95,7 +95,7 @@ can_hand_red t fed lanes bytes x bits c whole few r size =
     (size ∙ ap (λ n. (n + 7) / 8) (sym (length_released t.lanes.red lanes.red bits x r))) (omega arith) (omega arith) (omega arith)
 
 -- a lane without the bits that were handed on
-rest_handed : (before now : Lane) (given later x start handed bits : ℕ) (xs : List Bool) → HoldsRest before given start handed xs → IsReleased before now bits x → later ≡ given + x
+rest_handed : (before now : HeldLane) (given later x start handed bits : ℕ) (xs : List Bool) → HoldsRest before given start handed xs → IsReleased before now bits x → later ≡ given + x
     → HoldsRest now later start (handed + bits) xs
 rest_handed before now given later x start handed bits xs was r more =
     let long = ap length was.held ∙ length-drop (start + handed) xs in
@@ -107,7 +107,7 @@ rest_handed before now given later x start handed bits xs was r more =
       given = omega (arith, r.many);
     }
 
-pub carries_handed : (t : Tracker) (fed : Fed) (link : SinkSeen) (lanes : Lanes) (counts : List ℕ) (bits : ℕ) → Carries t fed → t.start + t.handed + bits ≤ most_of fed
+pub carries_handed : (t : Tracker) (fed : Fed) (link : SinkSeen) (lanes : HeldLanes) (counts : List ℕ) (bits : ℕ) → Carries t fed → t.start + t.handed + bits ≤ most_of fed
     → IsReleased t.lanes.blue lanes.blue bits (slice_index counts 0) → IsReleased t.lanes.green lanes.green bits (slice_index counts 1) → IsReleased t.lanes.red lanes.red bits (slice_index counts 2)
     → link.is_open ≡ true → SinkRepresents link (front_of (t.handed + bits) (rest_of t.start fed))
     → bits_fed link 0 ≡ bits_fed t.link 0 + slice_index counts 0 → bits_fed link 1 ≡ bits_fed t.link 1 + slice_index counts 1 → bits_fed link 2 ≡ bits_fed t.link 2 + slice_index counts 2
@@ -155,7 +155,7 @@ comes_of most fed xs bytes bits e can = elim can.going [
 ]
 
 -- a lane's part takes them
-rest_taken : (before now : Lane) (given start handed most : ℕ) (xs more : List Bool) → start + handed ≤ most → HoldsRest before given start handed xs → Comes most xs more
+rest_taken : (before now : HeldLane) (given start handed most : ℕ) (xs more : List Bool) → start + handed ≤ most → HoldsRest before given start handed xs → Comes most xs more
     → now.held.bits ≡ before.held.bits ++ more → now.fed ≡ length (xs ++ more) → HoldsRest now given start handed (xs ++ more)
 rest_taken before now given start handed most xs more reached was (inl longest) is fed =
     let g = was.given in
@@ -212,7 +212,7 @@ module _ {W : Type 0} {r : EpochRule} {looked : W → Fed → Type 0} {passed : 
   long_red : length now.red ≡ length fed.red + slice_index bits 2
   long_red = length_grown fed.red now.red c (slice_index bits 2) third.bytes_given refl
 
-  module _ (lanes : Lanes) (hx : lanes.blue.held.bits ≡ t.lanes.blue.held.bits ++ take (slice_index bits 0) (bytes_bits a)) (hy : lanes.green.held.bits ≡ t.lanes.green.held.bits ++ take (slice_index bits 1) (bytes_bits b))
+  module _ (lanes : HeldLanes) (hx : lanes.blue.held.bits ≡ t.lanes.blue.held.bits ++ take (slice_index bits 0) (bytes_bits a)) (hy : lanes.green.held.bits ≡ t.lanes.green.held.bits ++ take (slice_index bits 1) (bytes_bits b))
       (hz : lanes.red.held.bits ≡ t.lanes.red.held.bits ++ take (slice_index bits 2) (bytes_bits c))
       (fx : lanes.blue.fed ≡ t.lanes.blue.fed + slice_index bits 0) (fy : lanes.green.fed ≡ t.lanes.green.fed + slice_index bits 1) (fz : lanes.red.fed ≡ t.lanes.red.fed + slice_index bits 2) where
     abbrev next : Tracker
@@ -248,22 +248,26 @@ module _ {W : Type 0} {r : EpochRule} {looked : W → Fed → Type 0} {passed : 
 
 -- Before any bit.
 
-zero_front : IsReportedSoFar (front_of 0 (rest_of 0 no_bits)) []
-zero_front = reported_at_first
-
-begin_follows : {r : EpochRule} → Follows r no_bits 0 0 false 0 0 []
-begin_follows {r} = record {
+begin_follows : {T : Type 0} {told : Reporting T} {r : EpochRule} → told.so_far no_bits [] → FollowsOf told r no_bits 0 0 false 0 0 []
+begin_follows {T} {told} {r} none = record {
   closed = [];
   events = [];
   goes_on = λ later grows n m rest tracked.
       let en : n ≡ 0 + n = omega arith in
       let em : m ≡ 0 + m = omega arith in
-      let P : ℕ → Type 0 = λ k. IsTrackBy r later k (0 + m) rest in
-      let Q : ℕ → Type 0 = λ k. IsTrackBy r later n k rest in
+      let P : ℕ → Type 0 = λ k. IsTrackOf told r later k (0 + m) rest in
+      let Q : ℕ → Type 0 = λ k. IsTrackOf told r later n k rest in
       subst P en (subst Q em tracked);
-  so_far = zero_front;
+  so_far_on = λ later grows rest tracked. tracked;
+  so_far = none;
   reported_are = refl;
 }
+
+pub first_follows : {T : Type 0} {told : Reporting T} {r : EpochRule} → told.so_far no_bits [] → (t : Tracker) → IsFirst t → HasReportedOf told r t no_bits []
+first_follows {T} {told} {r} none t fresh = subst (λ (u : Tracker). HasReportedOf told r u no_bits []) (sym fresh.first) (begin_follows none)
+
+pub first_fed : (t : Tracker) → IsFirst t → most_fed t ≡ 0
+first_fed t fresh = omega (arith, fresh.lanes.blue.fed, fresh.lanes.green.fed, fresh.lanes.red.fed)
 
 -- an epoch without a bit has no end
 none_at_first : {r : EpochRule} → IsRule r → r.none no_bits
@@ -272,7 +276,7 @@ none_at_first is = elim (is.decided no_bits) [
   | inr none ↦ none
 ]
 
-settled_first : {W : Type 0} {r : EpochRule} {looked : W → Fed → Type 0} {passed : W → ℕ} → IsRule r → (link : SinkSeen) (lanes : Lanes) (w : W) → link.is_open ≡ true → SinkRepresents link no_bits → most_bits link ≡ 0 → AreFresh lanes
+settled_first : {W : Type 0} {r : EpochRule} {looked : W → Fed → Type 0} {passed : W → ℕ} → IsRule r → (link : SinkSeen) (lanes : HeldLanes) (w : W) → link.is_open ≡ true → SinkRepresents link no_bits → most_bits link ≡ 0 → AreFresh lanes
     → ((fed : Fed) → looked w fed) → passed w ≡ 0 → IsSettled r looked passed (first_tracker link lanes) w no_bits []
 settled_first is link lanes w opened stands none fresh at zero_is = record {
   stands = record {
@@ -288,7 +292,7 @@ settled_first is link lanes w opened stands none fresh at zero_is = record {
       fewer = omega arith;
     };
     looked_on = record { looked_at = at no_bits; after = omega arith };
-    follows = begin_follows;
+    follows = begin_follows reported_at_first;
     whole = refl;
     room = omega arith;
   };
@@ -303,11 +307,11 @@ settled_at_first {W} {r} {looked} {passed} is t w fresh at zero_is =
     subst (λ (u : Tracker). IsSettled r looked passed u w no_bits []) (sym fresh.first) (settled_first is t.link t.lanes w fresh.link_open fresh.link fresh.bits fresh.lanes at zero_is)
 
 -- where no bit is handed on, nothing is reported
-pub none_gained : (t : Tracker) (fed : Fed) (bits : ℕ) → bits ≡ 0 → IsGain (front_of t.handed (rest_of t.start fed)) (front_of (t.handed + bits) (rest_of t.start fed)) []
-none_gained t fed bits none = λ reported h.
+pub none_gained : {T : Type 0} (so_far : List Column → List T) (t : Tracker) (fed : Fed) (bits : ℕ) → bits ≡ 0 → IsGainOf so_far (front_of t.handed (rest_of t.start fed)) (front_of (t.handed + bits) (rest_of t.start fed)) []
+none_gained {T} so_far t fed bits none = λ reported h.
     let e : t.handed ≡ t.handed + bits = omega arith in
-    let P : List Event → Type 0 = λ ts. IsReportedSoFar (front_of (t.handed + bits) (rest_of t.start fed)) ts in
-    subst P (sym (append-nil reported)) (subst (λ n. IsReportedSoFar (front_of n (rest_of t.start fed)) reported) e h)
+    let P : List T → Type 0 = λ ts. IsReportedOf so_far (front_of (t.handed + bits) (rest_of t.start fed)) ts in
+    subst P (sym (append-nil reported)) (subst (λ n. IsReportedOf so_far (front_of n (rest_of t.start fed)) reported) e h)
 
 -- a count goes up by one where the epoch was aligned
 pub byte_is : (b : Bool) → bool_byte b ≡ one_if b

@@ -3,8 +3,11 @@ pub mod Looking
 pub mod Shifting
 mod Moving
 pub mod Following
+pub mod Columns
 pub mod Handing
 pub mod Turning
 pub mod Settling
 pub mod Failing
 pub mod Reaching
+pub mod One
+pub mod More

@@ -15,7 +15,7 @@ use Rattle.link_sink.specs.Sinks.{Fed, IsReportedSoFar, IsGain}
 use Rattle.link_sink.specs.Alignment.{AreReported}
 use Rattle.link_sink.specs.declared.hear.Outcome.{Outcome}
 use Rattle.link_sink.proofs.Decided.{first_decided, reported_so_far}
-use Rattle.link_sink.proofs.Following.{reported_one, gains}
+use Rattle.link_sink.proofs.Following.{reported_one, reported_at_first, gains}
 use Rattle.link_sink.proofs.Prefixes.{columns_grow}
 use Rattle.track_sink.specs.TrackEvents.{TrackEvent, track_events_of, end_events}
 use Rattle.track_sink.specs.Epochs.{EpochRule, lane_of, most_of, rest_of, front_of, IsTrackedBy, last_epoch, more_epochs}
@@ -79,7 +79,7 @@ module _ {r : EpochRule} (is : IsRule r) where
       let last = some_last (front_of (handed + bits) (rest_of start fed)) here.events here.so_far in
       let told = track_events_of last.1 ++ end_events (begun || last.0.aligned) cause (start + (handed + bits)) in
       joined fed (start + (handed + bits)) (begun || last.0.aligned) (epochs + 1) (aligned + one_if last.0.aligned) reported (track_events_of us.0) told
-      (follows_closed is fed start (handed + bits) cause begun epochs aligned (reported ++ track_events_of us.0) last.0 last.1 reached end last.2 here)
+      (follows_closed reported_at_first is fed start (handed + bits) cause begun epochs aligned (reported ++ track_events_of us.0) last.0 last.1 reached end last.2 here)
 
   closed_at : (fed : Fed) (start handed : ℕ) (begun : Bool) (epochs aligned : ℕ) (reported : List TrackEvent) (cause : Cause) (place : ℕ) → start ≤ most_of fed → handed ≤ place → r.ends (rest_of start fed) cause place
       → Follows r fed start handed begun epochs aligned reported → Closed fed reported (start + place)
@@ -108,6 +108,7 @@ module _ {r : EpochRule} (is : IsRule r) where
             closed = here.closed;
             events = here.events;
             goes_on = here.goes_on;
+            so_far_on = here.so_far_on;
             endless = none;
             whole = ap (λ n. n % 8) e ∙ omega arith;
             held = λ l lt. let h = rest_no_longer fed start l (omega arith) in omega arith;

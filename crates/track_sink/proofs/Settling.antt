@@ -1,22 +1,24 @@
 -- Trackers that follow their lanes from epoch to epoch, and at their end.
-use Rattle.std.proofs.Common.{◌≡◌, ◌⊎◌, ℕ, ◌+◌, ◌-◌, ◌*◌, ◌/◌, ◌%◌, ◌<◌, ◌≤◌, max, List, ◌++◌, length, Option, Some, None, refl, ap, ap₂, ◌∙◌, sym, subst, arith, inl, inr, append_assoc}
+use Rattle.std.proofs.Common.{◌≡◌, ◌⊎◌, ℕ, ◌+◌, ◌-◌, ◌*◌, ◌/◌, ◌%◌, ◌<◌, ◌≤◌, max, Bool, false, List, [], ◌++◌, length, Option, Some, None, refl, ap, ap₂, ◌∙◌, sym, subst, arith, inl, inr, append_assoc}
 use Rattle.std.specs.Prelude.{MatchOption, slice_index}
 use Rattle.tmds_word.specs.declared.TheConstants.{MOST_BITS}
 use Rattle.lane_align.specs.declared.TheConstants.{FEED_BITS}
 use Rattle.terc4.specs.Columns.{one_if}
 use Rattle.period_grammar.specs.Events.{Event}
 use Rattle.link_sink.proofs.Feeding.{length_grown}
+use Rattle.link_sink.specs.Pieces.{no_bits}
 use Rattle.link_sink.specs.Sinks.{Fed, grown, IsGain, IsLast}
 use Rattle.link_sink.specs.declared.hear.Outcome.{Outcome}
-use Rattle.track_sink.specs.TrackEvents.{TrackEvent, track_events_of}
-use Rattle.track_sink.specs.Epochs.{EpochRule, lane_of, most_of, rest_of, front_of, IsTrackBy}
+use Rattle.track_sink.specs.TrackEvents.{TrackEventOf, TrackEvent, track_events_of}
+use Rattle.track_sink.specs.Epochs.{EpochRule, Reporting, lane_of, most_of, rest_of, front_of, IsTrackOf, IsTrackBy}
 use Rattle.track_sink.specs.Rules.{IsRule, IsWatch}
-use Rattle.track_sink.specs.Tracks.{HasTrackedBy}
-use Rattle.track_sink.specs.Trackers.{most_fed, HasReported, Carries, HasLooked, CanClose, Stands, IsSettled}
+use Rattle.track_sink.specs.Tracks.{IsHeardTo, IsTrackedSoFar, open_epoch, TracksOf, HasTrackedOf, HasTrackedBy}
+use Rattle.track_sink.specs.TrackSinks.{EpochSinkSeen, EpochSinkRepresents, EpochSinkTells}
+use Rattle.track_sink.specs.Trackers.{most_fed, HasReportedOf, HasReportedAt, HasReported, Carries, HasLooked, CanClose, Stands, IsSettled}
 use Rattle.track_sink.specs.declared.tracker.Tracker.{Tracker}
 use Rattle.track_sink.specs.declared.watch.End.{End}
-use Rattle.track_sink.specs.Feds.{longest_is, rest_no_longer, most_rest}
-use Rattle.track_sink.proofs.Following.{follows_last, track_events_both}
+use Rattle.track_sink.specs.Feds.{longest_is, no_longer, rest_no_longer, same_grows, most_rest}
+use Rattle.track_sink.proofs.Following.{Gains, Ends, follows_last, track_events_both}
 use Rattle.track_sink.proofs.Handing.{longest_held}
 use Rattle.track_sink.proofs.Turning.{end_place, follows_reached}
 
@@ -120,18 +122,34 @@ settles {W} {r} {looked} {passed} is watch u v w fed reported here whole room cu
 
 -- The end.
 
+-- of a settled tracker, once all bits that it holds are handed on
+pub tells_all : {T W : Type 0} {told : Reporting T} {r : EpochRule} {looked : W → Fed → Type 0} {passed : W → ℕ} (t u v : Tracker) (w : W) (fed : Fed) (events : List TrackEvent) (reported : List (TrackEventOf T)) (outcome : Outcome) (us last : List T) (longest : ℕ) → IsSettled r looked passed t w fed events
+    → HasReportedOf told r t fed reported
+    → longest ≡ max (length t.lanes.blue.held.bits) (max (length t.lanes.green.held.bits) (length t.lanes.red.held.bits))
+    → Gains told (front_of t.handed (rest_of t.start fed)) (front_of (t.handed + longest) (rest_of t.start fed)) us → Ends told (front_of u.handed (rest_of u.start fed)) outcome last
+    → u.start ≡ t.start → u.handed ≡ t.handed + longest → u.begun ≡ t.begun → u.epochs ≡ t.epochs → u.aligned ≡ t.aligned
+    → v.epochs ≡ u.epochs + 1 → v.aligned ≡ u.aligned + one_if outcome.aligned
+    → IsTrackOf told r fed v.epochs v.aligned (reported ++ track_events_of (us ++ last))
+tells_all {T} {W} {told} {r} t u v w fed events reported outcome us last longest settled was most gain is_last es eh eb ee ea en em =
+    let all = longest_held t fed settled.stands.carries in
+    let follows = follows_reached t u fed longest reported us gain es eh eb ee ea was in
+    let P : ℕ → Type 0 = λ n. r.none (rest_of n fed) in
+    let track = follows_last fed u.start u.handed u.begun u.epochs u.aligned (reported ++ track_events_of us) outcome last (omega arith) (subst P (sym es) settled.endless) is_last follows in
+    let both : (reported ++ track_events_of us) ++ track_events_of last ≡ reported ++ track_events_of (us ++ last) =
+    append_assoc reported (track_events_of us) (track_events_of last) ∙ ap (λ ts. reported ++ ts) (sym (track_events_both us last)) in
+    let Q : ℕ → Type 0 = λ n. IsTrackOf told r fed n (u.aligned + one_if outcome.aligned) ((reported ++ track_events_of us) ++ track_events_of last) in
+    let R : ℕ → Type 0 = λ n. IsTrackOf told r fed v.epochs n ((reported ++ track_events_of us) ++ track_events_of last) in
+    let S : List (TrackEventOf T) → Type 0 = λ ts. IsTrackOf told r fed v.epochs v.aligned ts in
+    subst S both (subst R (sym em) (subst Q (sym en) track))
+
 pub tracks_all : {W : Type 0} {r : EpochRule} {looked : W → Fed → Type 0} {passed : W → ℕ} (t u v : Tracker) (w : W) (fed : Fed) (reported : List TrackEvent) (outcome : Outcome) (us last : List Event) (longest : ℕ) → IsSettled r looked passed t w fed reported
     → longest ≡ max (length t.lanes.blue.held.bits) (max (length t.lanes.green.held.bits) (length t.lanes.red.held.bits))
     → IsGain (front_of t.handed (rest_of t.start fed)) (front_of (t.handed + longest) (rest_of t.start fed)) us → IsLast (front_of u.handed (rest_of u.start fed)) outcome last
     → u.start ≡ t.start → u.handed ≡ t.handed + longest → u.begun ≡ t.begun → u.epochs ≡ t.epochs → u.aligned ≡ t.aligned
     → v.epochs ≡ u.epochs + 1 → v.aligned ≡ u.aligned + one_if outcome.aligned
     → IsTrackBy r fed v.epochs v.aligned (reported ++ track_events_of (us ++ last))
-tracks_all {W} {r} t u v w fed reported outcome us last longest settled most gain is_last es eh eb ee ea en em =
-    let all = longest_held t fed settled.stands.carries in
-    let follows = follows_reached t u fed longest reported us gain es eh eb ee ea settled.stands.follows in
-    let P : ℕ → Type 0 = λ n. r.none (rest_of n fed) in
-    let track = follows_last fed u.start u.handed u.begun u.epochs u.aligned (reported ++ track_events_of us) outcome last (omega arith) (subst P (sym es) settled.endless) is_last follows in
-    grind (arith, append_assoc, track_events_both)
+tracks_all t u v w fed reported outcome us last longest settled most gain is_last es eh eb ee ea en em =
+    tells_all t u v w fed reported reported outcome us last longest settled settled.stands.follows most gain is_last es eh eb ee ea en em
 
 -- What a settled tracker has reported.
 
@@ -144,10 +162,9 @@ early_of {W} {r} {looked} {passed} watch t w fed c looked_on =
       | inr far ↦ longest_is (rest_of t.start fed) ((t.handed ≡ 0) ⊎ ((l : ℕ) × (l < 3) × (t.handed + r.back ≤ length (lane_of (rest_of t.start fed) l)))) (λ l lt e. inr (l, lt, omega arith))
     ]
 
-pub settled_tracks : {W : Type 0} {r : EpochRule} {looked : W → Fed → Type 0} {passed : W → ℕ} → IsWatch r looked passed → (t : Tracker) (w : W) (fed : Fed) (reported : List TrackEvent) → IsSettled r looked passed t w fed reported
-    → HasTrackedBy r fed reported
-settled_tracks watch t w fed reported s =
-    let f = s.stands.follows in
+pub settled_tells : {T W : Type 0} {told : Reporting T} {r : EpochRule} {looked : W → Fed → Type 0} {passed : W → ℕ} → IsWatch r looked passed → (t : Tracker) (w : W) (fed : Fed) (events : List TrackEvent) (reported : List (TrackEventOf T)) → IsSettled r looked passed t w fed events
+    → HasReportedOf told r t fed reported → HasTrackedOf told r fed reported
+settled_tells watch t w fed events reported s f =
     let c = s.stands.carries in
     let all = s.all in
     let near = s.near in
@@ -161,6 +178,7 @@ settled_tracks watch t w fed reported s =
         closed = f.closed;
         events = f.events;
         goes_on = f.goes_on;
+        so_far_on = f.so_far_on;
         endless = s.endless;
         whole = s.stands.whole;
         held = λ l lt. let h = rest_no_longer fed t.start l (started t fed c) in omega arith;
@@ -169,6 +187,41 @@ settled_tracks watch t w fed reported s =
         reported_are = f.reported_are;
       };
     }
+
+pub settled_tracks : {W : Type 0} {r : EpochRule} {looked : W → Fed → Type 0} {passed : W → ℕ} → IsWatch r looked passed → (t : Tracker) (w : W) (fed : Fed) (reported : List TrackEvent) → IsSettled r looked passed t w fed reported
+    → HasTrackedBy r fed reported
+settled_tracks watch t w fed reported s = settled_tells watch t w fed reported reported s s.stands.follows
+
+-- what was reported of lanes that go on
+pub tracks_so_far : {T : Type 0} {told : Reporting T} {r : EpochRule} (fed : Fed) (start handed : ℕ) (begun : Bool) (reported : List (TrackEventOf T)) → TracksOf told r fed start handed begun reported
+    → IsTrackedSoFar told r false 0 fed reported
+tracks_so_far {T} {told} {r} fed start handed begun reported t =
+    let rest = rest_of start fed in
+    let heard : IsHeardTo r rest handed = record {
+      endless = t.endless;
+      whole = t.whole;
+      held = longest_is rest (most_of rest ≤ handed + (r.back + 7)) (λ l lt e. let h = t.held l lt in omega arith);
+      early = elim t.early [ inl none ↦ inl none | inr far ↦ let h = no_longer rest far.0 in let le = far.2 in inr (omega arith) ];
+    } in
+    subst (λ (us : List (TrackEventOf T)). IsTrackedSoFar told r false 0 fed us) (sym t.reported_are)
+    (t.so_far_on fed (same_grows fed) (track_events_of t.events) (open_epoch begun start rest handed t.events heard t.so_far))
+
+pub has_so_far : {T : Type 0} {told : Reporting T} {r : EpochRule} (fed : Fed) (reported : List (TrackEventOf T)) → HasTrackedOf told r fed reported → IsTrackedSoFar told r false 0 fed reported
+has_so_far fed reported h = tracks_so_far fed h.start h.handed h.begun reported h.tracks
+
+-- a sink that was fed no bits
+pub first_represents : {W : Type 0} {r : EpochRule} {looked : W → Fed → Type 0} {passed : W → ℕ} → IsWatch r looked passed → (sink : EpochSinkSeen W) → IsSettled r looked passed sink.tracker sink.watch no_bits []
+    → EpochSinkRepresents r looked passed sink no_bits []
+first_represents watch sink settled = record { tracked = settled_tracks watch sink.tracker sink.watch no_bits [] settled; settled = settled }
+
+pub first_tells : {W : Type 0} {r : EpochRule} {looked : W → Fed → Type 0} {passed : W → ℕ} → IsWatch r looked passed → (sink : EpochSinkSeen W) → IsSettled r looked passed sink.tracker sink.watch no_bits []
+    → HasReportedAt r sink.tracker no_bits [] → EpochSinkTells r looked passed sink no_bits []
+first_tells watch sink settled reported = record {
+  tracked = has_so_far no_bits [] (settled_tells watch sink.tracker sink.watch no_bits [] [] settled reported);
+  reported_are = reported;
+  events = [];
+  represents = first_represents watch sink settled;
+}
 
 -- how many bits were fed of each lane
 pub fed_more : {W : Type 0} {r : EpochRule} {looked : W → Fed → Type 0} {passed : W → ℕ} (t u : Tracker) (w v : W) (fed : Fed) (reported now : List TrackEvent) (a b c bits : List ℕ) → IsSettled r looked passed t w fed reported → IsSettled r looked passed u v (grown fed a b c bits) now

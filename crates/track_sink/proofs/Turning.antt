@@ -1,36 +1,43 @@
 -- A tracker at the end of an epoch.
-use Rattle.std.proofs.Common.{◌≡◌, ◌↔◌, ℕ, ◌+◌, ◌-◌, ◌*◌, ◌<◌, ◌≤◌, Bool, true, false, ◌||◌, List, ◌++◌, drop, ap, ap₂, ◌∙◌, sym, subst, arith, inl, inr, append_assoc}
+use Rattle.std.proofs.Common.{◌≡◌, ℕ, ◌+◌, ◌-◌, ◌*◌, ◌<◌, ◌≤◌, Bool, true, false, ◌||◌, List, [], ◌++◌, drop, ap, ap₂, ◌∙◌, sym, subst, arith, inl, inr, append_assoc}
+use Rattle.std.specs.Prelude.{Result}
 use Rattle.lane_align.specs.declared.TheConstants.{FEED_BITS}
-use Rattle.outside_io.specs.Causes.{Rose}
+use Rattle.outside_io.specs.Causes.{Rose, HasCause}
 use Rattle.terc4.specs.Columns.{one_if}
-use Rattle.period_grammar.specs.Events.{Event}
-use Rattle.link_sink.specs.Sinks.{Fed, IsReportedSoFar, IsGain, IsLast}
+use Rattle.tmds_word.specs.Column.{Column}
+use Rattle.link_sink.specs.Sinks.{Fed, IsReportedOf, IsGainOf}
 use Rattle.link_sink.specs.Pieces.{no_bits}
 use Rattle.link_sink.specs.Streams.{SinkRepresents, bits_fed, most_bits}
 use Rattle.link_sink.specs.declared.hear.Outcome.{Outcome}
+use Rattle.link_sink.proofs.Stops.{on_err}
 use Rattle.track_sink.specs.Buffers.{HeldSeen}
-use Rattle.track_sink.specs.TrackEvents.{TrackEvent, track_events_of, end_events}
-use Rattle.track_sink.specs.Epochs.{EpochRule, most_of, rest_of, front_of}
+use Rattle.track_sink.specs.TrackEvents.{TrackEventOf, track_events_of, end_events}
+use Rattle.track_sink.specs.Epochs.{EpochRule, Reporting, most_of, rest_of, front_of}
 use Rattle.track_sink.specs.Rules.{IsRule}
-use Rattle.track_sink.specs.Trackers.{Follows, HasReported, HoldsRest, Carries, HasLooked, IsLane, CanClose, CanTurn}
-use Rattle.track_sink.specs.declared.lane.Lane.{Lane}
-use Rattle.track_sink.specs.declared.lanes.Lanes.{Lanes}
+use Rattle.track_sink.specs.Trackers.{FollowsOf, HasReportedOf, HoldsRest, Carries, HasLooked, IsLane, CanClose, CanTurn}
+use Rattle.track_sink.specs.declared.lane.HeldLane.{HeldLane}
+use Rattle.track_sink.specs.declared.lanes.HeldLanes.{HeldLanes}
 use Rattle.track_sink.specs.declared.tracker.Tracker.{Tracker}
 use Rattle.track_sink.specs.declared.watch.Cause.{Cause}
 use Rattle.track_sink.specs.declared.watch.Cause.TheVariants.{Slip, Unconfirmed, Refuted}
 use Rattle.track_sink.specs.declared.watch.End.{End}
 use Rattle.track_sink.specs.Feds.{most_rest}
-use Rattle.track_sink.proofs.Following.{follows_closed, follows_handed}
+use Rattle.track_sink.proofs.Following.{Gains, Ends, follows_closed, follows_handed}
 
 -- a count that rose later rose
-pub rose_after : (x y z : ℕ) → x ≤ y → Rose y z → Rose x z
+rose_after : (x y z : ℕ) → x ≤ y → Rose y z → Rose x z
 rose_after x y z le (inl less) = inl (omega arith)
 rose_after x y z le (inr most) = inr most
 
+-- a call that failed after others
+pub failed_after : {T E : Type 0} (x y z : ℕ) (r : Result T E) → x ≤ y → y ≤ z → Rose y z → HasCause x z r
+failed_after x y z r first later rose = record { later = omega arith; failed = on_err r (rose_after x y z first rose) }
+
 -- two gains, one after the other
-pub gains_both : (fed : Fed) (h m n : ℕ) (us vs : List Event) → IsGain (front_of h fed) (front_of m fed) us → IsGain (front_of m fed) (front_of n fed) vs → IsGain (front_of h fed) (front_of n fed) (us ++ vs)
-gains_both fed h m n us vs first second = λ reported is.
-    let P : List Event → Type 0 = λ ts. IsReportedSoFar (front_of n fed) ts in
+pub gains_both : {T : Type 0} (so_far : List Column → List T) (fed : Fed) (h m n : ℕ) (us vs : List T) → IsGainOf so_far (front_of h fed) (front_of m fed) us → IsGainOf so_far (front_of m fed) (front_of n fed) vs
+    → IsGainOf so_far (front_of h fed) (front_of n fed) (us ++ vs)
+gains_both {T} so_far fed h m n us vs first second = λ reported is.
+    let P : List T → Type 0 = λ ts. IsReportedOf so_far (front_of n fed) ts in
     subst P (append_assoc reported us vs) (second (reported ++ us) (first reported is))
 
 -- the place of an end in the capture
@@ -49,7 +56,7 @@ one_at_most true = omega arith
 one_at_most false = omega arith
 
 -- a lane at the beginning of an epoch
-rest_turned : (before now : Lane) (given later start handed from : ℕ) (xs : List Bool) → HoldsRest before given start handed xs → now.held ≡ before.held → now.fed ≡ before.fed → later ≡ 0 → from ≡ start + handed
+rest_turned : (before now : HeldLane) (given later start handed from : ℕ) (xs : List Bool) → HoldsRest before given start handed xs → now.held ≡ before.held → now.fed ≡ before.fed → later ≡ 0 → from ≡ start + handed
     → HoldsRest now later from 0 xs
 rest_turned before now given later start handed from xs was held fed none e = record {
   held = ap (λ (h : HeldSeen). h.bits) held ∙ was.held ∙ ap (λ n. drop n xs) (let k : start + handed ≡ from + 0 = omega arith in k);
@@ -77,9 +84,9 @@ carries_turned is t u w fed end b can opened stands none lanes es eh ee ea looke
       record {
         link_open = opened;
         link = subst S (sym eh) stands;
-        blue = subst P (sym eh) (rest_turned t.lanes.blue u.lanes.blue (bits_fed t.link 0) (bits_fed u.link 0) t.start t.handed u.start fed.blue c.blue (ap (λ (ls : Lanes). ls.blue.held) lanes) (ap (λ (ls : Lanes). ls.blue.fed) lanes) (omega arith) es);
-        green = subst Q (sym eh) (rest_turned t.lanes.green u.lanes.green (bits_fed t.link 1) (bits_fed u.link 1) t.start t.handed u.start fed.green c.green (ap (λ (ls : Lanes). ls.green.held) lanes) (ap (λ (ls : Lanes). ls.green.fed) lanes) (omega arith) es);
-        red = subst R (sym eh) (rest_turned t.lanes.red u.lanes.red (bits_fed t.link 2) (bits_fed u.link 2) t.start t.handed u.start fed.red c.red (ap (λ (ls : Lanes). ls.red.held) lanes) (ap (λ (ls : Lanes). ls.red.fed) lanes) (omega arith) es);
+        blue = subst P (sym eh) (rest_turned t.lanes.blue u.lanes.blue (bits_fed t.link 0) (bits_fed u.link 0) t.start t.handed u.start fed.blue c.blue (ap (λ (ls : HeldLanes). ls.blue.held) lanes) (ap (λ (ls : HeldLanes). ls.blue.fed) lanes) (omega arith) es);
+        green = subst Q (sym eh) (rest_turned t.lanes.green u.lanes.green (bits_fed t.link 1) (bits_fed u.link 1) t.start t.handed u.start fed.green c.green (ap (λ (ls : HeldLanes). ls.green.held) lanes) (ap (λ (ls : HeldLanes). ls.green.fed) lanes) (omega arith) es);
+        red = subst R (sym eh) (rest_turned t.lanes.red u.lanes.red (bits_fed t.link 2) (bits_fed u.link 2) t.start t.handed u.start fed.red c.red (ap (λ (ls : HeldLanes). ls.red.held) lanes) (ap (λ (ls : HeldLanes). ls.red.fed) lanes) (omega arith) es);
         within = omega arith;
         small = c.small;
         few = omega arith;
@@ -89,48 +96,48 @@ carries_turned is t u w fed end b can opened stands none lanes es eh ee ea looke
     )
 
 -- what was reported, at places that are equal
-pub follows_at : {r : EpochRule} (fed : Fed) (s t h k : ℕ) (b d : Bool) (e f a c : ℕ) (reported : List TrackEvent) → t ≡ s → k ≡ h → d ≡ b → f ≡ e → c ≡ a → Follows r fed s h b e a reported → Follows r fed t k d f c reported
-follows_at {r} fed s t h k b d e f a c reported es eh eb ee ea was =
-    let P : ℕ → Type 0 = λ n. Follows r fed n h b e a reported in
-    let Q : ℕ → Type 0 = λ n. Follows r fed t n b e a reported in
-    let R : Bool → Type 0 = λ n. Follows r fed t k n e a reported in
-    let S : ℕ → Type 0 = λ n. Follows r fed t k d n a reported in
-    let T : ℕ → Type 0 = λ n. Follows r fed t k d f n reported in
+pub follows_at : {T : Type 0} {told : Reporting T} {r : EpochRule} (fed : Fed) (s t h k : ℕ) (b d : Bool) (e f a c : ℕ) (reported : List (TrackEventOf T)) → t ≡ s → k ≡ h → d ≡ b → f ≡ e → c ≡ a → FollowsOf told r fed s h b e a reported → FollowsOf told r fed t k d f c reported
+follows_at {T} {told} {r} fed s t h k b d e f a c reported es eh eb ee ea was =
+    let P : ℕ → Type 0 = λ n. FollowsOf told r fed n h b e a reported in
+    let Q : ℕ → Type 0 = λ n. FollowsOf told r fed t n b e a reported in
+    let R : Bool → Type 0 = λ n. FollowsOf told r fed t k n e a reported in
+    let S : ℕ → Type 0 = λ n. FollowsOf told r fed t k d n a reported in
+    let T : ℕ → Type 0 = λ n. FollowsOf told r fed t k d f n reported in
     subst T (sym ea) (subst S (sym ee) (subst R (sym eb) (subst Q (sym eh) (subst P (sym es) was))))
 
 -- what is reported at the end of an epoch
-pub follows_turned : {r : EpochRule} → IsRule r → (t u : Tracker) (fed : Fed) (end : End) (reported : List TrackEvent) (outcome : Outcome) (last : List Event) → CanTurn r t fed end
-    → IsLast (front_of t.handed (rest_of t.start fed)) outcome last
+pub follows_turned : {T : Type 0} {told : Reporting T} {r : EpochRule} → told.so_far no_bits [] → IsRule r → (t u : Tracker) (fed : Fed) (end : End) (reported : List (TrackEventOf T)) (outcome : Outcome) (last : List T) → CanTurn r t fed end
+    → Ends told (front_of t.handed (rest_of t.start fed)) outcome last
     → u.start ≡ t.start + t.handed → u.handed ≡ 0 → u.begun ≡ (t.begun || outcome.aligned) → u.epochs ≡ t.epochs + 1 → u.aligned ≡ t.aligned + one_if outcome.aligned
-    → HasReported r t fed reported
-    → HasReported r u fed (reported ++ (track_events_of last ++ end_events u.begun end.cause u.start))
-follows_turned {r} is t u fed end reported outcome last can is_last es eh eb ee ea was =
+    → HasReportedOf told r t fed reported
+    → HasReportedOf told r u fed (reported ++ (track_events_of last ++ end_events u.begun end.cause u.start))
+follows_turned {T} {told} {r} none is t u fed end reported outcome last can is_last es eh eb ee ea was =
     let reached : t.start ≤ most_of fed = let w = can.carries.within in omega arith in
     let ends : r.ends (rest_of t.start fed) end.cause t.handed = let P : ℕ → Type 0 = λ n. r.ends (rest_of t.start fed) end.cause n in subst P (sym can.here) can.ends in
-    let closed = follows_closed is fed t.start t.handed end.cause t.begun t.epochs t.aligned reported outcome last reached ends is_last was in
+    let closed = follows_closed none is fed t.start t.handed end.cause t.begun t.epochs t.aligned reported outcome last reached ends is_last was in
     let here = follows_at fed (t.start + t.handed) u.start 0 u.handed (t.begun || outcome.aligned) u.begun (t.epochs + 1) u.epochs (t.aligned + one_if outcome.aligned) u.aligned _ es eh eb ee ea closed in
-    let e : end_events (t.begun || outcome.aligned) end.cause (t.start + t.handed) ≡ end_events u.begun end.cause u.start = ap₂ (λ b n. end_events b end.cause n) (sym eb) (sym es) in
-    let P : List TrackEvent → Type 0 = λ es. HasReported r u fed (reported ++ (track_events_of last ++ es)) in
+    let e : end_events {T = T} (t.begun || outcome.aligned) end.cause (t.start + t.handed) ≡ end_events u.begun end.cause u.start = ap₂ (λ b n. end_events {T = T} b end.cause n) (sym eb) (sym es) in
+    let P : List (TrackEventOf T) → Type 0 = λ es. HasReportedOf told r u fed (reported ++ (track_events_of last ++ es)) in
     subst P e here
 
 -- An ear that takes events.
 
-module _ {A : Type 0} (took : A → A → List Event → Type 0) (tracked : A → A → List TrackEvent → Type 0) (events : (x y : A) (h : List Event) → took x y h ↔ tracked x y (track_events_of h))
-    (both : (x y z : A) (h k : List TrackEvent) → tracked x y h → tracked y z k → tracked x z (h ++ k)) where
+module _ {A T : Type 0} (took : A → A → List T → Type 0) (tracked : A → A → List (TrackEventOf T) → Type 0) (events : (x y : A) (h : List T) → took x y h → tracked x y (track_events_of h))
+    (both : (x y z : A) (h k : List (TrackEventOf T)) → tracked x y h → tracked y z k → tracked x z (h ++ k)) where
   -- events, and then events
-  pub took_then : (x y z : A) (us : List Event) (es : List TrackEvent) → took x y us → tracked y z es → tracked x z (track_events_of us ++ es)
-  took_then x y z us es t s = both x y z (track_events_of us) es ((events x y us).0 t) s
+  pub took_then : (x y z : A) (us : List T) (es : List (TrackEventOf T)) → took x y us → tracked y z es → tracked x z (track_events_of us ++ es)
+  took_then x y z us es t s = both x y z (track_events_of us) es (events x y us t) s
 
 -- bits that are handed on in two parts
-pub gains_two : (fed : Fed) (start from h on a b bits : ℕ) (us vs : List Event) → from ≡ start → on ≡ h + a → a + b ≡ bits
-    → IsGain (front_of h (rest_of start fed)) (front_of (h + a) (rest_of start fed)) us → IsGain (front_of on (rest_of from fed)) (front_of (on + b) (rest_of from fed)) vs
-    → IsGain (front_of h (rest_of start fed)) (front_of (h + bits) (rest_of start fed)) (us ++ vs)
-gains_two fed start from h on a b bits us vs es eo eb first second =
-    let P : ℕ → Type 0 = λ n. IsGain (front_of on (rest_of n fed)) (front_of (on + b) (rest_of n fed)) vs in
-    let Q : ℕ → Type 0 = λ n. IsGain (front_of n (rest_of start fed)) (front_of (n + b) (rest_of start fed)) vs in
-    let R : ℕ → Type 0 = λ n. IsGain (front_of (h + a) (rest_of start fed)) (front_of n (rest_of start fed)) vs in
+pub gains_two : {T : Type 0} (so_far : List Column → List T) (fed : Fed) (start from h on a b bits : ℕ) (us vs : List T) → from ≡ start → on ≡ h + a → a + b ≡ bits
+    → IsGainOf so_far (front_of h (rest_of start fed)) (front_of (h + a) (rest_of start fed)) us → IsGainOf so_far (front_of on (rest_of from fed)) (front_of (on + b) (rest_of from fed)) vs
+    → IsGainOf so_far (front_of h (rest_of start fed)) (front_of (h + bits) (rest_of start fed)) (us ++ vs)
+gains_two so_far fed start from h on a b bits us vs es eo eb first second =
+    let P : ℕ → Type 0 = λ n. IsGainOf so_far (front_of on (rest_of n fed)) (front_of (on + b) (rest_of n fed)) vs in
+    let Q : ℕ → Type 0 = λ n. IsGainOf so_far (front_of n (rest_of start fed)) (front_of (n + b) (rest_of start fed)) vs in
+    let R : ℕ → Type 0 = λ n. IsGainOf so_far (front_of (h + a) (rest_of start fed)) (front_of n (rest_of start fed)) vs in
     let k : h + a + b ≡ h + bits = omega arith in
-    gains_both (rest_of start fed) h (h + a) (h + bits) us vs first (subst R k (subst Q eo (subst P es second)))
+    gains_both so_far (rest_of start fed) h (h + a) (h + bits) us vs first (subst R k (subst Q eo (subst P es second)))
 
 -- Closing.
 
@@ -149,12 +156,12 @@ close_room is t fed end can =
     let few = is.few in
     (omega arith, omega arith)
 
-pub follows_reached : {r : EpochRule} (t u : Tracker) (fed : Fed) (bits : ℕ) (reported : List TrackEvent) (us : List Event) → IsGain (front_of t.handed (rest_of t.start fed)) (front_of (t.handed + bits) (rest_of t.start fed)) us
+pub follows_reached : {T : Type 0} {told : Reporting T} {r : EpochRule} (t u : Tracker) (fed : Fed) (bits : ℕ) (reported : List (TrackEventOf T)) (us : List T) → Gains told (front_of t.handed (rest_of t.start fed)) (front_of (t.handed + bits) (rest_of t.start fed)) us
     → u.start ≡ t.start → u.handed ≡ t.handed + bits → u.begun ≡ t.begun → u.epochs ≡ t.epochs → u.aligned ≡ t.aligned
-    → HasReported r t fed reported → HasReported r u fed (reported ++ track_events_of us)
+    → HasReportedOf told r t fed reported → HasReportedOf told r u fed (reported ++ track_events_of us)
 follows_reached t u fed bits reported us gain es eh eb ee ea was =
     follows_at fed t.start u.start (t.handed + bits) u.handed t.begun u.begun t.epochs u.epochs t.aligned u.aligned (reported ++ track_events_of us) es eh eb ee ea
     (follows_handed fed t.start t.handed bits t.begun t.epochs t.aligned reported us gain was)
 
-pub follows_then : {r : EpochRule} (t : Tracker) (fed : Fed) (reported us vs : List TrackEvent) → HasReported r t fed ((reported ++ us) ++ vs) → HasReported r t fed (reported ++ (us ++ vs))
-follows_then {r} t fed reported us vs was = let P : List TrackEvent → Type 0 = λ es. HasReported r t fed es in subst P (append_assoc reported us vs) was
+pub follows_then : {T : Type 0} {told : Reporting T} {r : EpochRule} (t : Tracker) (fed : Fed) (reported us vs : List (TrackEventOf T)) → HasReportedOf told r t fed ((reported ++ us) ++ vs) → HasReportedOf told r t fed (reported ++ (us ++ vs))
+follows_then {T} {told} {r} t fed reported us vs was = let P : List (TrackEventOf T) → Type 0 = λ es. HasReportedOf told r t fed es in subst P (append_assoc reported us vs) was

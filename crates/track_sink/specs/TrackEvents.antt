@@ -1,31 +1,44 @@
 -- What a tracker reports: events, and between them slips and alignments that were refuted.
 use Rattle.std.specs.Prelude.{ℕ, Bool, true, false, List, [], ◌∷◌, map}
-use Rattle.period_grammar.specs.Events.{Event}
+use Rattle.period_grammar.specs.Events.{Event, EventAt, event_of}
 use Rattle.track_sink.specs.declared.watch.Cause.{Cause}
 use Rattle.track_sink.specs.declared.watch.Cause.TheVariants.{Slip, Unconfirmed, Refuted}
 
-pub data TrackEvent : Type 0 where
-  event : Event → TrackEvent
+-- an event of a link is told as a T: alone, or with the column of its epoch
+pub data TrackEventOf (T : Type 0) : Type 0 where
+  event : T → TrackEventOf T
   -- a lane lost its characters' places: the lane, and the place of the capture at which the search begins anew
-  slip : ℕ → ℕ → TrackEvent
+  slip : ℕ → ℕ → TrackEventOf T
   -- an alignment was refuted: the place of the capture at which the search begins anew
-  relock : ℕ → TrackEvent
+  relock : ℕ → TrackEventOf T
 
-abbrev pub track_events_of : List Event → List TrackEvent
+abbrev pub TrackEvent : Type 0
+TrackEvent = TrackEventOf Event
+
+abbrev pub TrackEventAt : Type 0
+TrackEventAt = TrackEventOf EventAt
+
+abbrev pub track_events_of : {T : Type 0} → List T → List (TrackEventOf T)
 track_events_of events = map event events
 
+-- without the columns
+abbrev pub track_event_of : TrackEventAt → TrackEvent
+track_event_of (event t) = event (event_of t)
+track_event_of (slip lane place) = slip lane place
+track_event_of (relock place) = relock place
+
 -- a slip is reported only once there was an alignment
-abbrev pub slip_if : Bool → ℕ → ℕ → List TrackEvent
+abbrev pub slip_if : {T : Type 0} → Bool → ℕ → ℕ → List (TrackEventOf T)
 slip_if true lane place = slip lane place ∷ []
 slip_if false lane place = []
 
 -- so is a refuted alignment, and an epoch that ends for one has had it
-abbrev pub relock_if : Bool → ℕ → List TrackEvent
+abbrev pub relock_if : {T : Type 0} → Bool → ℕ → List (TrackEventOf T)
 relock_if true place = relock place ∷ []
 relock_if false place = []
 
 -- of an alignment that is not confirmed nothing is reported
-abbrev pub end_events : Bool → Cause → ℕ → List TrackEvent
+abbrev pub end_events : {T : Type 0} → Bool → Cause → ℕ → List (TrackEventOf T)
 end_events begun (Slip lane) place = slip_if begun lane place
 end_events begun Unconfirmed place = []
 end_events begun Refuted place = relock_if begun place

@@ -1,11 +1,11 @@
 -- What a sink of lanes that are heard epoch after epoch stands for.
 use Rattle.std.specs.Prelude.{◌≡◌, ℕ, Bool, true, List}
 use Rattle.link_sink.specs.Sinks.{Fed}
-use Rattle.track_sink.specs.TrackEvents.{TrackEvent}
+use Rattle.track_sink.specs.TrackEvents.{TrackEvent, TrackEventAt}
 use Rattle.track_sink.specs.Epochs.{EpochRule, stray_rule}
 use Rattle.track_sink.specs.Seeking.{IsSought}
-use Rattle.track_sink.specs.Trackers.{lane_fed, most_fed, IsSettled}
-use Rattle.track_sink.specs.Tracks.{HasTrackedBy}
+use Rattle.track_sink.specs.Trackers.{lane_fed, most_fed, HasReportedAt, IsSettled}
+use Rattle.track_sink.specs.Tracks.{HasTrackedBy, HasTrackedAt}
 use Rattle.track_sink.specs.declared.strays.Strays.{Strays}
 use Rattle.track_sink.specs.declared.tracker.Tracker.{Tracker}
 
@@ -20,6 +20,13 @@ pub record EpochSinkSeen (W : Type 0) : Type 0 where
 pub record EpochSinkRepresents {W : Type 0} (r : EpochRule) (looked : W → Fed → Type 0) (passed : W → ℕ) (sink : EpochSinkSeen W) (fed : Fed) (reported : List TrackEvent) : Type 0 where
   pub tracked : HasTrackedBy r fed reported
   pub settled : IsSettled r looked passed sink.tracker sink.watch fed reported
+
+-- the same of events each of which has its column
+pub record EpochSinkTells {W : Type 0} (r : EpochRule) (looked : W → Fed → Type 0) (passed : W → ℕ) (sink : EpochSinkSeen W) (fed : Fed) (reported : List TrackEventAt) : Type 0 where
+  pub tracked : HasTrackedAt r fed reported
+  pub reported_are : HasReportedAt r sink.tracker fed reported
+  pub events : List TrackEvent
+  pub represents : EpochSinkRepresents r looked passed sink fed events
 
 -- the same where epochs end at strays
 abbrev pub TrackSinkSeen : Type 0

@@ -2,18 +2,17 @@
 -- that it reported.
 use Rattle.std.specs.Prelude.{◌≡◌, ◌⊎◌, ⊤, ℕ, ◌+◌, ◌-◌, ◌%◌, ◌<◌, ◌≤◌, max, min, Bool, true, false, List, ◌∷◌, ◌++◌, length, drop}
 use Rattle.std.proofs.Common.{suc, zero}
-use Rattle.period_grammar.specs.Events.{Event}
 use Rattle.tmds_word.specs.declared.TheConstants.{MOST_BITS}
 use Rattle.lane_align.specs.declared.TheConstants.{FEED_BITS}
-use Rattle.link_sink.specs.Sinks.{Fed, IsReportedSoFar}
+use Rattle.link_sink.specs.Sinks.{Fed}
 use Rattle.link_sink.specs.Pieces.{no_bits}
 use Rattle.link_sink.specs.Streams.{SinkSeen, SinkRepresents, bits_fed, most_bits}
-use Rattle.track_sink.specs.TrackEvents.{TrackEvent, track_events_of}
-use Rattle.track_sink.specs.Epochs.{EpochRule, most_of, rest_of, front_of, IsTrackedBy, IsTrackBy}
-use Rattle.track_sink.specs.Tracks.{Grows}
+use Rattle.track_sink.specs.TrackEvents.{TrackEventOf, TrackEvent, TrackEventAt, track_events_of}
+use Rattle.track_sink.specs.Epochs.{EpochRule, Reporting, alone, at_columns, most_of, rest_of, front_of, IsTrackedOf, IsTrackOf}
+use Rattle.track_sink.specs.Tracks.{Grows, IsTrackedSoFar}
 use Rattle.track_sink.specs.Lanes.{AreFresh}
-use Rattle.track_sink.specs.declared.lane.Lane.{Lane}
-use Rattle.track_sink.specs.declared.lanes.Lanes.{Lanes}
+use Rattle.track_sink.specs.declared.lane.HeldLane.{HeldLane}
+use Rattle.track_sink.specs.declared.lanes.HeldLanes.{HeldLanes}
 use Rattle.track_sink.specs.declared.tracker.Tracker.{Tracker}
 use Rattle.track_sink.specs.declared.watch.Cause.{Cause}
 use Rattle.track_sink.specs.declared.watch.Cause.TheVariants.{Slip, Unconfirmed, Refuted}
@@ -21,22 +20,35 @@ use Rattle.track_sink.specs.declared.watch.End.{End}
 
 -- these events are reported: so many epochs are closed, so many of them aligned, the next begins at a place, and of
 -- that one so many bits of each lane were handed on
-pub record Follows (r : EpochRule) (fed : Fed) (start handed : ℕ) (begun : Bool) (epochs aligned : ℕ) (reported : List TrackEvent) : Type 0 where
-  pub closed : List TrackEvent
-  pub events : List Event
+pub record FollowsOf {T : Type 0} (told : Reporting T) (r : EpochRule) (fed : Fed) (start handed : ℕ) (begun : Bool) (epochs aligned : ℕ) (reported : List (TrackEventOf T)) : Type 0 where
+  pub closed : List (TrackEventOf T)
+  pub events : List T
   -- whatever follows, the epochs before are closed
   pub goes_on :
       (later : Fed) → Grows fed later
-      → (n m : ℕ) (rest : List TrackEvent) → IsTrackedBy r begun start (rest_of start later) n m rest → IsTrackBy r later (epochs + n) (aligned + m) (closed ++ rest)
-  pub so_far : IsReportedSoFar (front_of handed (rest_of start fed)) events
+      → (n m : ℕ) (rest : List (TrackEventOf T)) → IsTrackedOf told r begun start (rest_of start later) n m rest → IsTrackOf told r later (epochs + n) (aligned + m) (closed ++ rest)
+  pub so_far_on :
+      (later : Fed) → Grows fed later
+      → (rest : List (TrackEventOf T)) → IsTrackedSoFar told r begun start (rest_of start later) rest → IsTrackedSoFar told r false 0 later (closed ++ rest)
+  pub so_far : told.so_far (front_of handed (rest_of start fed)) events
   pub reported_are : reported ≡ closed ++ track_events_of events
 
+abbrev pub Follows : EpochRule → Fed → ℕ → ℕ → Bool → ℕ → ℕ → List TrackEvent → Type 0
+Follows r fed start handed begun epochs aligned reported = FollowsOf alone r fed start handed begun epochs aligned reported
+
 -- a tracker has reported them
+abbrev pub HasReportedOf : {T : Type 0} → Reporting T → EpochRule → Tracker → Fed → List (TrackEventOf T) → Type 0
+HasReportedOf told r t fed reported = FollowsOf told r fed t.start t.handed t.begun t.epochs t.aligned reported
+
 abbrev pub HasReported : EpochRule → Tracker → Fed → List TrackEvent → Type 0
-HasReported r t fed reported = Follows r fed t.start t.handed t.begun t.epochs t.aligned reported
+HasReported r t fed reported = HasReportedOf alone r t fed reported
+
+-- each at its column
+abbrev pub HasReportedAt : EpochRule → Tracker → Fed → List TrackEventAt → Type 0
+HasReportedAt r t fed reported = HasReportedOf at_columns r t fed reported
 
 -- one that was fed no bit
-abbrev pub first_tracker : SinkSeen → Lanes → Tracker
+abbrev pub first_tracker : SinkSeen → HeldLanes → Tracker
 first_tracker link lanes = record { link = link; lanes = lanes; start = 0; handed = 0; begun = false; epochs = 0; aligned = 0 }
 
 pub record IsFirst (t : Tracker) : Type 0 where
@@ -47,7 +59,7 @@ pub record IsFirst (t : Tracker) : Type 0 where
   pub lanes : AreFresh t.lanes
 
 -- a lane holds the bits that are not handed on
-pub record HoldsRest (lane : Lane) (bits start handed : ℕ) (xs : List Bool) : Type 0 where
+pub record HoldsRest (lane : HeldLane) (bits start handed : ℕ) (xs : List Bool) : Type 0 where
   pub held : lane.held.bits ≡ drop (start + handed) xs
   pub fed : lane.fed ≡ length xs
   pub given : bits ≡ min handed (length xs - start)

@@ -1,9 +1,10 @@
 //! How a link is fed: by workers where the bits are many, or by the caller's own thread.
 ghost use Rattle.std.specs.Prelude.{◌≡◌, List, true, OnOk, OnErr};
 ghost use Rattle.outside_io.specs.Causes.{HasCause};
-ghost use Rattle.period_grammar.specs.Events.{Event};
+ghost use Rattle.period_grammar.specs.Events.{Event, EventAt};
 ghost use Rattle.link_sink.specs.Ears.{StopsIn};
-ghost use Rattle.link_sink.specs.Sinks.{Fed, grown_by, IsGain};
+ghost use Rattle.link_sink.specs.Grammar.{link_grammar};
+ghost use Rattle.link_sink.specs.Sinks.{Fed, grown_by, IsGain, IsGainAt};
 ghost use Rattle.link_sink.specs.Received.{CanFeedLanes, AreFedMore};
 ghost use Rattle.link_sink.specs.Streams.{SinkRepresents, bits_fed, most_bits};
 
@@ -13,7 +14,7 @@ use std::thread::Threads;
 use tmds_word::LaneBits;
 
 /// Feeds a link.
-pub(crate) trait Feeds {
+pub(crate) trait FeedsLink {
     /// Feeds a link the bits of each lane, and reports to the ear what they decide.
     fn feed<E: Ear>(
         &self,
@@ -28,6 +29,8 @@ pub(crate) trait Feeds {
         ensures fed { (fed : Fed) → SinkRepresents link.old fed → OnOk result (SinkRepresents link.new (grown_by fed lanes.entry)) }
         ensures reported { (fed : Fed) → SinkRepresents link.old fed
             → OnOk result ((events : List Event) × IsGain fed (grown_by fed lanes.entry) events × E.took ear.old ear.new events) }
+        ensures reported_at { (fed : Fed) → SinkRepresents link.old fed
+            → OnOk result ((events : List EventAt) × IsGainAt link_grammar fed (grown_by fed lanes.entry) events × E.took_at ear.old ear.new events) }
         ensures stopped { (fed : Fed) → SinkRepresents link.old fed
             → OnErr result ((events : List Event) × IsGain fed (grown_by fed lanes.entry) events × StopsIn E.took E.broke ear.old ear.new events) }
         ensures cause { HasCause (E.faults ear.old) (E.faults ear.new) result };
@@ -35,11 +38,11 @@ pub(crate) trait Feeds {
 
 /// By a worker of each lane where the bits are many.
 #[derive(Drop)]
-pub(crate) struct ByWorkers<'a, R: Threads> {
+pub(crate) struct LinkByWorkers<'a, R: Threads> {
     pub(crate) rt: &'a R,
 }
 
-impl<R: Threads> Feeds for ByWorkers<'_, R> {
+impl<R: Threads> FeedsLink for LinkByWorkers<'_, R> {
     fn feed<E: Ear>(
         &self,
         link: &mut LinkSink,
@@ -52,9 +55,9 @@ impl<R: Threads> Feeds for ByWorkers<'_, R> {
 
 /// One lane after another, by the caller's own thread.
 #[derive(Drop)]
-pub(crate) struct InTurn;
+pub(crate) struct LinkInTurn;
 
-impl Feeds for InTurn {
+impl FeedsLink for LinkInTurn {
     fn feed<E: Ear>(
         &self,
         link: &mut LinkSink,

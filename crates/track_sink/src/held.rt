@@ -54,6 +54,16 @@ impl Held {
         })
     }
 
+    /// Drops all that it holds.
+    pub(crate) fn clear(&mut self)
+        ensures { self.new.bits ≡ [] }
+    {
+        self.start = 0;
+        self.count = 0;
+        self.border = 0;
+        self.released = 0;
+    }
+
     /// How many bits it holds.
     pub(crate) fn len(&self) -> u32
         ensures len { result ≡ length self.now.bits }

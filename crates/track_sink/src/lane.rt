@@ -9,23 +9,32 @@ use std::alloc::Global;
 
 /// A lane of an epoch.
 #[derive(Drop)]
-pub(crate) struct Lane {
+pub(crate) struct HeldLane {
     /// The epoch's bits from the first one on that is not handed on, and those that are handed on next.
     pub(crate) held: Held,
     /// How many bits were fed in all epochs.
     pub(crate) fed: u64,
 }
 
-impl Lane {
+impl HeldLane {
     /// A lane to which no bit was fed.
-    pub(crate) fn open(alloc: Global) -> Result<Lane, NoMemory>
+    pub(crate) fn open(alloc: Global) -> Result<HeldLane, NoMemory>
         ensures held { IfOk result (λ lane. lane.held.bits ≡ []) }
         ensures fed { IfOk result (λ lane. lane.fed ≡ 0) }
     {
-        Ok(Lane {
+        Ok(HeldLane {
             held: Held::open(alloc)?,
             fed: 0,
         })
+    }
+
+    /// Makes it as after `open`.
+    pub(crate) fn clear(&mut self)
+        ensures held { self.new.held.bits ≡ [] }
+        ensures fed { self.new.fed ≡ 0 }
+    {
+        self.held.clear();
+        self.fed = 0;
     }
 
     /// Appends bits.

@@ -7,29 +7,38 @@ ghost use Rattle.track_sink.specs.Lanes.{AreFresh, AreHeld, IsReleased};
 ghost use Rattle.track_sink.specs.Lents.{AreLent};
 
 use crate::ROOM_BITS;
-use crate::lane::Lane;
+use crate::lane::HeldLane;
 use crate::watch::LentLanes;
 use outside_io::NoMemory;
 use std::alloc::Global;
 
 /// Three lanes.
 #[derive(Drop)]
-pub(crate) struct Lanes {
-    pub(crate) blue: Lane,
-    pub(crate) green: Lane,
-    pub(crate) red: Lane,
+pub(crate) struct HeldLanes {
+    pub(crate) blue: HeldLane,
+    pub(crate) green: HeldLane,
+    pub(crate) red: HeldLane,
 }
 
-impl Lanes {
+impl HeldLanes {
     /// Lanes to which no bit was fed.
-    pub(crate) fn open(alloc: Global) -> Result<Lanes, NoMemory>
+    pub(crate) fn open(alloc: Global) -> Result<HeldLanes, NoMemory>
         ensures { IfOk result AreFresh }
     {
-        Ok(Lanes {
-            blue: Lane::open(alloc)?,
-            green: Lane::open(alloc)?,
-            red: Lane::open(alloc)?,
+        Ok(HeldLanes {
+            blue: HeldLane::open(alloc)?,
+            green: HeldLane::open(alloc)?,
+            red: HeldLane::open(alloc)?,
         })
+    }
+
+    /// Makes them as after `open`.
+    pub(crate) fn clear(&mut self)
+        ensures { AreFresh self.new }
+    {
+        self.blue.clear();
+        self.green.clear();
+        self.red.clear();
     }
 
     /// How many bits the lane holds that holds the most.

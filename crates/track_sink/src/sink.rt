@@ -4,13 +4,13 @@ ghost use Rattle.outside_io.specs.Causes.{HasCause};
 ghost use Rattle.link_sink.specs.Sinks.{Fed, grown_by};
 ghost use Rattle.link_sink.specs.Pieces.{no_bits};
 ghost use Rattle.link_sink.specs.Received.{CanFeedLanes, AreFedMore};
-ghost use Rattle.track_sink.specs.TrackEvents.{TrackEvent};
-ghost use Rattle.track_sink.specs.Epochs.{IsTrackBy};
+ghost use Rattle.track_sink.specs.TrackEvents.{TrackEvent, TrackEventAt};
+ghost use Rattle.track_sink.specs.Epochs.{IsTrackBy, IsTrackAt};
 ghost use Rattle.track_sink.specs.Tracks.{HasTrackedBy};
 ghost use Rattle.track_sink.specs.Trackers.{Stops};
-ghost use Rattle.track_sink.specs.TrackSinks.{EpochSinkRepresents, bits_fed, most_bits};
+ghost use Rattle.track_sink.specs.TrackSinks.{EpochSinkRepresents, EpochSinkTells, bits_fed, most_bits};
 
-use crate::feeding::{ByWorkers, Feeds, InTurn};
+use crate::feeding::{FeedsLink, LinkByWorkers, LinkInTurn};
 use crate::follower::Follower;
 use crate::strays::Strays;
 use crate::watch::Watch;
@@ -47,12 +47,24 @@ impl<W: Watch> EpochSink<W> {
     pub fn open(alloc: Global) -> Result<EpochSink<W>, NoMemory>
         ensures open { IfOk result (λ s. s.is_open ≡ true) }
         ensures fed { IfOk result (λ s. EpochSinkRepresents W.rule W.looked W.passed s no_bits []) }
+        ensures told { IfOk result (λ s. EpochSinkTells W.rule W.looked W.passed s no_bits []) }
         ensures bits { IfOk result (λ s. most_bits s ≡ 0) }
     {
         Ok(EpochSink {
             follower: Follower::open(alloc)?,
             is_open: true,
         })
+    }
+
+    /// Makes it as after `open`, also where it is spent or finished.
+    pub fn restart(&mut self)
+        ensures open { self.new.is_open ≡ true }
+        ensures fed { EpochSinkRepresents W.rule W.looked W.passed self.new no_bits [] }
+        ensures told { EpochSinkTells W.rule W.looked W.passed self.new no_bits [] }
+        ensures bits { most_bits self.new ≡ 0 }
+    {
+        self.follower.reopen();
+        self.is_open = true;
     }
 
     /// Whether it is neither spent nor finished.
@@ -81,12 +93,14 @@ impl<W: Watch> EpochSink<W> {
         ensures more { OnOk result (AreFedMore (bits_fed self.old) (bits_fed self.new) lanes.entry) }
         ensures reported { (fed : Fed) (reported : List TrackEvent) → EpochSinkRepresents W.rule W.looked W.passed self.old fed reported
             → OnOk result ((more : List TrackEvent) × E.tracked ear.old ear.new more × EpochSinkRepresents W.rule W.looked W.passed self.new (grown_by fed lanes.entry) (reported ++ more)) }
+        ensures reported_at { (fed : Fed) (reported : List TrackEventAt) → EpochSinkTells W.rule W.looked W.passed self.old fed reported
+            → OnOk result ((more : List TrackEventAt) × E.tracked_at ear.old ear.new more × EpochSinkTells W.rule W.looked W.passed self.new (grown_by fed lanes.entry) (reported ++ more)) }
         ensures stopped { (fed : Fed) (reported : List TrackEvent) → EpochSinkRepresents W.rule W.looked W.passed self.old fed reported
             → OnErr result ((more : List TrackEvent) × Stops E.tracked E.lost ear.old ear.new more × HasTrackedBy W.rule (grown_by fed lanes.entry) (reported ++ more)) }
         ensures spent { OnErr result (self.new.is_open ≡ false) }
         ensures cause { HasCause (E.faults ear.old) (E.faults ear.new) result }
     {
-        self.feed_by(&ByWorkers { rt }, lanes, ear)
+        self.feed_by(&LinkByWorkers { rt }, lanes, ear)
     }
 
     /// Takes the bits of each lane as `feed` does, one lane after another: by the caller's own thread, however many they
@@ -107,16 +121,18 @@ impl<W: Watch> EpochSink<W> {
         ensures more { OnOk result (AreFedMore (bits_fed self.old) (bits_fed self.new) lanes.entry) }
         ensures reported { (fed : Fed) (reported : List TrackEvent) → EpochSinkRepresents W.rule W.looked W.passed self.old fed reported
             → OnOk result ((more : List TrackEvent) × E.tracked ear.old ear.new more × EpochSinkRepresents W.rule W.looked W.passed self.new (grown_by fed lanes.entry) (reported ++ more)) }
+        ensures reported_at { (fed : Fed) (reported : List TrackEventAt) → EpochSinkTells W.rule W.looked W.passed self.old fed reported
+            → OnOk result ((more : List TrackEventAt) × E.tracked_at ear.old ear.new more × EpochSinkTells W.rule W.looked W.passed self.new (grown_by fed lanes.entry) (reported ++ more)) }
         ensures stopped { (fed : Fed) (reported : List TrackEvent) → EpochSinkRepresents W.rule W.looked W.passed self.old fed reported
             → OnErr result ((more : List TrackEvent) × Stops E.tracked E.lost ear.old ear.new more × HasTrackedBy W.rule (grown_by fed lanes.entry) (reported ++ more)) }
         ensures spent { OnErr result (self.new.is_open ≡ false) }
         ensures cause { HasCause (E.faults ear.old) (E.faults ear.new) result }
     {
-        self.feed_by(&InTurn, lanes, ear)
+        self.feed_by(&LinkInTurn, lanes, ear)
     }
 
     /// Takes the bits of each lane, in one of these ways.
-    fn feed_by<F: Feeds, E: TrackEar>(
+    fn feed_by<F: FeedsLink, E: TrackEar>(
         &mut self,
         feeding: &F,
         lanes: LaneBits<'_>,
@@ -128,6 +144,8 @@ impl<W: Watch> EpochSink<W> {
         ensures more { OnOk result (AreFedMore (bits_fed self.old) (bits_fed self.new) lanes.entry) }
         ensures reported { (fed : Fed) (reported : List TrackEvent) → EpochSinkRepresents W.rule W.looked W.passed self.old fed reported
             → OnOk result ((more : List TrackEvent) × E.tracked ear.old ear.new more × EpochSinkRepresents W.rule W.looked W.passed self.new (grown_by fed lanes.entry) (reported ++ more)) }
+        ensures reported_at { (fed : Fed) (reported : List TrackEventAt) → EpochSinkTells W.rule W.looked W.passed self.old fed reported
+            → OnOk result ((more : List TrackEventAt) × E.tracked_at ear.old ear.new more × EpochSinkTells W.rule W.looked W.passed self.new (grown_by fed lanes.entry) (reported ++ more)) }
         ensures stopped { (fed : Fed) (reported : List TrackEvent) → EpochSinkRepresents W.rule W.looked W.passed self.old fed reported
             → OnErr result ((more : List TrackEvent) × Stops E.tracked E.lost ear.old ear.new more × HasTrackedBy W.rule (grown_by fed lanes.entry) (reported ++ more)) }
         ensures spent { OnErr result (self.new.is_open ≡ false) }
@@ -159,11 +177,13 @@ impl<W: Watch> EpochSink<W> {
         ensures closed { self.new.is_open ≡ false }
         ensures reported { (fed : Fed) (reported : List TrackEvent) → EpochSinkRepresents W.rule W.looked W.passed self.old fed reported
             → IfOk result (λ outcome. (last : List TrackEvent) × E.tracked ear.old ear.new last × IsTrackBy W.rule fed outcome.epochs outcome.aligned (reported ++ last)) }
+        ensures reported_at { (fed : Fed) (reported : List TrackEventAt) → EpochSinkTells W.rule W.looked W.passed self.old fed reported
+            → IfOk result (λ outcome. (last : List TrackEventAt) × E.tracked_at ear.old ear.new last × IsTrackAt W.rule fed outcome.epochs outcome.aligned (reported ++ last)) }
         ensures stopped { (fed : Fed) (reported : List TrackEvent) → EpochSinkRepresents W.rule W.looked W.passed self.old fed reported
             → OnErr result ((epochs aligned : ℕ) × (last : List TrackEvent) × Stops E.tracked E.lost ear.old ear.new last × IsTrackBy W.rule fed epochs aligned (reported ++ last)) }
         ensures cause { HasCause (E.faults ear.old) (E.faults ear.new) result }
     {
-        self.finish_by(&ByWorkers { rt }, ear)
+        self.finish_by(&LinkByWorkers { rt }, ear)
     }
 
     /// Reports the rest to the ear as `finish` does, by the caller's own thread.
@@ -177,15 +197,17 @@ impl<W: Watch> EpochSink<W> {
         ensures closed { self.new.is_open ≡ false }
         ensures reported { (fed : Fed) (reported : List TrackEvent) → EpochSinkRepresents W.rule W.looked W.passed self.old fed reported
             → IfOk result (λ outcome. (last : List TrackEvent) × E.tracked ear.old ear.new last × IsTrackBy W.rule fed outcome.epochs outcome.aligned (reported ++ last)) }
+        ensures reported_at { (fed : Fed) (reported : List TrackEventAt) → EpochSinkTells W.rule W.looked W.passed self.old fed reported
+            → IfOk result (λ outcome. (last : List TrackEventAt) × E.tracked_at ear.old ear.new last × IsTrackAt W.rule fed outcome.epochs outcome.aligned (reported ++ last)) }
         ensures stopped { (fed : Fed) (reported : List TrackEvent) → EpochSinkRepresents W.rule W.looked W.passed self.old fed reported
             → OnErr result ((epochs aligned : ℕ) × (last : List TrackEvent) × Stops E.tracked E.lost ear.old ear.new last × IsTrackBy W.rule fed epochs aligned (reported ++ last)) }
         ensures cause { HasCause (E.faults ear.old) (E.faults ear.new) result }
     {
-        self.finish_by(&InTurn, ear)
+        self.finish_by(&LinkInTurn, ear)
     }
 
     /// Reports the rest to the ear, in one of these ways.
-    fn finish_by<F: Feeds, E: TrackEar>(
+    fn finish_by<F: FeedsLink, E: TrackEar>(
         &mut self,
         feeding: &F,
         ear: &mut E,
@@ -194,6 +216,8 @@ impl<W: Watch> EpochSink<W> {
         ensures closed { self.new.is_open ≡ false }
         ensures reported { (fed : Fed) (reported : List TrackEvent) → EpochSinkRepresents W.rule W.looked W.passed self.old fed reported
             → IfOk result (λ outcome. (last : List TrackEvent) × E.tracked ear.old ear.new last × IsTrackBy W.rule fed outcome.epochs outcome.aligned (reported ++ last)) }
+        ensures reported_at { (fed : Fed) (reported : List TrackEventAt) → EpochSinkTells W.rule W.looked W.passed self.old fed reported
+            → IfOk result (λ outcome. (last : List TrackEventAt) × E.tracked_at ear.old ear.new last × IsTrackAt W.rule fed outcome.epochs outcome.aligned (reported ++ last)) }
         ensures stopped { (fed : Fed) (reported : List TrackEvent) → EpochSinkRepresents W.rule W.looked W.passed self.old fed reported
             → OnErr result ((epochs aligned : ℕ) × (last : List TrackEvent) × Stops E.tracked E.lost ear.old ear.new last × IsTrackBy W.rule fed epochs aligned (reported ++ last)) }
         ensures cause { HasCause (E.faults ear.old) (E.faults ear.new) result }

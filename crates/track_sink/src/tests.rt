@@ -97,9 +97,10 @@ fn feed_all<R: Threads>(
 
 /// That three lanes have these epochs, and that these events are reported of them, in feeds of each size.
 fn expect<R: Threads + Abort>(rt: &R, alloc: Global, case: &Case) -> Result<(), Fail> {
+    let mut sink = TrackSink::open(alloc)?;
     for most in PIECES {
         let mut notes = Notes::new(100);
-        let mut sink = TrackSink::open(alloc)?;
+        sink.restart();
         let outcome = TrackOutcome {
             epochs: case.epochs,
             aligned: case.aligned,
@@ -118,10 +119,11 @@ fn expect<R: Threads + Abort>(rt: &R, alloc: Global, case: &Case) -> Result<(), 
 
 /// That an ear that fails at one of the events was given those before it and no more, and that the sink is then spent.
 fn expect_failures<R: Threads + Abort>(rt: &R, alloc: Global, case: &Case) -> Result<(), Fail> {
+    let mut sink = TrackSink::open(alloc)?;
     for most in PIECES {
         for at in 0..case.tells.len() {
             let mut notes = Notes::new(at);
-            let mut sink = TrackSink::open(alloc)?;
+            sink.restart();
             assert_eq!(rt;
                 feed_all(rt, &mut sink, case, most, &mut notes),
                 Err(Failed)

@@ -2,17 +2,18 @@
 ghost use Rattle.std.specs.Prelude.{ℕ, ◌≡◌, ◌<◌, ◌≤◌, ◌+◌, ◌*◌, ◌%◌, ◌^◌, ◌||◌, ◌++◌, true, false, List, [], IfOk, OnOk, OnErr};
 ghost use Rattle.outside_io.specs.Causes.{HasCause};
 ghost use Rattle.terc4.specs.Columns.{one_if};
-ghost use Rattle.period_grammar.specs.Events.{Event};
+ghost use Rattle.period_grammar.specs.Events.{Event, EventAt, all_at};
 ghost use Rattle.link_sink.specs.Ears.{StopsIn};
+ghost use Rattle.link_sink.specs.Grammar.{link_grammar};
 ghost use Rattle.link_sink.specs.declared.hear.Outcome.{Outcome as OutcomeValue};
-ghost use Rattle.link_sink.specs.Sinks.{Fed, IsGain, IsLast};
+ghost use Rattle.link_sink.specs.Sinks.{Fed, IsGain, IsGainAt, IsLast};
 ghost use Rattle.link_sink.specs.Pieces.{no_bits};
 ghost use Rattle.link_sink.specs.Streams.{SinkRepresents, most_bits};
 ghost use Rattle.track_sink.specs.Epochs.{most_of, rest_of, front_of};
 ghost use Rattle.track_sink.specs.Trackers.{Carries, IsFirst};
 
-use crate::feeding::Feeds;
-use crate::lanes::Lanes;
+use crate::feeding::FeedsLink;
+use crate::lanes::HeldLanes;
 use lane_align::FEED_BITS;
 use link_sink::{Ear, LinkSink, Outcome};
 use outside_io::{Failed, NoMemory};
@@ -24,7 +25,7 @@ use tmds_word::LaneBits;
 pub(crate) struct Tracker {
     /// Hears the epoch.
     link: LinkSink,
-    pub(crate) lanes: Lanes,
+    pub(crate) lanes: HeldLanes,
     /// The place of the epoch's first bit.
     pub(crate) start: u64,
     /// How many bits of the epoch were handed on, as many of each lane that has them.
@@ -44,7 +45,7 @@ impl Tracker {
     {
         Ok(Tracker {
             link: LinkSink::open(alloc)?,
-            lanes: Lanes::open(alloc)?,
+            lanes: HeldLanes::open(alloc)?,
             start: 0,
             handed: 0,
             begun: false,
@@ -54,7 +55,7 @@ impl Tracker {
     }
 
     /// Hands on the first bits of each lane, or all where there are fewer.
-    pub(crate) fn hand_on<F: Feeds, E: Ear>(
+    pub(crate) fn hand_on<F: FeedsLink, E: Ear>(
         &mut self,
         feeding: &F,
         bits: u32,
@@ -67,6 +68,9 @@ impl Tracker {
         ensures reported { (fed : Fed) → Carries self.old fed → self.old.start + self.old.handed + bits ≤ most_of fed
             → OnOk result ((events : List Event) × IsGain (front_of self.old.handed (rest_of self.old.start fed)) (front_of (self.old.handed + bits) (rest_of self.old.start fed)) events
             × E.took ear.old ear.new events) }
+        ensures reported_at { (fed : Fed) → Carries self.old fed → self.old.start + self.old.handed + bits ≤ most_of fed
+            → OnOk result ((events : List EventAt) × IsGainAt link_grammar (front_of self.old.handed (rest_of self.old.start fed)) (front_of (self.old.handed + bits) (rest_of self.old.start fed)) events
+            × E.took_at ear.old ear.new events) }
         ensures stopped { (fed : Fed) → Carries self.old fed → self.old.start + self.old.handed + bits ≤ most_of fed
             → OnErr result ((events : List Event) × IsGain (front_of self.old.handed (rest_of self.old.start fed)) (front_of (self.old.handed + bits) (rest_of self.old.start fed)) events
             × StopsIn E.took E.broke ear.old ear.new events) }
@@ -93,7 +97,7 @@ impl Tracker {
     }
 
     /// Hands on the first bits of each lane as `hand_on` does, in two feeds where one may not take so many.
-    pub(crate) fn hand_all<F: Feeds, E: Ear>(
+    pub(crate) fn hand_all<F: FeedsLink, E: Ear>(
         &mut self,
         feeding: &F,
         bits: u32,
@@ -106,6 +110,9 @@ impl Tracker {
         ensures reported { (fed : Fed) → Carries self.old fed → self.old.start + self.old.handed + bits ≤ most_of fed
             → OnOk result ((events : List Event) × IsGain (front_of self.old.handed (rest_of self.old.start fed)) (front_of (self.old.handed + bits) (rest_of self.old.start fed)) events
             × E.took ear.old ear.new events) }
+        ensures reported_at { (fed : Fed) → Carries self.old fed → self.old.start + self.old.handed + bits ≤ most_of fed
+            → OnOk result ((events : List EventAt) × IsGainAt link_grammar (front_of self.old.handed (rest_of self.old.start fed)) (front_of (self.old.handed + bits) (rest_of self.old.start fed)) events
+            × E.took_at ear.old ear.new events) }
         ensures stopped { (fed : Fed) → Carries self.old fed → self.old.start + self.old.handed + bits ≤ most_of fed
             → OnErr result ((some : ℕ) × (some ≤ bits) × (events : List Event) × IsGain (front_of self.old.handed (rest_of self.old.start fed)) (front_of (self.old.handed + some) (rest_of self.old.start fed)) events
             × StopsIn E.took E.broke ear.old ear.new events) }
@@ -131,6 +138,8 @@ impl Tracker {
         requires fewer { self.old.aligned ≤ self.old.epochs }
         ensures reported { (fed : Fed) → SinkRepresents self.old.link fed
             → IfOk result (λ outcome. (events : List Event) × IsLast fed outcome events × E.took ear.old ear.new events) }
+        ensures reported_at { (fed : Fed) → SinkRepresents self.old.link fed
+            → IfOk result (λ outcome. (events : List Event) × IsLast fed outcome events × E.took_at ear.old ear.new (all_at outcome.columns events)) }
         ensures stopped { (fed : Fed) → SinkRepresents self.old.link fed
             → OnErr result ((outcome : OutcomeValue) × (events : List Event) × IsLast fed outcome events × StopsIn E.took E.broke ear.old ear.new events) }
         ensures begun { IfOk result (λ outcome. self.new.begun ≡ (self.old.begun || outcome.aligned)) }
@@ -146,6 +155,19 @@ impl Tracker {
         self.aligned += u64::from(outcome.aligned);
         self.begun = self.begun || outcome.aligned;
         Ok(outcome)
+    }
+
+    /// Makes it as after `open`.
+    pub(crate) fn reopen(&mut self)
+        ensures { IsFirst self.new }
+    {
+        self.link.restart();
+        self.lanes.clear();
+        self.start = 0;
+        self.handed = 0;
+        self.begun = false;
+        self.epochs = 0;
+        self.aligned = 0;
     }
 
     /// Begins an epoch with the first bits that are held.

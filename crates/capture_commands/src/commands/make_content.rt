@@ -9,7 +9,7 @@ ghost use Rattle.command_line.specs.declared.command.Command.TheVariants.{MakeCo
 
 use crate::ending::Ending;
 use crate::writing::{tap_of, write_lanes};
-use capture_file::{Lanes, Tap};
+use capture_file::{LaneRows, Tap};
 use command_line::TapWords;
 use listing_reader::{ListError, read_content};
 use outside_io::{Sink, Source};
@@ -73,7 +73,7 @@ fn write_raster<K: Sink>(
     ensures later { K.faults output.old ≤ K.faults output.new }
 {
     let columns = count_columns(mode, &content)?;
-    let mut lanes = match Lanes::with_capacity(alloc, columns) {
+    let mut lanes = match LaneRows::with_capacity(alloc, columns) {
         Ok(lanes) => lanes,
         Err(_) => return Ok(Ending::NoMemory),
     };

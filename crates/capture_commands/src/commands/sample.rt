@@ -18,7 +18,7 @@ use crate::ending::Ending;
 use crate::feeding::Feeds;
 use crate::hearing::hear_capture;
 use crate::slice_source::SliceSource;
-use capture_file::{DamageError, Hit, Lanes, Tap, damage, write_capture};
+use capture_file::{DamageError, Hit, LaneRows, Tap, damage, write_capture};
 use capture_reading::ReadCaptureError;
 use link_sink::{Ear, LinkSink, Outcome};
 use outside_io::{Failed, MemSink, NoMemory, Sink, SteadySink};
@@ -118,7 +118,7 @@ fn captured(alloc: Global, frames: u32) -> Result<(MemSink, Vec<Hit>), NoMemory>
 }
 
 /// The lanes of the generator's content, how many columns they have, and the hits of their capture.
-fn sent(alloc: Global, frames: u32) -> Result<(Lanes, u32, Vec<Hit>), NoMemory>
+fn sent(alloc: Global, frames: u32) -> Result<(LaneRows, u32, Vec<Hit>), NoMemory>
     requires { frames ≤ 20 }
     ensures sent { IfOk result (λ sent. IsSampleSent frames sent.0.columns sent.2.items) }
     ensures few { IfOk result (λ sent. sent.1 ≤ COLUMN_LIMIT) }
@@ -155,10 +155,10 @@ fn wanting(fault: RasterFault) -> NoMemory
 }
 
 /// The lanes of a stream.
-fn lanes_of(alloc: Global, stream: &Stream) -> Result<Lanes, NoMemory>
+fn lanes_of(alloc: Global, stream: &Stream) -> Result<LaneRows, NoMemory>
     ensures { IfOk result (λ lanes. Spells stream.now lanes.columns) }
 {
-    let mut lanes = Lanes::with_capacity(alloc, stream.columns())?;
+    let mut lanes = LaneRows::with_capacity(alloc, stream.columns())?;
     stream.spell(&mut lanes)?;
     Ok(lanes)
 }

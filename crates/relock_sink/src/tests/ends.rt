@@ -61,6 +61,8 @@ impl Ear for Ends {
 impl TrackEar for Ends {
     ghost tracked = { λ _ _ _. ⊤ };
 
+    ghost tracked_at = { λ _ _ _. ⊤ };
+
     ghost lost = { λ _ _ _. ⊤ };
 
     fn slip(&mut self, _: u8, _: u64) -> Result<(), Failed> {
@@ -76,6 +78,14 @@ impl TrackEar for Ends {
     ghost tracked_none = { λ _. tt };
 
     ghost tracked_both = { λ _ _ _ _ _ _ _. tt };
+
+    ghost tracked_none_at = { λ _. tt };
+
+    ghost tracked_both_at = { λ _ _ _ _ _ _ _. tt };
+
+    ghost tracked_forgets = { λ _ _ _ _. tt };
+
+    ghost tracked_events_at = { λ _ _ _ _. tt };
 
     ghost tracked_events = { λ _ _ _. (λ _. tt, λ _. tt) };
 

@@ -96,6 +96,8 @@ impl Ear for Notes {
 impl TrackEar for Notes {
     ghost tracked = { λ _ _ _. ⊤ };
 
+    ghost tracked_at = { λ _ _ _. ⊤ };
+
     ghost lost = { λ _ _ _. ⊤ };
 
     fn slip(&mut self, lane: u8, place: u64) -> Result<(), Failed> {
@@ -109,6 +111,14 @@ impl TrackEar for Notes {
     ghost tracked_none = { λ _. tt };
 
     ghost tracked_both = { λ _ _ _ _ _ _ _. tt };
+
+    ghost tracked_none_at = { λ _. tt };
+
+    ghost tracked_both_at = { λ _ _ _ _ _ _ _. tt };
+
+    ghost tracked_forgets = { λ _ _ _ _. tt };
+
+    ghost tracked_events_at = { λ _ _ _ _. tt };
 
     ghost tracked_events = { λ _ _ _. (λ _. tt, λ _. tt) };
 

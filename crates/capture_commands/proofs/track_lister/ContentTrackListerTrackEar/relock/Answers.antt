@@ -10,6 +10,9 @@ returns-clause-ok g c =
     let y = c.relock.new.self in
     line_tracked c.relock.result (relock c.args.place) (relock_text c.args.place) x.past y.past x.faults y.faults (g.K.Sink.held x.sink.now) (g.K.Sink.held y.sink.now) (relock_is_line c.args.place) c.relock.ensures.same c.relock.ensures.past c.relock.ensures.counted c.relock.ensures.whole
 
+pub returns-clause-ok_at : goal.returns-clause-ok_at
+returns-clause-ok_at g c = returns-clause-ok g c
+
 pub returns-clause-err : goal.returns-clause-err
 returns-clause-err g c =
     let x = c.args.self.now.lister in

@@ -3,16 +3,18 @@ use Rattle.track_sink.specs.Epochs.{most_of}
 use Rattle.link_sink.proofs.Stops.{on_err}
 use Rattle.track_sink.specs.TrackEvents.{track_events_of}
 use Rattle.track_sink.specs.Epochs.{rest_of, front_of}
+use Rattle.period_grammar.specs.Events.{all_at}
+use Rattle.track_sink.proofs.Columns.{ends_at}
 use Rattle.track_sink.proofs.Handing.{longest_held}
-use Rattle.track_sink.proofs.Turning.{rose_after}
-use Rattle.track_sink.proofs.Settling.{tracks_all}
+use Rattle.track_sink.proofs.Turning.{failed_after}
+use Rattle.track_sink.proofs.Settling.{tells_all, tracks_all}
 use Rattle.track_sink.proofs.Failing.{LostLast, stops_events, tracks_some, tracks_last}
 use Rattle.link_sink.proofs.Stops.{stops_after as stops_later, stops_before as stops_first}
 use Rattle.terc4.specs.Columns.{one_if}
 use Rattle.track_sink.proofs.follower.Follower.finish.Goals as goal
 
 pub returns-in_err-end-clause-cause : goal.returns-in_err-end-clause-cause
-returns-in_err-end-clause-cause g c = grind (arith, on_err, rose_after)
+returns-in_err-end-clause-cause g c = failed_after _ _ _ _ c.in_ok-hand_on.ensures.cause.later c.in_err-end.ensures.cause.later c.in_err-end.ensures.cause.failed
 
 pub returns-clause-reported : goal.returns-clause-reported
 returns-clause-reported g c = λ fed reported settled.
@@ -27,6 +29,25 @@ returns-clause-reported g c = λ fed reported settled.
       track_events_of (first.0 ++ last.0),
       (g.met.E.TrackEar.tracked_events c.args.ear.now c.end.new.ear (first.0 ++ last.0)).0 (g.met.E.Ear.took_both c.args.ear.now c.hand_on.new.ear c.end.new.ear first.0 last.0 first.2 last.2),
       tracks_all t u c.end.new.self f.watch fed reported c.in_ok-end.field-0 first.0 last.0 c.longest-left.result settled c.longest-left.ensures.longest first.1 last.1
+          c.hand_on.ensures.start c.in_ok-hand_on.ensures.handed c.hand_on.ensures.begun c.hand_on.ensures.epochs c.hand_on.ensures.aligned c.in_ok-end.ensures.epochs c.in_ok-end.ensures.aligned,
+    )
+
+pub returns-clause-reported_at : goal.returns-clause-reported_at
+returns-clause-reported_at g c = λ fed reported told settled was.
+    let f = c.args.self.now in
+    let t = f.tracker in
+    let u = c.hand_on.new.self in
+    let carries = settled.stands.carries in
+    let all = longest_held t fed carries in
+    let room : t.start + t.handed + c.longest-left.result ≤ most_of fed = omega (arith, all, c.longest-left.ensures.longest) in
+    let outcome = c.in_ok-end.field-0 in
+    let front = front_of u.handed (rest_of u.start fed) in
+    let first = c.in_ok-hand_on.ensures.reported_at fed carries room in
+    let last = c.in_ok-end.ensures.reported_at front (c.in_ok-hand_on.ensures.carries fed carries room).link in
+    let events = all_at outcome.columns last.0 in (
+      track_events_of (first.0 ++ events),
+      g.met.E.TrackEar.tracked_events_at c.args.ear.now c.end.new.ear (first.0 ++ events) (g.met.E.Ear.took_both_at c.args.ear.now c.hand_on.new.ear c.end.new.ear first.0 events first.2 last.2),
+      tells_all t u c.end.new.self f.watch fed reported told outcome first.0 events c.longest-left.result settled was c.longest-left.ensures.longest first.1 (ends_at front outcome last.0 last.1)
           c.hand_on.ensures.start c.in_ok-hand_on.ensures.handed c.hand_on.ensures.begun c.hand_on.ensures.epochs c.hand_on.ensures.aligned c.in_ok-end.ensures.epochs c.in_ok-end.ensures.aligned,
     )
 

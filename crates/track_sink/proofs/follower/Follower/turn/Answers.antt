@@ -1,8 +1,11 @@
 use Rattle.std.proofs.Common.{◌+◌, ◌||◌, ◌++◌, ◌∙◌, ap₂, arith}
+use Rattle.link_sink.proofs.Following.{reported_at_first}
 use Rattle.link_sink.proofs.Stops.{on_err}
+use Rattle.period_grammar.specs.Events.{all_at}
 use Rattle.track_sink.specs.TrackEvents.{track_events_of, end_events}
 use Rattle.track_sink.specs.Epochs.{rest_of, front_of}
-use Rattle.track_sink.proofs.Turning.{rose_after, is_lane, carries_turned, follows_turned, took_then}
+use Rattle.track_sink.proofs.Columns.{none_told, ends_at}
+use Rattle.track_sink.proofs.Turning.{failed_after, is_lane, carries_turned, follows_turned, took_then}
 use Rattle.track_sink.proofs.Failing.{LostMore, stops_events, stops_before, stops_then, passes_turn}
 use Rattle.track_sink.proofs.follower.Follower.turn.Goals as goal
 
@@ -13,7 +16,7 @@ pub tell_end-requires : goal.tell_end-requires
 tell_end-requires g c = is_lane g.met.W.Watch.is_rule (rest_of c.args.self.now.tracker.start c.requires.turn.0) c.args.end.cause c.args.end.place c.requires.turn.1.ends
 
 pub returns-in_err-tell_end-clause-cause : goal.returns-in_err-tell_end-clause-cause
-returns-in_err-tell_end-clause-cause g c = grind (arith, on_err, rose_after)
+returns-in_err-tell_end-clause-cause g c = failed_after _ _ _ _ c.in_ok-end.ensures.cause.later c.in_err-tell_end.ensures.cause.later c.in_err-tell_end.ensures.cause.failed
 
 pub returns-clause-carries : goal.returns-clause-carries
 returns-clause-carries g c = λ fed can.
@@ -31,8 +34,23 @@ returns-clause-reported g c = λ fed reported can was.
     let e = c.in_ok-end.ensures in
     let last = e.reported (front_of t.handed (rest_of t.start fed)) can.carries.link in (
       track_events_of last.0 ++ end_events u.begun c.args.end.cause u.start,
-      took_then g.E.Ear.took g.E.TrackEar.tracked g.met.E.TrackEar.tracked_events g.met.E.TrackEar.tracked_both c.args.ear.now c.end.new.ear c.tell_end.new.ear last.0 (end_events u.begun c.args.end.cause u.start) last.2 c.in_ok-tell_end.ensures.ok,
-      follows_turned g.met.W.Watch.is_rule t u fed c.args.end reported c.in_ok-end.field-0 last.0 can last.1
+      took_then g.E.Ear.took g.E.TrackEar.tracked (λ x y h. (g.met.E.TrackEar.tracked_events x y h).0) g.met.E.TrackEar.tracked_both c.args.ear.now c.end.new.ear c.tell_end.new.ear last.0 (end_events u.begun c.args.end.cause u.start) last.2 c.in_ok-tell_end.ensures.ok,
+      follows_turned reported_at_first g.met.W.Watch.is_rule t u fed c.args.end reported c.in_ok-end.field-0 last.0 can last.1
+          (c.restart.ensures.start ∙ ap₂ (λ m n. m + n) c.end.ensures.start c.end.ensures.handed) c.restart.ensures.handed (c.restart.ensures.begun ∙ e.begun) (c.restart.ensures.epochs ∙ e.epochs) (c.restart.ensures.aligned ∙ e.aligned) was,
+    )
+
+pub returns-clause-reported_at : goal.returns-clause-reported_at
+returns-clause-reported_at g c = λ fed reported can was.
+    let t = c.args.self.now.tracker in
+    let u = c.restart.new.self in
+    let e = c.in_ok-end.ensures in
+    let outcome = c.in_ok-end.field-0 in
+    let front = front_of t.handed (rest_of t.start fed) in
+    let last = e.reported_at front can.carries.link in
+    let events = all_at outcome.columns last.0 in (
+      track_events_of events ++ end_events u.begun c.args.end.cause u.start,
+      took_then g.E.Ear.took_at g.E.TrackEar.tracked_at g.met.E.TrackEar.tracked_events_at g.met.E.TrackEar.tracked_both_at c.args.ear.now c.end.new.ear c.tell_end.new.ear events (end_events u.begun c.args.end.cause u.start) last.2 c.in_ok-tell_end.ensures.ok_at,
+      follows_turned none_told g.met.W.Watch.is_rule t u fed c.args.end reported outcome events can (ends_at front outcome last.0 last.1)
           (c.restart.ensures.start ∙ ap₂ (λ m n. m + n) c.end.ensures.start c.end.ensures.handed) c.restart.ensures.handed (c.restart.ensures.begun ∙ e.begun) (c.restart.ensures.epochs ∙ e.epochs) (c.restart.ensures.aligned ∙ e.aligned) was,
     )
 

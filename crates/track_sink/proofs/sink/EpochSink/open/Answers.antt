@@ -1,9 +1,8 @@
-use Rattle.std.proofs.Common.{[]}
-use Rattle.link_sink.specs.Pieces.{no_bits}
-use Rattle.track_sink.proofs.Settling.{settled_tracks}
+use Rattle.track_sink.proofs.Settling.{first_represents, first_tells}
 use Rattle.track_sink.proofs.sink.EpochSink.open.Goals as goal
 
 pub returns-clause-fed : goal.returns-clause-fed
-returns-clause-fed g c =
-    let f = c.in_ok-open.field-0 in
-    record { tracked = settled_tracks g.met.W.Watch.is_watch f.tracker f.watch no_bits [] c.in_ok-open.ensures; settled = c.in_ok-open.ensures }
+returns-clause-fed g c = first_represents g.met.W.Watch.is_watch _ c.in_ok-open.ensures.settled
+
+pub returns-clause-told : goal.returns-clause-told
+returns-clause-told g c = first_tells g.met.W.Watch.is_watch _ c.in_ok-open.ensures.settled c.in_ok-open.ensures.reported_at

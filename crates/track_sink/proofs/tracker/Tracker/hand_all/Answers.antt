@@ -1,7 +1,8 @@
 use Rattle.std.proofs.Common.{◌-◌, ◌++◌, arith}
 use Rattle.lane_align.specs.declared.TheConstants.{FEED_BITS}
+use Rattle.link_sink.specs.Grammar.{link_grammar}
 use Rattle.track_sink.specs.Epochs.{rest_of}
-use Rattle.track_sink.proofs.Turning.{rose_after, gains_two}
+use Rattle.track_sink.proofs.Turning.{failed_after, gains_two}
 use Rattle.link_sink.proofs.Stops.{on_err, stops_after}
 use Rattle.track_sink.proofs.Failing.{LostSome, lost_some}
 use Rattle.track_sink.proofs.tracker.Tracker.hand_all.Goals as goal
@@ -10,7 +11,7 @@ pub hand_on-requires-3-clause-carries : goal.hand_on-requires-3-clause-carries
 hand_on-requires-3-clause-carries g c = grind arith
 
 pub returns-in_err-hand_on-2-clause-cause : goal.returns-in_err-hand_on-2-clause-cause
-returns-in_err-hand_on-2-clause-cause g c = grind (arith, on_err, rose_after)
+returns-in_err-hand_on-2-clause-cause g c = failed_after _ _ _ _ c.in_ok-hand_on.ensures.cause.later c.in_err-hand_on-2.ensures.cause.later c.in_err-hand_on-2.ensures.cause.failed
 
 pub returns-then-bits-le-FEED_BITS-clause-stopped : goal.returns-then-bits-le-FEED_BITS-clause-stopped
 returns-then-bits-le-FEED_BITS-clause-stopped g c = λ fed carries room.
@@ -27,8 +28,19 @@ returns-clause-reported g c = λ fed carries room.
     let first = c.in_ok-hand_on.ensures.reported fed carries (omega arith) in
     let second = c.in_ok-hand_on-2.ensures.reported fed (c.in_ok-hand_on.ensures.carries fed carries (omega arith)) (omega (arith, room, c.in_ok-hand_on.ensures.handed, c.hand_on-2.ensures.start)) in (
       first.0 ++ second.0,
-      gains_two fed t.start c.hand_on-2.new.self.start t.handed c.hand_on-2.new.self.handed FEED_BITS (bits - FEED_BITS) bits first.0 second.0 c.hand_on-2.ensures.start c.in_ok-hand_on.ensures.handed (omega arith) first.1 second.1,
+      gains_two link_grammar.so_far fed t.start c.hand_on-2.new.self.start t.handed c.hand_on-2.new.self.handed FEED_BITS (bits - FEED_BITS) bits first.0 second.0 c.hand_on-2.ensures.start c.in_ok-hand_on.ensures.handed (omega arith) first.1 second.1,
       g.met.E.Ear.took_both c.args.ear.now c.hand_on-2.new.ear c.hand_on-3.new.ear first.0 second.0 first.2 second.2,
+    )
+
+pub returns-clause-reported_at : goal.returns-clause-reported_at
+returns-clause-reported_at g c = λ fed carries room.
+    let t = c.args.self.now in
+    let bits = c.args.bits in
+    let first = c.in_ok-hand_on.ensures.reported_at fed carries (omega arith) in
+    let second = c.in_ok-hand_on-2.ensures.reported_at fed (c.in_ok-hand_on.ensures.carries fed carries (omega arith)) (omega (arith, room, c.in_ok-hand_on.ensures.handed, c.hand_on-2.ensures.start)) in (
+      first.0 ++ second.0,
+      gains_two link_grammar.so_far_at fed t.start c.hand_on-2.new.self.start t.handed c.hand_on-2.new.self.handed FEED_BITS (bits - FEED_BITS) bits first.0 second.0 c.hand_on-2.ensures.start c.in_ok-hand_on.ensures.handed (omega arith) first.1 second.1,
+      g.met.E.Ear.took_both_at c.args.ear.now c.hand_on-2.new.ear c.hand_on-3.new.ear first.0 second.0 first.2 second.2,
     )
 
 pub returns-in_err-hand_on-clause-stopped : goal.returns-in_err-hand_on-clause-stopped
@@ -46,6 +58,6 @@ returns-in_err-hand_on-2-clause-stopped g c = λ fed carries room.
       bits,
       omega arith,
       first.0 ++ second.0,
-      gains_two fed t.start c.hand_on-2.new.self.start t.handed c.hand_on-2.new.self.handed FEED_BITS (bits - FEED_BITS) bits first.0 second.0 c.hand_on-2.ensures.start c.in_ok-hand_on.ensures.handed (omega arith) first.1 second.1,
+      gains_two link_grammar.so_far fed t.start c.hand_on-2.new.self.start t.handed c.hand_on-2.new.self.handed FEED_BITS (bits - FEED_BITS) bits first.0 second.0 c.hand_on-2.ensures.start c.in_ok-hand_on.ensures.handed (omega arith) first.1 second.1,
       stops_after g.E.Ear.took g.E.Ear.broke g.met.E.Ear.took_both c.args.ear.now c.hand_on-2.new.ear c.hand_on-3.new.ear first.0 second.0 first.2 second.2,
     )
