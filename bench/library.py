@@ -11,7 +11,7 @@ columns a second, the pixel clock of 1,920 by 1,080 at 60 Hz. What is measured:
 
     feed     vabgrot_feed with all events and pixels written into one array and one buffer, and no look at them
     faults   the same, and of each event whether it is a fault
-    views    Receiver.feed_views of the package, 1 MiB of each lane at a time
+    views    Receiver.feed_views of the package, 4 MiB of each lane at a time
     watched  the same, and all that tools/watch counts of it
     arrays   Receiver.feed_arrays of the package
     objects  Receiver.feed of the package, an object an event

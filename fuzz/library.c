@@ -1,8 +1,9 @@
 /*
 ** A fuzzer of the C library for libFuzzer. The input is a row of calls: a byte says which, and for a feed three more bytes say how many
 ** bits each lane has, whose bytes follow. Room is as large as the second byte of the input says. What no input may break: each call
-** answers a status that its state allows; what it says that it wrote lies within the room; events come in the order of their columns, and
-** one after another in the buffer; a feed takes no more bits than it is given.
+** answers a status that its state allows; what it says that it wrote lies within the room; events come in the order of their columns, of
+** lanes that may lose bits between two slips or refuted alignments, and one after another in the buffer; a feed takes no more bits than it
+** is given.
 **
 **     clang -g -O1 -fsanitize=fuzzer,address,undefined -I library fuzz/library.c DIR/libvabgrot.a -o fuzzer && ./fuzzer -max_total_time=60
 */
@@ -17,7 +18,7 @@ int LLVMFuzzerTestOneInput(const uint8_t *data, size_t size);
 
 struct state {
   vabgrot receiver;
-  int is_open, is_finished;
+  int is_open, is_finished, may_slip;
   uint64_t column;
   vabgrot_event *events;
   uint8_t *bytes;
@@ -34,7 +35,9 @@ static void check_events(struct state *it, const vabgrot_answer *answer) {
   need(answer->events <= it->event_room && answer->bytes <= it->byte_room);
   for (uint64_t i = 0; i < answer->events; i++) {
     const vabgrot_event *event = &it->events[i];
-    need(event->kind <= VABGROT_GUARD && event->offset == end && event->column >= it->column);
+    const int ends = event->kind == VABGROT_SLIP || event->kind == VABGROT_RELOCKED;
+    need(event->kind <= (it->may_slip ? VABGROT_RELOCKED : VABGROT_GUARD) && event->offset == end && (ends || event->column >= it->column));
+    need(!ends || (event->column == 0 && event->size == 0));
     need(event->kind != VABGROT_LINE || (event->size % 3 == 0 && event->size >= 3 && event->size <= 12288));
     need(event->kind != VABGROT_PACKET || event->size == 63);
     it->column = event->column;
@@ -82,13 +85,14 @@ static void finish(struct state *it) {
   vabgrot_answer answer;
   const int status = vabgrot_finish(&it->receiver, it->events, it->event_room, it->bytes, it->byte_room, &answer);
   const int may = it->is_open && !it->is_finished;
-  need(status == (!may ? VABGROT_MISUSE : it->event_room == 0 ? VABGROT_FULL : VABGROT_OK));
+  const int is_short = it->may_slip ? it->event_room < 392 || it->byte_room < 12614 : it->event_room == 0;
+  need(status == (!may ? VABGROT_MISUSE : is_short ? VABGROT_FULL : VABGROT_OK));
   check_events(it, &answer);
   if (status == VABGROT_OK) it->is_finished = 1;
 }
 
 int LLVMFuzzerTestOneInput(const uint8_t *data, size_t size) {
-  struct state it = {VABGROT_INIT, 0, 0, 0, NULL, NULL, 0, 0};
+  struct state it = {VABGROT_INIT, 0, 0, 0, 0, NULL, NULL, 0, 0};
   size_t at = 2;
   if (size < 2) return 0;
   it.event_room = data[0] * MOST_EVENTS / 255;
@@ -96,7 +100,8 @@ int LLVMFuzzerTestOneInput(const uint8_t *data, size_t size) {
   it.events = malloc((it.event_room + 1) * sizeof *it.events);
   it.bytes = malloc(it.byte_room + 1);
   need(it.events != NULL && it.bytes != NULL);
-  const uint32_t kind = data[1] % 2 == 0 ? VABGROT_LINK : VABGROT_DVI;
+  const uint32_t kind = data[1] % (VABGROT_RELOCK + 1);
+  it.may_slip = kind >= VABGROT_TRACK;
   need(vabgrot_open(&it.receiver, kind) == VABGROT_OK);
   it.is_open = 1;
   while (at < size) {

@@ -9,13 +9,14 @@
 ** vabgrot_make makes a capture of a listing, and the calls vabgrot_encode_.. write the characters of a link in parts.
 **
 ** What the calls write is proved: of all bits that were fed, exactly the events that the program's `recover link` lists, or its
-** `recover dvi`, by the receiver's kind, in whatever pieces they were fed; of a listing exactly the capture that the program's
-** `make` makes; and of a part of a link exactly its characters by the standards. docs/proof/PROVED.md of the project has the theorem, and
-** what it owes to the caller.
+** `recover dvi`, `recover track` or `recover relock`, by the receiver's kind, in whatever pieces they were fed; of a listing exactly the
+** capture that the program's `make` makes; and of a part of a link exactly its characters by the standards. docs/proof/PROVED.md of the
+** project has the theorem, and what it owes to the caller.
 **
-** Memory. vabgrot_open takes 63,496 bytes from malloc, or 63,272 of VABGROT_DVI, in two blocks; no other call on a handle takes any;
-** vabgrot_close frees them. vabgrot_recover and vabgrot_check take a receiver's and room for the whole listing, vabgrot_make room for
-** what the listing says, its columns and the whole capture; they free all. The calls vabgrot_encode_.. take none.
+** Memory. vabgrot_open takes 64,080 bytes from malloc in two blocks, of VABGROT_DVI 63,856, and of VABGROT_TRACK and VABGROT_RELOCK
+** 76,752 in five; no other call on a handle takes any; vabgrot_close frees them. vabgrot_recover and vabgrot_check take a receiver's and
+** room for the whole listing, vabgrot_make room for what the listing says, its columns and the whole capture; they free all. The calls
+** vabgrot_encode_.. take none.
 **
 ** Threads. The library keeps nothing outside the handle and starts no thread. Calls on different handles may run side by side.
 ** Calls on one handle must not overlap; between calls a handle may pass to another thread, as any memory does.
@@ -63,14 +64,18 @@ enum vabgrot_status {
 };
 
 /*
-** Kinds of receivers. Both write the same events; of VABGROT_DVI there are runs, lines, the cut, and of the faults VABGROT_WORD,
-** VABGROT_SHORT, VABGROT_CODE and VABGROT_LONG_LINE. The last two are kinds of vabgrot_recover alone.
+** Kinds of receivers. All write the same events; of VABGROT_DVI there are runs, lines, the cut, and of the faults VABGROT_WORD,
+** VABGROT_SHORT, VABGROT_CODE and VABGROT_LONG_LINE. Those of VABGROT_TRACK and VABGROT_RELOCK stand in epochs: where the lanes are
+** searched anew one epoch ends, with what is left of it (a run or VABGROT_CUT), and the next begins. Once an epoch was aligned its end
+** is an event, VABGROT_SLIP or VABGROT_RELOCKED, but the end of an epoch of VABGROT_RELOCK whose alignment no guard band confirmed: of
+** such a one nothing is reported at all. So events do not number the epochs; vabgrot_finish counts them. A lane that loses whole characters
+** does not slip: its bits are faults from there on, or VABGROT_RELOCKED where the alignment is refuted.
 */
 enum vabgrot_kind {
   VABGROT_LINK = 0,  /* a link with guard bands and preambles (HDMI 1.4, chapter 5) */
   VABGROT_DVI = 1,   /* one without them: a line begins with its first pixel (DVI 1.0) */
   VABGROT_TRACK = 2, /* a link whose lanes may lose bits: where one does the lanes are searched anew */
-  VABGROT_RELOCK = 3 /* the same, from an alignment that a guard band confirms */
+  VABGROT_RELOCK = 3 /* the same, from an alignment that a guard band confirms, as long as no later one refutes it */
 };
 
 /*
@@ -84,11 +89,12 @@ typedef struct vabgrot_bits {
 
 /*
 ** An event, 48 bytes. What it has of bytes lies in the buffer of the same call, from `offset` on. Columns are counted from 0 at the
-** first aligned column; no event has a `column` below that of the event before it.
+** first aligned column, of VABGROT_TRACK and VABGROT_RELOCK at that of each epoch; of the other kinds no event has a `column` below that
+** of the event before it.
 */
 typedef struct vabgrot_event {
   uint64_t column; /* the column at which it is reported, which is the first that decides it */
-  uint64_t named;  /* the column that it names, as said below; else 0 */
+  uint64_t named;  /* the column or the bit that it names, as said below; else 0 */
   uint64_t count;  /* how many columns or characters, as said below; else 0 */
   uint64_t offset; /* where its bytes begin */
   uint32_t size;   /* how many bytes it has */
@@ -98,7 +104,8 @@ typedef struct vabgrot_event {
 } vabgrot_event;
 
 /*
-** The kinds of events. From VABGROT_WORD on they are faults.
+** The kinds of events. From VABGROT_WORD on they are faults: to VABGROT_GUARD those of a link, and the last two those of lanes that may
+** lose bits, which VABGROT_TRACK and VABGROT_RELOCK report alone.
 */
 enum vabgrot_event_kind {
   /* `count` control columns of one value: bit 0 HSYNC, bit 1 VSYNC, bits 2 to 5 CTL0 to CTL3. Reported at the column after them. */
@@ -112,7 +119,7 @@ enum vabgrot_event_kind {
   VABGROT_PACKET = 3,
   /* The guard that closes a data island: as VABGROT_OPEN. */
   VABGROT_CLOSE = 4,
-  /* At the end: `named` is the first column of which nothing whole was reported. */
+  /* At the end, and where an epoch ends: `named` is the first column of which nothing whole was reported. */
   VABGROT_CUT = 5,
   /* A character of lane `value` in the control column `named` that is no control character. */
   VABGROT_WORD = 6,
@@ -139,7 +146,13 @@ enum vabgrot_event_kind {
   /* A packet or a closing guard at `named` that control columns cut short. */
   VABGROT_BROKEN = 17,
   /* The column `named` of an opening or closing guard is no guard column. */
-  VABGROT_GUARD = 18
+  VABGROT_GUARD = 18,
+  /* The characters of lane `value` begin at other bits than before: some bits were lost, at a place before bit `named`, and how many is
+  ** not told. From that bit of each lane on the lanes are searched anew; bits are counted from 0 at the first that was fed. Of several
+  ** lanes that lost some by then it is the one that shows it first, of equals the least. Its `column` is 0, and it has no bytes. */
+  VABGROT_SLIP = 19,
+  /* The alignment was refuted by a later one: from bit `named` of each lane on they are searched anew. As VABGROT_SLIP. */
+  VABGROT_RELOCKED = 20
 };
 
 /*
@@ -149,8 +162,10 @@ typedef struct vabgrot_answer {
   uint64_t events;    /* how many events it wrote, from the first of the array on */
   uint64_t bytes;     /* how many bytes it wrote, from the first of the buffer on */
   vabgrot_bits taken; /* vabgrot_feed: how many bits of each lane it took */
-  uint64_t columns;   /* vabgrot_finish: how many columns there were from the first full alignment on */
-  uint64_t aligned;   /* vabgrot_finish: 1 where the lanes were aligned, 0 where they were not */
+  /* vabgrot_finish: how many columns there were from the first full alignment on; of VABGROT_TRACK and VABGROT_RELOCK how many epochs */
+  uint64_t columns;
+  /* vabgrot_finish: 1 where the lanes were aligned, 0 where they were not; of these two kinds in how many epochs they were */
+  uint64_t aligned;
 } vabgrot_answer;
 
 /*
@@ -160,10 +175,22 @@ typedef struct vabgrot_answer {
 #define VABGROT_LEAST_BYTES 12327
 
 /*
+** The same of VABGROT_TRACK and VABGROT_RELOCK; vabgrot_finish wants 392 events and 12,614 bytes of room for these.
+*/
+#define VABGROT_LEAST_TRACK_EVENTS 400
+#define VABGROT_LEAST_TRACK_BYTES 12622
+
+/*
 ** With so many events and so many bytes of room it feeds 4,096 bytes of a lane at a time, which is quickest.
 */
 #define VABGROT_QUICK_EVENTS 26312
 #define VABGROT_QUICK_BYTES 22155
+
+/*
+** The same of VABGROT_TRACK and VABGROT_RELOCK.
+*/
+#define VABGROT_QUICK_TRACK_EVENTS 33160
+#define VABGROT_QUICK_TRACK_BYTES 45382
 
 /*
 ** Opens a receiver of a kind (vabgrot_kind), which it has until vabgrot_close, as its memory. It was fed nothing.
@@ -180,10 +207,12 @@ int vabgrot_open(vabgrot *v, uint32_t kind);
 ** and the columns end with the shortest lane.
 **
 ** Events are written only where there is room for all that a piece of the bits can report (eight events a column, and the pixels
-** of a line); `answer->taken` says how many bits of each lane were taken. Where these are not all the status is VABGROT_FULL: take
+** of a line; of VABGROT_TRACK and VABGROT_RELOCK an event and a byte a bit of a lane, of these and of up to 287 that wait, and those
+** pixels); `answer->taken` says how many bits of each lane were taken. Where these are not all the status is VABGROT_FULL: take
 ** the events out, and call again with the rest of the bits. `answer->taken` of a lane is then a multiple of eight, or all of it.
 **
-** VABGROT_FULL: less than VABGROT_LEAST_EVENTS or VABGROT_LEAST_BYTES of the room is left.
+** VABGROT_FULL: less than VABGROT_LEAST_EVENTS or VABGROT_LEAST_BYTES of the room is left (VABGROT_LEAST_TRACK_EVENTS or
+** VABGROT_LEAST_TRACK_BYTES).
 ** VABGROT_MISUSE: the handle is not open, or was finished; a lane has fewer bytes than bits; or it had ended and has bits.
 ** VABGROT_TOOBIG: a lane would have 2^60 bits or more since vabgrot_open or vabgrot_restart: ten years of HDMI 1.4's fastest link.
 */
@@ -193,9 +222,11 @@ int vabgrot_feed(vabgrot *v, const uint8_t *blue, size_t blue_size, const uint8_
 
 /*
 ** Ends the lanes: writes the one event that is left, if any (the last run, or VABGROT_CUT), and says whether the lanes were
-** aligned and how many columns they had. The receiver is then finished: it takes no bits until vabgrot_restart.
+** aligned and how many columns they had; of VABGROT_TRACK and VABGROT_RELOCK it writes all that the bits that wait report, and says how
+** many epochs there were. The receiver is then finished: it takes no bits until vabgrot_restart.
 **
-** VABGROT_FULL: `event_room` is 0. VABGROT_MISUSE: the handle is not open, or was finished. Then nothing was done.
+** VABGROT_FULL: `event_room` is 0; of VABGROT_TRACK and VABGROT_RELOCK there is room for less than 392 events or 12,614 bytes. Call again
+** with more. VABGROT_MISUSE: the handle is not open, or was finished. With either nothing was done, and `answer->events` is 0.
 */
 int vabgrot_finish(vabgrot *v, vabgrot_event *events, size_t event_room, uint8_t *bytes, size_t byte_room,
                    vabgrot_answer *answer);

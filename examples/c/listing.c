@@ -1,7 +1,8 @@
 /*
-** Lists what a capture says, event by event, as `vabgrot recover link` does, or with --dvi as `recover dvi`.
+** Lists what a capture says, event by event, as `vabgrot recover link` does, or by an option as `recover dvi`, `recover track` or
+** `recover relock`.
 **
-**     listing [--dvi] FILE.tmc [BYTES [EVENTS [ROOM]]]
+**     listing [--dvi | --track | --relock] FILE.tmc [BYTES [EVENTS [ROOM]]]
 **
 ** The lanes are fed in pieces of BYTES bytes each (4,096), into room for EVENTS events and ROOM bytes. Status 0; 1 where there was a
 ** fault; 3 where the file is no capture; 6 for want of memory; 7 where the lanes were never aligned.
@@ -96,6 +97,12 @@ static void print_event(const vabgrot_event *event, const uint8_t *bytes) {
       return;
     case VABGROT_CUT:
       printf("cut %" PRIu64 "\n", event->named);
+      return;
+    case VABGROT_SLIP:
+      printf("! slip %" PRIu32 " %" PRIu64 "\n", event->value, event->named);
+      return;
+    case VABGROT_RELOCKED:
+      printf("! relock %" PRIu64 "\n", event->named);
       return;
     default:
       print_fault(event);
@@ -192,16 +199,24 @@ static size_t number(int count, char **words, int place, size_t otherwise) {
   return place < count ? (size_t)strtoull(words[place], NULL, 10) : otherwise;
 }
 
+/* The kind of receiver that an option names; VABGROT_LINK where it is none. */
+static uint32_t kind_of(const char *option) {
+  if (strcmp(option, "--dvi") == 0) return VABGROT_DVI;
+  if (strcmp(option, "--track") == 0) return VABGROT_TRACK;
+  if (strcmp(option, "--relock") == 0) return VABGROT_RELOCK;
+  return VABGROT_LINK;
+}
+
 int main(int count, char **words) {
-  const int is_dvi = count > 1 && strcmp(words[1], "--dvi") == 0;
-  count -= is_dvi;
-  words += is_dvi;
+  const uint32_t kind = count > 1 ? kind_of(words[1]) : VABGROT_LINK;
+  count -= kind != VABGROT_LINK;
+  words += kind != VABGROT_LINK;
   struct lanes lanes = {{NULL, NULL, NULL}, {0, 0, 0}};
   struct room room = {NULL, NULL, number(count, words, 3, VABGROT_QUICK_EVENTS), number(count, words, 4, VABGROT_QUICK_BYTES), 0};
   FILE *file = count > 1 ? fopen(words[1], "rb") : NULL;
   const size_t piece = number(count, words, 2, BLOCK);
   if (file == NULL || piece == 0) {
-    fputs("usage: listing [--dvi] FILE.tmc [BYTES [EVENTS [ROOM]]]\n", stderr);
+    fputs("usage: listing [--dvi | --track | --relock] FILE.tmc [BYTES [EVENTS [ROOM]]]\n", stderr);
     return 2;
   }
   int status = read_lanes(file, &lanes);
@@ -209,7 +224,7 @@ int main(int count, char **words) {
   room.events = malloc((room.event_count + 1) * sizeof *room.events);
   room.bytes = malloc(room.byte_count + 1);
   if (room.events == NULL || room.bytes == NULL) status = NO_MEMORY;
-  if (status == DONE) status = list(is_dvi ? VABGROT_DVI : VABGROT_LINK, &lanes, piece, &room);
+  if (status == DONE) status = list(kind, &lanes, piece, &room);
   for (int i = 0; i < 3; i++) free(lanes.bytes[i]);
   free(room.events);
   free(room.bytes);

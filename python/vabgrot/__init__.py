@@ -8,7 +8,7 @@ from typing import TYPE_CHECKING, Any
 if TYPE_CHECKING:
     from vabgrot.encoding import Control, Island, Video, encode
     from vabgrot.errors import Refused
-    from vabgrot.events import Closing, Cut, End, Event, Fault, Kind, Line, Opening, Packet, Run
+    from vabgrot.events import Closing, Cut, End, EpochsEnd, Event, Fault, Kind, Line, Opening, Packet, Relocked, Run, Slip
     from vabgrot.library import Misuse, NoLibrary
     from vabgrot.receiving import Arrays, Receiver, receive
     from vabgrot.recovery import Recovered, recover
@@ -22,6 +22,7 @@ __all__ = [
     "Control",
     "Cut",
     "End",
+    "EpochsEnd",
     "Event",
     "Fault",
     "Island",
@@ -34,7 +35,9 @@ __all__ = [
     "Receiver",
     "Recovered",
     "Refused",
+    "Relocked",
     "Run",
+    "Slip",
     "Text",
     "Video",
     "encode",

@@ -1,5 +1,6 @@
 """The events of a link, as library/vabgrot.h has them: a class a kind, and one for all faults. Columns are counted from 0 at the first
-aligned column; `column` of each event is the one at which it is reported, which is the first that decides it."""
+aligned column; `column` of each event is the one at which it is reported, which is the first that decides it. Of lanes that may lose bits
+they are counted anew in each epoch, behind a Slip or Relocked."""
 
 from __future__ import annotations
 
@@ -14,11 +15,12 @@ if TYPE_CHECKING:
     import numpy as np
     import numpy.typing as npt
 
-UNTOLD = -1  # a column that the program's listing does not tell
+UNTOLD = -1  # a column that is not told, as some are not by the program's listing
 
 
 class Kind(enum.IntEnum):
-    """The kinds of events, with the numbers that they have in C. From WORD on they are faults."""
+    """The kinds of events, with the numbers that they have in C. From WORD to GUARD they are faults; the last two are of lanes that may
+    lose bits alone."""
 
     RUN = 0
     LINE = 1
@@ -39,9 +41,12 @@ class Kind(enum.IntEnum):
     LONG_ISLAND = 16
     BROKEN = 17
     GUARD = 18
+    SLIP = 19
+    RELOCKED = 20
 
 
-NAMES = {kind: kind.name.lower().replace("_", "") for kind in Kind if kind >= Kind.WORD}  # of faults, as listings have them
+FAULTS = tuple(kind for kind in Kind if Kind.WORD <= kind <= Kind.GUARD)
+NAMES = {kind: kind.name.lower().replace("_", "") for kind in FAULTS}  # as listings have them
 KINDS = {name: kind for kind, name in NAMES.items()}
 LANED = frozenset({Kind.WORD, Kind.CODE})
 BLOCKED = frozenset({Kind.MENDED, Kind.LOST})
@@ -144,6 +149,42 @@ class Fault:
 
 
 @dataclass(frozen=True, slots=True)
+class Slip:
+    """Lane `lane` lost the places of its characters: from bit `place` of each lane on the lanes are searched anew. Bits are counted from 0
+    at the first that was fed; `column` is 0."""
+
+    kind: ClassVar[Kind] = Kind.SLIP
+    column: int
+    lane: int
+    place: int
+
+    @property
+    def line(self) -> str:
+        """As listings have it."""
+        return f"! slip {self.lane} {self.place}"
+
+    def __str__(self) -> str:
+        return f"bit {self.place} on {LANES[self.lane]}: slip, {faults.LINK['slip'].says}"
+
+
+@dataclass(frozen=True, slots=True)
+class Relocked:
+    """The alignment was refuted by a later one: from bit `place` of each lane on the lanes are searched anew. As Slip."""
+
+    kind: ClassVar[Kind] = Kind.RELOCKED
+    column: int
+    place: int
+
+    @property
+    def line(self) -> str:
+        """As listings have it."""
+        return f"! relock {self.place}"
+
+    def __str__(self) -> str:
+        return f"bit {self.place}: relock, {faults.LINK['relock'].says}"
+
+
+@dataclass(frozen=True, slots=True)
 class End:
     """The end of the lanes: how many columns there were, and whether the lanes were aligned."""
 
@@ -155,7 +196,16 @@ class End:
         return self.column
 
 
-Event = Run | Line | Opening | Packet | Closing | Cut | Fault | End
+@dataclass(frozen=True, slots=True)
+class EpochsEnd(End):
+    """The End of lanes that may lose bits: how many epochs there were, and in how many of them the lanes were aligned; `aligned` is
+    whether they were in any. Columns are counted anew in each, and of the last one they are not told: `column` is UNTOLD."""
+
+    epochs: int
+    aligned_epochs: int
+
+
+Event = Run | Line | Opening | Packet | Closing | Cut | Fault | Slip | Relocked | End
 Numbers = tuple[int, int, int, int, int, int, int, int]  # column, named, count, offset, size, kind, value, second
 
 
@@ -174,6 +224,10 @@ def event_of(numbers: Numbers, data: bytes) -> Event:
         return Closing(column, (value, second))
     if kind == Kind.CUT:
         return Cut(column, named)
+    if kind == Kind.SLIP:
+        return Slip(column, value, named)
+    if kind == Kind.RELOCKED:
+        return Relocked(column, named)
     return fault_of(column, Kind(kind), named, count, value, second)
 
 

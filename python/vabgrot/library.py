@@ -13,9 +13,13 @@ from vabgrot.errors import Refused
 NAME = "libvabgrot.so.1"
 BESIDE = place.TOP.parent / NAME if place.IS_INSTALLED else place.TOP / "library" / "out" / NAME
 OK, FULL, MISUSE, TOOBIG, NOMEM = range(5)  # what a call answers
-Grammar = Literal["link", "dvi"]  # the kinds of receivers, as the program's `recover` names them
-KINDS: dict[Grammar, int] = {"link": 0, "dvi": 1}
+Grammar = Literal["link", "dvi", "track", "relock"]  # the kinds of receivers, as the program's `recover` names them
+KINDS: dict[Grammar, int] = {"link": 0, "dvi": 1, "track": 2, "relock": 3}
+OF_EPOCHS: frozenset[Grammar] = frozenset(("track", "relock"))  # those of lanes that may lose bits
+LEAST_EVENTS, LEAST_BYTES = 104, 12327  # the least room with which a feed takes bits
+LEAST_TRACK_EVENTS, LEAST_TRACK_BYTES = 400, 12622  # the same of lanes that may lose bits
 QUICK_EVENTS, QUICK_BYTES = 26312, 22155  # the least room with which a feed is quickest
+QUICK_TRACK_EVENTS, QUICK_TRACK_BYTES = 33160, 45382
 
 
 class NoLibrary(Refused):
@@ -42,6 +46,11 @@ class Answer(Structure):
     """What a call says beside its status."""
 
     _fields_ = (("events", c_uint64), ("bytes", c_uint64), ("taken", Bits), ("columns", c_uint64), ("aligned", c_uint64))
+
+
+def least_room(kind: Grammar) -> tuple[int, int]:
+    """How many events and bytes a receiver of a kind must have room for."""
+    return (LEAST_TRACK_EVENTS, LEAST_TRACK_BYTES) if kind in OF_EPOCHS else (LEAST_EVENTS, LEAST_BYTES)
 
 
 def find() -> str:

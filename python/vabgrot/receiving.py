@@ -12,8 +12,8 @@ import numpy.typing as npt
 
 from vabgrot import library
 from vabgrot.errors import Refused
-from vabgrot.events import End, Event, Numbers, event_of
-from vabgrot.library import FULL, KINDS, MISUSE, NOMEM, OK, TOOBIG, Grammar, Misuse
+from vabgrot.events import UNTOLD, End, EpochsEnd, Event, Numbers, event_of
+from vabgrot.library import FULL, KINDS, MISUSE, NOMEM, OF_EPOCHS, OK, TOOBIG, Grammar, Misuse
 
 # A record of vabgrot.h; its columns are below 2^60.
 RECORD = np.dtype(
@@ -71,9 +71,10 @@ def bits_of(lanes: Sequence[Octets], bits: Sequence[int] | None) -> list[int]:
 class Receiver:
     """A receiver of a link, or of one without guard bands and preambles (`kind="dvi"`). It is fed the raw bits of three lanes, of any
     offset and up to 70 bits of skew between them, the first bit of a byte lowest; what each call answers is proved to be the events of
-    all bits that were fed (docs/proof/PROVED.md). Calls of several threads wait for one another. Raises ValueError where there is no such
-    kind, NoLibrary where the C library is missing, MemoryError, and of each call Misuse where it does
-    not fit the calls before it: then it did nothing.
+    all bits that were fed (docs/proof/PROVED.md). With `kind="track"` the lanes may lose bits, and are searched anew where one did, which
+    is a Slip; with `kind="relock"` they are so too where their alignment is refuted, which is a Relocked. Calls of several threads wait
+    for one another. Raises ValueError where there is no such kind or too little room, NoLibrary where the C library is missing or has no
+    such kind, MemoryError, and of each call Misuse where it does not fit the calls before it: then it did nothing.
 
         with Receiver() as receiver:
             for event in receiver.feed(blue, green, red) + receiver.finish():
@@ -83,13 +84,16 @@ class Receiver:
     def __init__(self, kind: Grammar = "link", events: int = EVENTS, size: int = BYTES) -> None:
         """Of a kind, with room for so many events and so many of their bytes, which its calls fill as often as they must."""
         if kind not in KINDS:
-            raise ValueError(f"there is no receiver of the kind {kind!r}, but of {' and '.join(KINDS)}")
+            raise ValueError(f"there is no receiver of the kind {kind!r}, but of {', '.join(KINDS)}")
+        fewest, least = library.least_room(kind)
+        if events < fewest or size < least:
+            raise ValueError(f"a receiver of the kind {kind!r} wants room for {fewest} events and {least} bytes at least")
         self._calls = library.loaded(library.find())
-        self._lock = threading.Lock()
+        self._lock, self._has_epochs = threading.Lock(), kind in OF_EPOCHS
         self._handle, self._answer = library.Handle(), library.Answer()
         self._records, self._bytes = np.empty(events, RECORD), np.empty(size, np.uint8)
         self._room = self._records.ctypes.data, events, self._bytes.ctypes.data, size, byref(self._answer)
-        self._check(self._calls.vabgrot_open(byref(self._handle), KINDS[kind]))
+        self._open(kind)
         self._end = weakref.finalize(self, close, self._calls, self._handle)
 
     def __enter__(self) -> Self:
@@ -117,15 +121,16 @@ class Receiver:
         yield from self._fed(lanes, bits_of(lanes, bits), self._seen)
 
     def finish(self) -> list[Event]:
-        """Ends the lanes: the one event that is left, if any, and the End. The receiver then takes no bits until `restart`."""
+        """Ends the lanes: the one event that is left, if any, and the End; of lanes that may lose bits all events that are left, and an
+        EpochsEnd. The receiver then takes no bits until `restart`."""
         rest, end = self.finish_arrays()
         return [*rest.events(), end]
 
     def finish_arrays(self) -> tuple[Arrays, End]:
-        """The same with arrays for the event that is left."""
+        """The same with arrays for the events that are left."""
         with self._lock:
             self._check(self._calls.vabgrot_finish(byref(self._handle), *self._room))
-            return self._written(), End(self._answer.columns, bool(self._answer.aligned))
+            return self._written(), self._ended()
 
     def restart(self) -> None:
         """Makes an open receiver as it was at first, of its kind."""
@@ -136,6 +141,13 @@ class Receiver:
         """Gives its memory back. What is called then raises Misuse, but for a further `close`."""
         with self._lock:
             self._end()
+
+    def _open(self, kind: Grammar) -> None:
+        """Takes the memory of a receiver of a kind."""
+        status = self._calls.vabgrot_open(byref(self._handle), KINDS[kind])
+        if status == MISUSE:
+            raise library.NoLibrary(f"the C library has no receiver of the kind {kind!r}: it is of another version")
+        self._check(status)
 
     def _fed(self, lanes: Sequence[Octets], left: list[int], written: Callable[[], Written]) -> Iterator[Written]:
         """What is written of bits, as often as there was no room for all."""
@@ -158,6 +170,11 @@ class Receiver:
         """A copy of it."""
         records, data = self._seen()
         return Arrays(records.copy(), data.tobytes())
+
+    def _ended(self) -> End:
+        """What the end of the lanes says."""
+        columns, aligned = self._answer.columns, self._answer.aligned  # of epochs how many, and in how many the lanes were aligned
+        return EpochsEnd(UNTOLD, aligned > 0, columns, aligned) if self._has_epochs else End(columns, aligned > 0)
 
     def _check(self, status: int) -> None:
         """Raises what a status says."""
@@ -198,7 +215,7 @@ def pieces(blue: Lane, green: Lane, red: Lane, bits: Sequence[int] | None = None
 
 def receive(blue: Lane, green: Lane, red: Lane, bits: Sequence[int] | None = None, kind: Grammar = "link") -> Iterator[Event]:
     """The events of the bits of three lanes, one after another, all of their bytes or as many as `bits` says of each; the last is the
-    End. `kind` is that of the Receiver, and it raises as that does."""
+    End. `kind` is that of the Receiver: "link", "dvi", "track" or "relock"; and it raises as that does."""
     with Receiver(kind) as receiver:
         for piece in pieces(blue, green, red, bits):
             yield from receiver.feed(*piece)

@@ -14,7 +14,7 @@ import numpy.typing as npt
 
 from vabgrot import capture, library, listing, program
 from vabgrot.errors import Refused
-from vabgrot.events import BLOCKED, KINDS, LANED, NAMES, UNTOLD, End, Event, Kind, Numbers, Packet, packet_of
+from vabgrot.events import BLOCKED, FAULTS, KINDS, LANED, NAMES, UNTOLD, End, Event, Kind, Numbers, Packet, packet_of
 from vabgrot.formats.characters import PACKET
 from vabgrot.link import Columns, Thing, Vsync
 from vabgrot.receiving import RECORD, Arrays, Receiver, Records, pieces
@@ -156,7 +156,7 @@ def samples_of(part: Arrays) -> npt.NDArray[np.void]:
 
 def faults_of(records: Records) -> npt.NDArray[np.void]:
     """The faults among records."""
-    records = records[records["kind"] >= Kind.WORD]
+    records = records[np.isin(records["kind"], FAULTS)]
     kinds, found = records["kind"], np.empty(len(records), FAULT)
     found["column"], found["at"] = records["column"], records["named"]
     found["kind"] = np.array([NAMES[Kind(it)] for it in kinds.tolist()], "U10")

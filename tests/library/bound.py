@@ -4,7 +4,9 @@ import ctypes
 from ctypes import POINTER, Structure, byref, c_bool, c_int, c_size_t, c_uint8, c_uint16, c_uint32, c_uint64, c_void_p
 
 OK, FULL, MISUSE, TOOBIG, NOMEM, FAULTY, NOCAPTURE, UNALIGNED, NOLISTING = range(9)
-LEAST_EVENTS, LEAST_BYTES = 104, 12327
+LEAST_EVENTS, LEAST_BYTES = LEAST = 104, 12327
+LEAST_TRACK = 400, 12622
+SLIP, RELOCKED = 19, 20
 LINK, DVI, TRACK, RELOCK = range(4)
 MAKERS = "link", "dvi", "content"  # by their numbers
 OCTETS = POINTER(c_uint8), c_size_t

@@ -6,7 +6,7 @@ import threading
 import pytest
 
 from tests.library import bound
-from tests.library.bound import DVI, FULL, MISUSE, OK, Receiver
+from tests.library.bound import DVI, FULL, LINK, MISUSE, OK, RELOCK, TRACK, Receiver
 from tests.models import hearing, model
 from tests.support import LISTING, TOP, ran
 
@@ -17,7 +17,8 @@ OPEN = (EMPTY, FED, ENDED)
 CALLS = {
     "open": lambda it: (it.open(), {CLOSED: (OK, EMPTY)}),
     "open of the other kind": lambda it: (it.open(DVI), {CLOSED: (OK, EMPTY)}),
-    "open no kind": lambda it: (it.open(2), {}),
+    "open of lanes that may lose bits": lambda it: (it.open(TRACK), {CLOSED: (OK, EMPTY)}),
+    "open no kind": lambda it: (it.open(4), {}),
     "feed": lambda it: (it.feed([b"ab", b"cd", b"ef"]), {EMPTY: (OK, FED), FED: (OK, FED)}),
     "feed nothing": lambda it: (it.feed([b"", b"", b""]), {state: (OK, state) for state in OPEN}),
     "end a lane": lambda it: (it.feed([b"ab", b"c", b"ef"], [11, 5, 16]), {EMPTY: (OK, ENDED), FED: (OK, ENDED)}),
@@ -26,6 +27,8 @@ CALLS = {
     "restart": lambda it: (it.restart(), {state: (OK, EMPTY) for state in STATES[1:]}),
     "close": lambda it: (it.close(), {state: (OK, CLOSED) for state in STATES}),
 }
+
+ROOMS = {LINK: bound.LEAST, DVI: bound.LEAST, TRACK: bound.LEAST_TRACK, RELOCK: bound.LEAST_TRACK}
 
 
 @pytest.fixture(scope="module")
@@ -61,15 +64,17 @@ def test_room(calls, compare):
     """A feed takes nothing with one event or one byte less than the least room, and a byte of each lane with the least."""
 
     def cases():
-        for events, size, status, taken in (
-            (bound.LEAST_EVENTS - 1, 1 << 20, FULL, 0),
-            (1 << 12, bound.LEAST_BYTES - 1, FULL, 0),
-            (bound.LEAST_EVENTS, bound.LEAST_BYTES, OK, 8),
-        ):
+        for kind, (least, fewest) in ROOMS.items():
+            for events, size, status, taken in ((least - 1, 1 << 20, FULL, 0), (1 << 12, fewest - 1, FULL, 0), (least, fewest, OK, 8)):
+                it = Receiver(calls, events, size)
+                assert it.open(kind) == OK
+                came = it.feed([b"a", b"b", b"c"])
+                yield f"kind {kind}, {events} events, {size} bytes", (came, it.taken()), (status, (taken,) * 3)
+                it.close()
+        for events, size, status in ((391, 1 << 20, FULL), (1 << 12, 12613, FULL), (392, 12614, OK)):
             it = Receiver(calls, events, size)
-            assert it.open() == OK
-            came = it.feed([b"a", b"b", b"c"])
-            yield f"{events} events, {size} bytes", (came, it.taken()), (status, (taken,) * 3)
+            assert it.open(TRACK) == OK
+            yield f"an end with {events} events, {size} bytes", it.finish(), status
             it.close()
         it = Receiver(calls, 0, 0)
         assert it.open() == OK
@@ -122,6 +127,33 @@ def test_a_stream_without_guard_bands(calls):
     assert it.close() == OK and it.open() == OK
     assert heard() == [(12, 0, 0, 12, 0, 0, b""), (13, 9, 12, 0, 0, 0, b""), (25, 0, 0, 12, 0, 0, b"")]
     it.close()
+
+
+def test_lanes_that_lose_bits(calls):
+    """The slips that are written of lanes one of which loses three bits are those that the listing of the same capture names, and the
+    epochs are counted; a restart keeps the kind."""
+    lanes, bits = lanes_of(b"c 00 30\nc 04 8\nv ff0000\n" * 4 + b"c 00 30\nend\n", (0, 70, 35))
+    whole = [int.from_bytes(it, "little") for it in lanes]
+    cut = bits[1] // 2
+    whole[1], bits[1] = whole[1] & (1 << cut) - 1 | whole[1] >> cut + 3 << cut, bits[1] - 3
+    lanes = [it.to_bytes((count + 7) // 8, "little") for it, count in zip(whole, bits)]
+    data = b"TMC2" + b"".join(count.to_bytes(4, "big") for count in bits) + b"".join(lanes)
+    for kind in (TRACK, RELOCK):
+        status, size, text = bound.listed(calls, kind, data, 1 << 16)
+        wanted = [line.split()[2:] for line in text[:size].decode().splitlines() if line.startswith("! slip")]
+        assert status == bound.FAULTY and wanted
+        it = Receiver(calls)
+        assert it.open(kind) == OK
+        for _ in range(2):
+            assert it.feed(lanes, bits) == OK
+            found = list(it.written())
+            assert it.finish() == OK
+            found += it.written()
+            slips = [event for event in found if event[1] == bound.SLIP]
+            assert [[str(lane), str(place)] for _, _, place, _, lane, _, _ in slips] == wanted and all(event[0] == 0 for event in slips)
+            assert it.answer.columns >= 1 + len(slips) and it.answer.aligned <= it.answer.columns
+            assert it.restart() == OK
+        it.close()
 
 
 def test_threads(calls):

@@ -12,6 +12,7 @@ from tests.support import LISTING, READERS, TOP, ran, run
 
 SPLITS = ((), (1,), (3, 104, 12327), (7,), (4095, 1000, 20000), (4096, 300, 13000), (100000, 100, 1 << 20), (100000,))
 ROOMY = [it for it in SPLITS if it and (len(it) < 3 or it[1] >= 104)]
+TRACKED = ((1, 400, 12622), (7,), (4095, 1000, 20000), (100000,))
 CAPTURES = 24
 
 
@@ -71,6 +72,34 @@ def test_listings_without_guard_bands(executable, listing, compare, tmp_path):
             yield name, listed(listing, "--dvi", path), wanted
             words = ROOMY[at % len(ROOMY)]
             yield f"{name}, {words}", listed(listing, "--dvi", path, *words), wanted
+
+    compare(cases())
+
+
+def slipping_captures():
+    """The name and the capture: of some a lane loses bits, or a whole character."""
+    for at in range(CAPTURES):
+        rng = random.Random(f"library of lanes that lose bits {at}")
+        data = feeding.made_capture(rng)[0]
+        yield f"capture {at}", data
+        lanes = model.lanes_in(data)
+        for lost in (rng.randrange(1, 10), 10):
+            lane = rng.randrange(3)
+            slipped = model.slipped(lanes, lane, rng.randrange(len(lanes[lane]) + 1), lost)
+            yield f"capture {at} without {lost} bits of lane {lane}", model.capture_of(2, slipped)
+
+
+@pytest.mark.slow
+@pytest.mark.parametrize("kind", ("track", "relock"))
+def test_listings_of_lanes_that_lose_bits(executable, listing, compare, tmp_path, kind):
+    def cases():
+        path = tmp_path / "capture.tmc"
+        for at, (name, data) in enumerate(slipping_captures()):
+            path.write_bytes(data)
+            wanted = run(executable, ["recover", kind], data)[:2]
+            yield name, listed(listing, f"--{kind}", path), wanted
+            words = TRACKED[at % len(TRACKED)]
+            yield f"{name}, {words}", listed(listing, f"--{kind}", path, *words), wanted
 
     compare(cases())
 

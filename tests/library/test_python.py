@@ -15,14 +15,16 @@ import pytest
 
 import vabgrot
 from tests.library.test_calls import lanes_of
-from tests.models import feeding, hearing
+from tests.models import feeding, hearing, model, relocking
 from tests.support import HANGS, LISTING, TOP, run
 from vabgrot import capture, library, texts
-from vabgrot.events import Closing, Cut, End, Fault, Kind, Line, Opening, Packet, Run
+from vabgrot.events import UNTOLD, Closing, Cut, End, EpochsEnd, Fault, Kind, Line, Opening, Packet, Relocked, Run, Slip
 from vabgrot.formats.characters import CONTROL
 
 CAPTURES = 24
 BODIES = tuple(bytes([at] * 7) for at in range(4))
+SLIPPED = b"c 00 4\nc 04 8\nv %b\nc 00 24\nc 04 8\nv ff0000\nc 00 12\nend\n" % (b"000000" * 30)  # before it slips, in docs/guide/FORMATS.md
+EPOCHS = {"track": model.epochs, "relock": relocking.epochs}
 ISLAND = b"c 00 12\nc 14 8\ni 12\np 82020d %b %b\ne 30\nc 00 12\nend\n" % (b" ".join(it.hex().encode() for it in BODIES), b"0123" * 8)
 
 
@@ -66,8 +68,8 @@ def test_a_stream_without_guard_bands():
         for _ in range(2):
             assert in_pieces(receiver, lanes, bits, 7) == wanted
             receiver.restart()
-    with pytest.raises(ValueError, match="'track'"):
-        vabgrot.Receiver("track")
+    with pytest.raises(ValueError, match="'content'"):
+        vabgrot.Receiver("content")
 
 
 def test_a_fault_in_words():
@@ -131,6 +133,116 @@ def test_misuse():
         else:
             with pytest.raises(vabgrot.Misuse):
                 call()
+
+
+# ---- lanes that may lose bits
+
+
+def line_of(event):
+    """The line of a listing that an event is."""
+    match event:
+        case Run():
+            return f"c {event.value:02x} {event.count}"
+        case Line():
+            return f"v {event.data.hex()}"
+        case Opening() | Closing():
+            return f"{'i' if isinstance(event, Opening) else 'e'} {event.syncs[0]}{event.syncs[1]}"
+        case Packet():
+            return " ".join(["p", event.header.hex(), *(it.hex() for it in event.bodies), "".join(map(str, event.sync))])
+        case Cut():
+            return f"cut {event.at}"
+        case Fault():
+            numbers = event.lane, event.at, event.block, event.bit, event.count
+            return " ".join(["!", event.name, *(str(it) for it in numbers if it is not None)])
+    return event.line
+
+
+def listing_of(events):
+    """The listing of events of lanes that may lose bits, without one where they were never aligned."""
+    *events, end = events
+    assert end.aligned or not events
+    return "".join(f"{line}\n" for line in [*map(line_of, events), "end"]).encode() if end.aligned else b""
+
+
+def counted(kind, rows):
+    """How many epochs the model says that there are, and in how many the lanes are aligned."""
+    found = [[bits[start:end] for bits in rows] for start, end, _ in EPOCHS[kind](rows)]
+    return len(found), sum(model.aligned(it) is not None for it in found)
+
+
+def slipped(*hits):
+    """The bits of three lanes that lost some: each hit is a lane, a place, and how many."""
+    rows = [model.sent_bits(row) for row in zip(*hearing.sent_columns(SLIPPED))]
+    for hit in hits:
+        rows = model.slipped(rows, *hit)
+    return rows
+
+
+def slips():
+    """Lanes that lose bits, whole characters too, and lanes that do not."""
+    yield from (slipped(), slipped((2, 300, 3)), slipped((2, 300, 9), (2, 300, 9), (2, 300, 2)), slipped((1, 30, 7), (0, 420, 5)))
+
+
+def packed(rows):
+    """The bytes of three lanes, and how many bits each has."""
+    return [int(row[::-1], 2).to_bytes((len(row) + 7) // 8, "little") for row in rows], [len(row) for row in rows]
+
+
+def test_a_slip():
+    """Of the guide's listing: columns are counted anew behind it; and what is a refuted alignment there."""
+    lanes, bits = packed(slipped((2, 300, 3)))
+    wanted = [Run(4, 0, 4), Run(12, 4, 8), Cut(43, 14), Slip(0, 2, 437), Run(4, 0, 4), Run(12, 4, 8), Line(15, b"\xff\0\0"), Run(27, 0, 12)]
+    for kind in EPOCHS:
+        assert [*vabgrot.receive(*lanes, bits, kind=kind)] == [*wanted, EpochsEnd(UNTOLD, True, 2, 2)]
+        assert [*vabgrot.receive(b"", b"", b"", kind=kind)] == [EpochsEnd(UNTOLD, False, 1, 0)]
+    lanes, bits = packed(slipped((2, 300, 9), (2, 300, 9), (2, 300, 2)))
+    assert [it for it in vabgrot.receive(*lanes, bits, kind="relock") if isinstance(it, Slip | Relocked)] == [Relocked(0, 620)]
+
+
+@pytest.mark.parametrize("kind", EPOCHS)
+def test_slips_in_pieces_of_every_size(kind, compare):
+    """The same events, those of the model's listing; a restart keeps the kind; and with the least room."""
+
+    def cases():
+        with vabgrot.Receiver(kind) as receiver, vabgrot.Receiver(kind, *library.least_room(kind)) as small:
+            for at, rows in enumerate(slips()):
+                lanes, bits = packed(rows)
+                wanted = [*vabgrot.receive(*lanes, bits, kind=kind)]
+                end = EpochsEnd(UNTOLD, True, *counted(kind, rows))
+                said = model.tracked(rows, hearing.link_of) if kind == "track" else relocking.relocked(rows, hearing.link_of)
+                yield f"lanes {at}", (listing_of(wanted), wanted[-1]), (said[1], end)
+                for size in range(1, max(map(len, lanes)) + 1):
+                    for it in (receiver, small):
+                        yield f"lanes {at}, pieces of {size} bytes", in_pieces(it, lanes, bits, size), wanted
+                        it.restart()
+
+    compare(cases())
+
+
+@pytest.mark.slow
+@pytest.mark.parametrize("kind", EPOCHS)
+def test_the_program_lists_the_same(kind, executable, compare):
+    """Of random captures, by objects and by arrays, in pieces."""
+
+    def cases():
+        for at in range(CAPTURES):
+            data, rows = feeding.made_capture(random.Random(f"slips {at}"))
+            lanes, bits = packed(rows)
+            status, text, _ = run(executable, ["recover", kind], data)
+            wanted = [*vabgrot.receive(*lanes, bits, kind=kind)]
+            epochs, aligned = counted(kind, rows)
+            yield f"capture {at}", (listing_of(wanted), wanted[-1]), (text, EpochsEnd(UNTOLD, aligned > 0, epochs, aligned))
+            yield f"the status of capture {at}", any(line_of(it)[0] == "!" for it in wanted[:-1]), status == 1
+            with vabgrot.Receiver(kind) as receiver:
+                for size in (7, 4095, 100000):
+                    yield f"capture {at}, pieces of {size} bytes", in_pieces(receiver, lanes, bits, size), wanted
+                    receiver.restart()
+                parts = [receiver.feed_arrays(*lanes, bits=bits), receiver.finish_arrays()[0]]
+            yield f"arrays of capture {at}", [event for part in parts for event in part.events()], wanted[:-1]
+            named = [(it["value"], it["named"]) for records, _ in parts for it in records[records["kind"] == Kind.SLIP]]
+            yield f"slips in them, of capture {at}", named, [(it.lane, it.place) for it in wanted if isinstance(it, Slip)]
+
+    compare(cases())
 
 
 # ---- whole captures

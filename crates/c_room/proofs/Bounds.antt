@@ -15,10 +15,10 @@ pub record IsLittle (g : Grammar) (owed : List Column → ℕ) (cs : List Column
   pub few : length events ≤ 8
   pub bytes : length (all_bytes events) + owed (cs ++ c ∷ []) ≤ owed cs + 3
 
-abbrev IsMore : Grammar → (List Column → ℕ) → List Column → List Column → List Event → Type 0
+abbrev pub IsMore : Grammar → (List Column → ℕ) → List Column → List Column → List Event → Type 0
 IsMore g owed cs ds us = (g.so_far (cs ++ ds) ≡ g.so_far cs ++ us) × (length us ≤ 8 * length ds) × (length (all_bytes us) + owed (cs ++ ds) ≤ owed cs + 3 * length ds)
 
-all_more : (g : Grammar) (owed : List Column → ℕ) → ((cs : List Column) (c : Column) → IsLittle g owed cs c) → (ds cs : List Column) → (us : List Event) × IsMore g owed cs ds us
+pub all_more : (g : Grammar) (owed : List Column → ℕ) → ((cs : List Column) (c : Column) → IsLittle g owed cs c) → (ds cs : List Column) → (us : List Event) × IsMore g owed cs ds us
 unfolding all_bytes
 all_more g owed step [] cs =
     let e : cs ++ [] ≡ cs = append-nil cs in

@@ -22,10 +22,11 @@ use Rattle.period_grammar.proofs.Islands.{holds_long, holds_open, few_left, payl
 use Rattle.period_grammar.proofs.Sizes.{length-line_bytes}
 use Rattle.period_grammar.proofs.Step.{heard_push, heard_end, last_push_stretch}
 use Rattle.link_sink.specs.Grammar.{link_grammar}
+use Rattle.link_sink.specs.LinkHearing.{reported_none}
 use Rattle.c_room.specs.Rooms.{IsBounded}
 use Rattle.c_room.specs.Written.{event_bytes, all_bytes}
 use Rattle.c_room.specs.WrittenLaws.{bytes_append}
-use Rattle.c_room.proofs.Bounds.{IsLittle, bounded}
+use Rattle.c_room.proofs.Bounds.{IsLittle, all_more, bounded}
 
 -- so many events at most, and so many bytes
 abbrev pub AreFewEvents : ℕ → ℕ → List Event → Type 0
@@ -290,6 +291,18 @@ unfolding at_end
 few_ends b (stretch control []) = few_last (runs control)
 few_ends b (stretch control (g ∷ [])) = few_one _ refl
 few_ends b (stretch control (g ∷ (h ∷ rest))) = few_payload_ends b (opened g h) rest
+
+-- of the first columns no more than three bytes a column are reported
+nothing_owed : owed_after [] ≡ 0
+unfolding stretches
+nothing_owed = refl
+
+pub link_first : (cs : List Column) → length (all_bytes (link_grammar.so_far cs)) ≤ 3 * length cs
+link_first cs =
+    let all = all_more link_grammar owed_after one_more cs [] in
+    let none : link_grammar.so_far [] ≡ [] = ap (map event_of) reported_none in
+    let e = ap (λ ts. length (all_bytes ts)) (all.1.0 ∙ ap (λ ts. ts ++ all.0) none) in
+    omega (arith, all.1.2, e, nothing_owed)
 
 -- what a link's columns report in addition is of such sizes
 pub link_bounded : IsBounded link_grammar

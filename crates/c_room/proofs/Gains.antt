@@ -45,7 +45,7 @@ length-columns_of (b ∷ bs) [] rs = omega arith
 length-columns_of (b ∷ bs) (g ∷ gs) [] = omega arith
 length-columns_of (b ∷ bs) (g ∷ gs) (r ∷ rs) = let e = length-columns_of bs gs rs in omega (arith, e)
 
-many : (xs ys zs : List Bool) (d e f : ℕ)
+pub many : (xs ys zs : List Bool) (d e f : ℕ)
     → length (aligned_columns xs ys zs d e f) ≡ min ((length xs - (d - 120)) / 10) (min ((length ys - (e - 120)) / 10) ((length zs - (f - 120)) / 10))
 unfolding aligned_columns
 many xs ys zs d e f =

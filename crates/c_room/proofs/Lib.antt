@@ -6,4 +6,7 @@ pub mod Gains
 pub mod Keeping
 pub mod Orders
 pub mod Pieces
+pub mod Telling
+pub mod TrackGains
+pub mod TrackPieces
 pub mod Values

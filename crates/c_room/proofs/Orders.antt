@@ -17,14 +17,18 @@ use Rattle.link_sink.specs.LinkHearing.{link_is_grammar}
 use Rattle.link_sink.specs.Sinks.{Fed, IsReportedOf, IsReportedBy, IsGainAt, IsLastBy}
 use Rattle.link_sink.specs.declared.hear.Outcome.{Outcome}
 use Rattle.dvi_hearing.specs.DviGrammar.{dvi_grammar, dvi_is_grammar, pushed}
+use Rattle.track_sink.specs.TrackEvents.{TrackEventAt}
 use Rattle.c_room.specs.declared.kind.Kind.{Kind}
-use Rattle.c_room.specs.declared.kind.Kind.TheVariants.{Link, Dvi}
+use Rattle.c_room.specs.declared.kind.Kind.TheVariants.{Link, Dvi, Track, Relock}
+use Rattle.c_room.specs.declared.ended.EndCounts.{EndCounts}
 use Rattle.c_room.specs.declared.record.Record.{Record}
 use Rattle.c_room.specs.declared.status.Status.{Status}
 use Rattle.c_room.specs.declared.status.Status.TheVariants.{Done, Full, Misuse, TooMany, NoMemory}
-use Rattle.c_room.specs.Kinds.{grammar_of}
-use Rattle.c_room.specs.Orders.{column_of, FollowInOrder}
+use Rattle.c_room.specs.Orders.{column_of, FollowInOrder, FollowInOrderOf}
+use Rattle.c_room.specs.Reports.{IsColumnGain, IsColumnEnd, IsGainOfKind, IsEndOfKind}
 use Rattle.c_room.specs.Statuses.{IsEndStatus}
+use Rattle.c_room.specs.TrackWritten.{track_rows_from}
+use Rattle.c_room.specs.TrackWrittenLaws.{rows_of_events}
 use Rattle.c_room.specs.Written.{event_bytes, rows_from}
 
 -- numbers that never fall, up to one
@@ -59,14 +63,6 @@ link_by_column = record { one = λ cs c. (_, heard_push cs c (start_of cs) (star
 
 dvi_by_column : IsByColumn dvi_grammar
 dvi_by_column = record { one = λ cs c. (_, pushed cs c) }
-
-pub by_column : (kind : Kind) → IsByColumn (grammar_of kind)
-by_column Link = link_by_column
-by_column Dvi = dvi_by_column
-
-pub is_grammar : (kind : Kind) → IsGrammar (grammar_of kind)
-is_grammar Link = link_is_grammar
-is_grammar Dvi = dvi_is_grammar
 
 -- so the columns of all that it reports never fall, and none is past the last
 abbrev IsOrdered : Grammar → List Column → Type 0
@@ -106,7 +102,7 @@ columns_then : (before events : List EventAt) (records : List Record) → record
     → map column_reported before ++ map column_reported events ≡ map column_reported before ++ map column_of records
 columns_then before events records are = ap (λ js. map column_reported before ++ js) (sym (ap (map column_of) are ∙ columns_of_rows 0 events))
 
-pub gain_in_order : (g : Grammar) → IsGrammar g → IsByColumn g → (before after : Fed) (events : List EventAt) (records : List Record)
+gain_in_order : (g : Grammar) → IsGrammar g → IsByColumn g → (before after : Fed) (events : List EventAt) (records : List Record)
     → IsGainAt g before after events → records ≡ rows_from 0 events → FollowInOrder g before records
 gain_in_order g is h before after events records gain are = λ was reported.
     subst IsNonDecreasing (map-append column_reported was events ∙ columns_then was events records are) (lanes_ordered g is h after (was ++ events) (gain was reported))
@@ -135,7 +131,7 @@ last_ordered g is h fed false count was events (inr a) w =
     subst (λ (ts : List EventAt). IsNonDecreasing (map column_reported ts ++ map column_reported (all_at count events))) (sym a.1)
     (subst (λ (us : List Event). IsNonDecreasing (map column_reported (all_at count us))) (sym none) o.up)
 
-pub last_in_order : (g : Grammar) → IsGrammar g → IsByColumn g → (fed : Fed) (outcome : Outcome) (events : List Event) (records : List Record)
+last_in_order : (g : Grammar) → IsGrammar g → IsByColumn g → (fed : Fed) (outcome : Outcome) (events : List Event) (records : List Record)
     → IsLastBy g fed outcome events → records ≡ rows_from 0 (all_at outcome.columns events) → FollowInOrder g fed records
 last_in_order g is h fed outcome events records last are = λ was reported.
     subst IsNonDecreasing (columns_then was (all_at outcome.columns events) records are)
@@ -147,10 +143,41 @@ nothing_in_order g is h fed n records none = λ was reported.
     subst IsNonDecreasing (sym (append-nil (map column_reported was)) ∙ ap (λ k. map column_reported was ++ map column_of (take k records)) (sym none))
     (lanes_ordered g is h fed was reported)
 
-pub end_in_order : (g : Grammar) → IsGrammar g → IsByColumn g → (fed : Fed) (status : Status) (n : ℕ) (records : List Record)
+end_in_order : (g : Grammar) → IsGrammar g → IsByColumn g → (fed : Fed) (status : Status) (n : ℕ) (records : List Record)
     → IsEndStatus status → ((status ≡ Misuse) ⊎ (status ≡ Full) → n ≡ 0) → (status ≡ Done → FollowInOrder g fed (take n records)) → FollowInOrder g fed (take n records)
 end_in_order g is h fed Done n records ends none done = done refl
 end_in_order g is h fed Full n records ends none done = nothing_in_order g is h fed n records (none (inr refl))
 end_in_order g is h fed Misuse n records ends none done = nothing_in_order g is h fed n records (none (inl refl))
 end_in_order g is h fed TooMany n records ends none done = absurd ends
 end_in_order g is h fed NoMemory n records ends none done = absurd ends
+
+-- Of a kind.
+
+columns_in_order : (g : Grammar) → IsGrammar g → IsByColumn g → (before after : Fed) (told : List TrackEventAt) (records : List Record)
+    → IsColumnGain g before after told → records ≡ track_rows_from 0 told → FollowInOrder g before records
+columns_in_order g is h before after told records gain are =
+    gain_in_order g is h before after gain.events records gain.gain (are ∙ ap (track_rows_from 0) gain.told_are ∙ rows_of_events 0 gain.events)
+
+pub told_in_order : (kind : Kind) (before after : Fed) (told : List TrackEventAt) (records : List Record) → IsGainOfKind kind before after told → records ≡ track_rows_from 0 told → FollowInOrderOf kind before records
+told_in_order Link before after told records gain are = columns_in_order link_grammar link_is_grammar link_by_column before after told records gain are
+told_in_order Dvi before after told records gain are = columns_in_order dvi_grammar dvi_is_grammar dvi_by_column before after told records gain are
+told_in_order Track before after told records gain are = tt
+told_in_order Relock before after told records gain are = tt
+
+ends_in_order : (g : Grammar) → IsGrammar g → IsByColumn g → (fed : Fed) (counts : EndCounts) (told : List TrackEventAt) (records : List Record)
+    → IsColumnEnd g fed counts told → records ≡ track_rows_from 0 told → FollowInOrder g fed records
+ends_in_order g is h fed counts told records end are =
+    last_in_order g is h fed end.outcome end.events records end.last (are ∙ ap (track_rows_from 0) end.told_are ∙ rows_of_events 0 (all_at end.outcome.columns end.events))
+
+pub ended_in_order : (kind : Kind) (fed : Fed) (counts : EndCounts) (told : List TrackEventAt) (records : List Record) → IsEndOfKind kind fed counts told → records ≡ track_rows_from 0 told → FollowInOrderOf kind fed records
+ended_in_order Link fed counts told records end are = ends_in_order link_grammar link_is_grammar link_by_column fed counts told records end are
+ended_in_order Dvi fed counts told records end are = ends_in_order dvi_grammar dvi_is_grammar dvi_by_column fed counts told records end are
+ended_in_order Track fed counts told records end are = tt
+ended_in_order Relock fed counts told records end are = tt
+
+pub refused_in_order : (kind : Kind) (fed : Fed) (status : Status) (n : ℕ) (records : List Record)
+    → IsEndStatus status → ((status ≡ Misuse) ⊎ (status ≡ Full) → n ≡ 0) → (status ≡ Done → FollowInOrderOf kind fed (take n records)) → FollowInOrderOf kind fed (take n records)
+refused_in_order Link fed status n records ends none done = end_in_order link_grammar link_is_grammar link_by_column fed status n records ends none done
+refused_in_order Dvi fed status n records ends none done = end_in_order dvi_grammar dvi_is_grammar dvi_by_column fed status n records ends none done
+refused_in_order Track fed status n records ends none done = tt
+refused_in_order Relock fed status n records ends none done = tt

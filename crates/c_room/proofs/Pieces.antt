@@ -16,7 +16,7 @@ use Rattle.link_sink.specs.Sinks.{Fed, grown_by, IsReportedOf, IsGainOf}
 use Rattle.link_sink.specs.Streams.{LaneSinkSeen, bits_fed, most_bits}
 use Rattle.link_sink.proofs.Parts.{length-take-most}
 use Rattle.c_room.specs.declared.lanes.BitCounts.{BitCounts}
-use Rattle.c_room.specs.declared.lanes.LentLanes.{LentLanes}
+use Rattle.c_room.specs.declared.lanes.CallerLanes.{CallerLanes}
 use Rattle.c_room.specs.declared.room.EventRoom.{EventRoom}
 use Rattle.c_room.specs.Sinks.{AreFed}
 use Rattle.c_room.specs.Takes.{most_of, no_counts, counts_to, plus, grown_to, IsPiece, MayTake, MayTakeLanes, AreFew}
@@ -25,7 +25,7 @@ use Rattle.c_room.specs.WrittenLaws.{bytes_append}
 use Rattle.c_room.proofs.Gains.{GrewBy, HaveGrownBy}
 
 -- a lane that took its bits before a place may be fed the piece from there on
-lane_can : (fed longest x at size now most count : ℕ) (bytes piece : List ℕ) → MayTake fed longest bytes x → fed + x < MOST_BITS → at % 8 ≡ 0 → size ≤ 32768
+pub lane_can : (fed longest x at size now most count : ℕ) (bytes piece : List ℕ) → MayTake fed longest bytes x → fed + x < MOST_BITS → at % 8 ≡ 0 → size ≤ 32768
     → now ≡ fed + min x at → most ≤ longest + at → now ≤ most → IsPiece bytes x at size piece count → CanFeed now most piece count
 lane_can fed longest x at size now most count bytes piece may few even small is a b p =
     elim (cases_lt at x) [
@@ -52,7 +52,7 @@ lane_can fed longest x at size now most count bytes piece may few even small is 
     ]
 
 -- the pieces of three lanes
-pub record ArePieces (lanes : LentLanes) (at size : ℕ) (piece : LaneBits) : Type 0 where
+pub record ArePieces (lanes : CallerLanes) (at size : ℕ) (piece : LaneBits) : Type 0 where
   pub blue : IsPiece lanes.blue.now lanes.bits.blue at size piece.blue.now (slice_index piece.bits 0)
   pub green : IsPiece lanes.green.now lanes.bits.green at size piece.green.now (slice_index piece.bits 1)
   pub red : IsPiece lanes.red.now lanes.bits.red at size piece.red.now (slice_index piece.bits 2)
@@ -60,7 +60,7 @@ pub record ArePieces (lanes : LentLanes) (at size : ℕ) (piece : LaneBits) : Ty
 most_is : {H : Type 0} (sink : LaneSinkSeen H) → most_bits sink ≡ max (bits_fed sink 0) (max (bits_fed sink 1) (bits_fed sink 2))
 most_is sink = refl
 
-pub piece_can : {H : Type 0} (sink : LaneSinkSeen H) (fed : BitCounts) (lanes : LentLanes) (at size : ℕ) (piece : LaneBits) → AreFed sink (plus fed (counts_to at lanes.bits))
+pub piece_can : {H : Type 0} (sink : LaneSinkSeen H) (fed : BitCounts) (lanes : CallerLanes) (at size : ℕ) (piece : LaneBits) → AreFed sink (plus fed (counts_to at lanes.bits))
     → MayTakeLanes fed lanes → AreFew fed lanes.bits → at % 8 ≡ 0 → size ≤ 32768 → ArePieces lanes at size piece → CanFeedLanes (bits_fed sink) (most_bits sink) piece
 piece_can sink fed lanes at size piece are may few even small p =
     let longest = most_of fed in
@@ -76,10 +76,10 @@ piece_can sink fed lanes at size piece are may few even small p =
     }
 
 -- how many bits a lane was fed then
-lane_fed : (fed x at size count before now : ℕ) → count ≡ min (x - at) size → before ≡ fed + min x at → now ≡ before + count → now ≡ fed + min x (at + size)
+pub lane_fed : (fed x at size count before now : ℕ) → count ≡ min (x - at) size → before ≡ fed + min x at → now ≡ before + count → now ≡ fed + min x (at + size)
 lane_fed fed x at size count before now e f g = omega (arith, e, f, g)
 
-pub piece_fed : {H : Type 0} (old new : LaneSinkSeen H) (fed : BitCounts) (lanes : LentLanes) (at size : ℕ) (piece : LaneBits) → ArePieces lanes at size piece
+pub piece_fed : {H : Type 0} (old new : LaneSinkSeen H) (fed : BitCounts) (lanes : CallerLanes) (at size : ℕ) (piece : LaneBits) → ArePieces lanes at size piece
     → AreFedMore (bits_fed old) (bits_fed new) piece → AreFed old (plus fed (counts_to at lanes.bits)) → AreFed new (plus fed (counts_to (at + size) lanes.bits))
 piece_fed old new fed lanes at size piece p more are = record {
   blue = lane_fed fed.blue lanes.bits.blue at size _ _ _ p.blue.count_is are.blue more.blue;
@@ -104,7 +104,7 @@ lane_grown xs bs ps x at size count e same =
           ap (λ n. take (min x at) bs ++ take n ps) a ∙ append-nil (take (min x at) bs) ∙ ap (λ n. take n bs) b
     ])
 
-pub piece_grown : (fed : Fed) (lanes : LentLanes) (at size : ℕ) (piece : LaneBits) → ArePieces lanes at size piece
+pub piece_grown : (fed : Fed) (lanes : CallerLanes) (at size : ℕ) (piece : LaneBits) → ArePieces lanes at size piece
     → grown_by (grown_to (counts_to at lanes.bits) fed lanes) piece ≡ grown_to (counts_to (at + size) lanes.bits) fed lanes
 piece_grown fed lanes at size piece p =
     let b = lane_grown fed.blue (bytes_bits lanes.blue.now) (bytes_bits piece.blue.now) lanes.bits.blue at size _ p.blue.count_is p.blue.same in
@@ -119,7 +119,7 @@ lane_grew xs ps x at size count e = record {
   most = omega (arith, e, length-append xs (take count ps), length-take-most count ps);
 }
 
-pub piece_grew : (before : Fed) (lanes : LentLanes) (at size : ℕ) (piece : LaneBits) → ArePieces lanes at size piece → HaveGrownBy size before (grown_by before piece)
+pub piece_grew : (before : Fed) (lanes : CallerLanes) (at size : ℕ) (piece : LaneBits) → ArePieces lanes at size piece → HaveGrownBy size before (grown_by before piece)
 piece_grew before lanes at size piece p = record {
   blue = lane_grew before.blue (bytes_bits piece.blue.now) lanes.bits.blue at size _ p.blue.count_is;
   green = lane_grew before.green (bytes_bits piece.green.now) lanes.bits.green at size _ p.green.count_is;
@@ -156,7 +156,7 @@ none_fed sink fed bits are = record { blue = omega (arith, are.blue); green = om
 lane_none : (xs bs : List Bool) (n : ℕ) → n ≡ 0 → xs ++ take n bs ≡ xs
 lane_none xs bs n e = ap (λ k. xs ++ take k bs) e ∙ append-nil xs
 
-pub none_grown : (fed : Fed) (lanes : LentLanes) (taken : BitCounts) → taken.blue ≡ 0 → taken.green ≡ 0 → taken.red ≡ 0 → grown_to taken fed lanes ≡ fed
+pub none_grown : (fed : Fed) (lanes : CallerLanes) (taken : BitCounts) → taken.blue ≡ 0 → taken.green ≡ 0 → taken.red ≡ 0 → grown_to taken fed lanes ≡ fed
 none_grown fed lanes taken x y z =
     let b = lane_none fed.blue (bytes_bits lanes.blue.now) taken.blue x in
     let g = lane_none fed.green (bytes_bits lanes.green.now) taken.green y in
@@ -184,5 +184,5 @@ even_then at size next most (inr even) (inl all) some within = inl (omega (arith
 even_then at size next most (inr even) (inr whole) some within = inr (omega (arith, even, whole))
 
 -- where nothing was taken
-pub nothing_grown : (taken : BitCounts) → taken ≡ no_counts → (fed : Fed) (lanes : LentLanes) → grown_to taken fed lanes ≡ fed
+pub nothing_grown : (taken : BitCounts) → taken ≡ no_counts → (fed : Fed) (lanes : CallerLanes) → grown_to taken fed lanes ≡ fed
 nothing_grown taken e fed lanes = none_grown fed lanes taken (ap (λ b. b.blue) e) (ap (λ b. b.green) e) (ap (λ b. b.red) e)

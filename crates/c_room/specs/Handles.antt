@@ -5,7 +5,7 @@ use Rattle.c_room.specs.declared.handle.Handle.{Handle}
 use Rattle.c_room.specs.declared.kept.Kept.{Kept}
 use Rattle.c_room.specs.declared.kind.Kind.{Kind}
 use Rattle.c_room.specs.declared.lanes.BitCounts.{BitCounts}
-use Rattle.c_room.specs.declared.lanes.LentLanes.{LentLanes}
+use Rattle.c_room.specs.declared.lanes.CallerLanes.{CallerLanes}
 use Rattle.c_room.specs.Sinks.{kind_of, goes_on}
 use Rattle.c_room.specs.Stands.{Stands}
 use Rattle.c_room.specs.Takes.{MayTakeAll, AreFew}
@@ -38,7 +38,7 @@ abbrev pub MayFeedAll : Option Kept → List ℕ → List ℕ → List ℕ → B
 MayFeedAll (Some kept) blue green red bits = (goes_on kept.sink ≡ true) × MayTakeAll kept.fed blue green red bits
 MayFeedAll None blue green red bits = ⊥
 
-abbrev pub MayFeed : Option Kept → LentLanes → Type 0
+abbrev pub MayFeed : Option Kept → CallerLanes → Type 0
 MayFeed o lanes = MayFeedAll o lanes.blue.now lanes.green.now lanes.red.now lanes.bits
 
 -- with so many bits more no lane has too many

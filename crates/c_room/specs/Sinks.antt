@@ -1,14 +1,21 @@
 -- What is seen of a sink of any kind.
-use Rattle.std.specs.Prelude.{◌≡◌, Bool}
+use Rattle.std.specs.Prelude.{◌≡◌, Bool, List}
 use Rattle.link_sink.specs.Hearings.{GoesOn as LinkGoesOn}
 use Rattle.link_sink.specs.Sinks.{Fed}
 use Rattle.link_sink.specs.Streams.{LaneSinkSeen, StandsBy, bits_fed}
 use Rattle.dvi_hearing.specs.DviStands.{GoesOn as DviGoesOn}
+use Rattle.track_sink.specs.Epochs.{stray_rule}
+use Rattle.track_sink.specs.Seeking.{IsSought}
+use Rattle.track_sink.specs.TrackEvents.{TrackEventAt}
+use Rattle.track_sink.specs.TrackSinks.{EpochSinkTells}
+use Rattle.relock_sink.specs.Refuters.{HasLooked, refuter_passed}
+use Rattle.relock_sink.specs.Refuting.{refuting_rule}
 use Rattle.c_room.specs.declared.kind.Kind.{Kind}
-use Rattle.c_room.specs.declared.kind.Kind.TheVariants.{Link, Dvi}
+use Rattle.c_room.specs.declared.kind.Kind.TheVariants.{Link, Dvi, Track, Relock}
 use Rattle.c_room.specs.declared.kind_sink.KindSink.{KindSink}
-use Rattle.c_room.specs.declared.kind_sink.KindSink.TheVariants.{Link as link_sink, Dvi as dvi_sink}
+use Rattle.c_room.specs.declared.kind_sink.KindSink.TheVariants.{Link as link_sink, Dvi as dvi_sink, Track as track_sink, Relock as relock_sink}
 use Rattle.c_room.specs.declared.lanes.BitCounts.{BitCounts}
+use Rattle.c_room.specs.TrackRooms.{AreEpochsFed}
 
 -- a sink was fed so many bits of each lane
 pub record AreFed {H : Type 0} (sink : LaneSinkSeen H) (bits : BitCounts) : Type 0 where
@@ -20,18 +27,26 @@ pub record AreFed {H : Type 0} (sink : LaneSinkSeen H) (bits : BitCounts) : Type
 abbrev pub kind_of : KindSink → Kind
 kind_of (link_sink sink) = Link
 kind_of (dvi_sink sink) = Dvi
+kind_of (track_sink sink) = Track
+kind_of (relock_sink sink) = Relock
 
 -- it was not finished
 abbrev pub goes_on : KindSink → Bool
 goes_on (link_sink sink) = sink.is_open
 goes_on (dvi_sink sink) = sink.is_open
+goes_on (track_sink sink) = sink.is_open
+goes_on (relock_sink sink) = sink.is_open
 
--- it stands for these bits, by the grammar of its kind
+-- it stands for these bits, by the grammar of its kind, or by the rule by which its epochs end
 abbrev pub StandsFor : KindSink → Fed → Type 0
 StandsFor (link_sink sink) fed = StandsBy LinkGoesOn sink fed
 StandsFor (dvi_sink sink) fed = StandsBy DviGoesOn sink fed
+StandsFor (track_sink sink) fed = (reported : List TrackEventAt) × EpochSinkTells stray_rule IsSought (λ w. w.seen) sink fed reported
+StandsFor (relock_sink sink) fed = (reported : List TrackEventAt) × EpochSinkTells refuting_rule HasLooked refuter_passed sink fed reported
 
 -- it was fed so many bits of each lane
 abbrev pub HasTakenBits : KindSink → BitCounts → Type 0
 HasTakenBits (link_sink sink) bits = AreFed sink bits
 HasTakenBits (dvi_sink sink) bits = AreFed sink bits
+HasTakenBits (track_sink sink) bits = AreEpochsFed sink bits
+HasTakenBits (relock_sink sink) bits = AreEpochsFed sink bits

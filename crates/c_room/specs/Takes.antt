@@ -4,7 +4,7 @@ use Rattle.tmds_word.specs.Bits.{bytes_bits}
 use Rattle.tmds_word.specs.declared.TheConstants.{MOST_BITS}
 use Rattle.link_sink.specs.Sinks.{Fed, grown}
 use Rattle.c_room.specs.declared.lanes.BitCounts.{BitCounts}
-use Rattle.c_room.specs.declared.lanes.LentLanes.{LentLanes}
+use Rattle.c_room.specs.declared.lanes.CallerLanes.{CallerLanes}
 
 -- how many bits the longest lane has
 abbrev pub most_of : BitCounts → ℕ
@@ -37,7 +37,7 @@ pub record MayTakeAll (fed : BitCounts) (xs ys zs : List ℕ) (bits : BitCounts)
   pub green : MayTake fed.green (most_of fed) ys bits.green
   pub red : MayTake fed.red (most_of fed) zs bits.red
 
-abbrev pub MayTakeLanes : BitCounts → LentLanes → Type 0
+abbrev pub MayTakeLanes : BitCounts → CallerLanes → Type 0
 MayTakeLanes fed lanes = MayTakeAll fed lanes.blue.now lanes.green.now lanes.red.now lanes.bits
 
 -- no lane has more bits than can be counted
@@ -54,5 +54,5 @@ plus a b = record { blue = a.blue + b.blue; green = a.green + b.green; red = a.r
 abbrev pub grown_first : BitCounts → Fed → List ℕ → List ℕ → List ℕ → Fed
 grown_first taken fed blue green red = grown fed blue green red (taken.blue ∷ taken.green ∷ taken.red ∷ [])
 
-abbrev pub grown_to : BitCounts → Fed → LentLanes → Fed
+abbrev pub grown_to : BitCounts → Fed → CallerLanes → Fed
 grown_to taken fed lanes = grown_first taken fed lanes.blue.now lanes.green.now lanes.red.now

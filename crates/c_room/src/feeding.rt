@@ -9,7 +9,7 @@ ghost use Rattle.c_room.specs.Sinks.{AreFed};
 ghost use Rattle.c_room.specs.Takes.{most_of, counts_to, plus, grown_to, MayTakeLanes, AreFew};
 ghost use Rattle.c_room.specs.Written.{HasTaken};
 
-use crate::lanes::LentLanes;
+use crate::lanes::CallerLanes;
 use crate::room::EventRoom;
 use link_sink::{Hears, LaneSink, Outcome};
 
@@ -17,7 +17,7 @@ use link_sink::{Hears, LaneSink, Outcome};
 /// stopped: where it is not past the last one the room is full. It cannot fail.
 pub fn feed_lanes<H: Hears>(
     sink: &mut LaneSink<H>,
-    lanes: LentLanes<'_>,
+    lanes: CallerLanes<'_>,
     room: &mut EventRoom<'_>,
 ) -> u64
     requires open { sink.old.is_open ≡ true }
@@ -46,7 +46,7 @@ pub fn feed_lanes<H: Hears>(
 /// Takes the next piece of each lane, for which there is room.
 fn feed_piece<H: Hears>(
     sink: &mut LaneSink<H>,
-    lanes: LentLanes<'_>,
+    lanes: CallerLanes<'_>,
     at: u64,
     size: u64,
     room: &mut EventRoom<'_>,

@@ -1,21 +1,24 @@
 //! What C holds: a receiver, or none.
-ghost use Rattle.std.specs.Prelude.{◌≡◌, ◌⊎◌, ◌+◌, ◌<◌, ◌≤◌, List, length, take, true, false, Some, None};
-ghost use Rattle.period_grammar.specs.Events.{Event, EventAt, all_at};
-ghost use Rattle.link_sink.specs.Sinks.{Fed, IsGainAt, IsLastBy};
+ghost use Rattle.std.specs.Prelude.{◌≡◌, ◌⊎◌, List, length, take, true, false, Some, None};
+ghost use Rattle.link_sink.specs.Sinks.{Fed};
 ghost use Rattle.link_sink.specs.Pieces.{no_bits};
+ghost use Rattle.track_sink.specs.TrackEvents.{TrackEventAt};
 ghost use Rattle.c_room.specs.Handles.{IsHandle, IsOfKind, Holds, IsOpen, MayFeed, AreFewMore};
-ghost use Rattle.c_room.specs.Kinds.{number_of, grammar_of, IsNoKind};
-ghost use Rattle.c_room.specs.Orders.{FollowInOrder};
+ghost use Rattle.c_room.specs.KindRooms.{IsFullFor, IsShort};
+ghost use Rattle.c_room.specs.Kinds.{number_of, IsNoKind};
+ghost use Rattle.c_room.specs.Orders.{FollowInOrderOf};
+ghost use Rattle.c_room.specs.Reports.{IsGainOfKind, IsEndOfKind};
 ghost use Rattle.c_room.specs.Statuses.{IsOpenStatus, IsFeedStatus, IsEndStatus};
 ghost use Rattle.c_room.specs.Takes.{no_counts, grown_to};
-ghost use Rattle.c_room.specs.Written.{AreWritten};
+ghost use Rattle.c_room.specs.TrackWritten.{AreTold};
 ghost use Rattle.c_room.specs.declared.kind.Kind.{Kind as KindValue};
 ghost use Rattle.c_room.specs.declared.status.Status.TheVariants.{Done, Full, Misuse, TooMany, NoMemory};
 
 use crate::calls::{EndAnswer, FeedAnswer, feed_into, finish_into};
-use crate::kept::{Ended, Kept};
+use crate::ended::Ended;
+use crate::kept::Kept;
 use crate::kind::Kind;
-use crate::lanes::{BitCounts, LentLanes};
+use crate::lanes::{BitCounts, CallerLanes};
 use crate::record::Record;
 use crate::slot::Slot;
 use crate::status::Status;
@@ -66,7 +69,7 @@ impl Handle {
     /// Takes bits of each lane, and writes the events that they decide: `Kept::feed`. `Misuse` where there is no receiver, too.
     pub fn feed(
         &mut self,
-        lanes: LentLanes<'_>,
+        lanes: CallerLanes<'_>,
         records: &mut [Record],
         bytes: &mut [u8],
     ) -> FeedAnswer
@@ -74,14 +77,14 @@ impl Handle {
         ensures handle { IsHandle self.new }
         ensures stands { (kind : KindValue) (fed : Fed) → Holds self.old.slot.value kind fed → Holds self.new.slot.value kind (grown_to result.taken fed lanes.entry) }
         ensures reported { (kind : KindValue) (fed : Fed) → Holds self.old.slot.value kind fed
-            → (events : List EventAt) × IsGainAt (grammar_of kind) fed (grown_to result.taken fed lanes.entry) events
-            × AreWritten events result.events records.new result.bytes bytes.new }
+            → (told : List TrackEventAt) × IsGainOfKind kind fed (grown_to result.taken fed lanes.entry) told
+            × AreTold told result.events records.new result.bytes bytes.new }
         ensures done { result.status ≡ Done → result.taken ≡ lanes.entry.bits }
-        ensures full { result.status ≡ Full → (length records.new < result.events + 104) ⊎ (length bytes.new < result.bytes + 12327) }
+        ensures full { result.status ≡ Full → (kind : KindValue) × IsOfKind self.old.slot.value kind × IsFullFor kind (length records.new) (length bytes.new) result.events result.bytes }
         ensures misuse { result.status ≡ Misuse → MayFeed self.old.slot.value lanes.entry → ⊥ }
         ensures many { result.status ≡ TooMany → AreFewMore self.old.slot.value lanes.entry.bits → ⊥ }
         ensures refused { (result.status ≡ Misuse) ⊎ (result.status ≡ TooMany) → (self.new.slot.value ≡ self.old.slot.value) × (result.taken ≡ no_counts) }
-        ensures in_order { (kind : KindValue) (fed : Fed) → Holds self.old.slot.value kind fed → FollowInOrder (grammar_of kind) fed (take result.events records.new) }
+        ensures in_order { (kind : KindValue) (fed : Fed) → Holds self.old.slot.value kind fed → FollowInOrderOf kind fed (take result.events records.new) }
         ensures kinds { IsFeedStatus result.status }
     {
         if self.held == 0 {
@@ -98,19 +101,19 @@ impl Handle {
         answer
     }
 
-    /// Writes the event that is left at the end: `Kept::finish`. `Misuse` where there is no receiver, too.
+    /// Writes what is left at the end: `Kept::finish`. `Misuse` where there is no receiver, too.
     pub fn finish(&mut self, records: &mut [Record], bytes: &mut [u8]) -> EndAnswer
         requires { IsHandle self.old }
         ensures handle { IsHandle self.new }
         ensures stands { (kind : KindValue) (fed : Fed) → Holds self.old.slot.value kind fed → Holds self.new.slot.value kind fed }
         ensures reported { (kind : KindValue) (fed : Fed) → Holds self.old.slot.value kind fed → result.ended.status ≡ Done
-            → (events : List Event) × IsLastBy (grammar_of kind) fed result.ended.outcome events
-            × AreWritten (all_at result.ended.outcome.columns events) result.events records.new result.bytes bytes.new }
+            → (told : List TrackEventAt) × IsEndOfKind kind fed result.ended.counts told
+            × AreTold told result.events records.new result.bytes bytes.new }
         ensures done { result.ended.status ≡ Done → IsOpen self.new.slot.value → ⊥ }
-        ensures full { result.ended.status ≡ Full → length records.new ≤ 0 }
+        ensures full { result.ended.status ≡ Full → (kind : KindValue) × IsOfKind self.old.slot.value kind × IsShort kind (length records.new) (length bytes.new) }
         ensures misuse { result.ended.status ≡ Misuse → IsOpen self.old.slot.value → ⊥ }
         ensures refused { (result.ended.status ≡ Misuse) ⊎ (result.ended.status ≡ Full) → (self.new.slot.value ≡ self.old.slot.value) × (result.events ≡ 0) }
-        ensures in_order { (kind : KindValue) (fed : Fed) → Holds self.old.slot.value kind fed → FollowInOrder (grammar_of kind) fed (take result.events records.new) }
+        ensures in_order { (kind : KindValue) (fed : Fed) → Holds self.old.slot.value kind fed → FollowInOrderOf kind fed (take result.events records.new) }
         ensures kinds { IsEndStatus result.ended.status }
     {
         if self.held == 0 {

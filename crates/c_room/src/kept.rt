@@ -1,23 +1,23 @@
 //! What C keeps from call to call.
-ghost use Rattle.std.specs.Prelude.{◌≡◌, ◌⊎◌, ℕ, ◌<◌, ◌≤◌, ◌^◌, List, [], true, false, IfOk, Some, None};
-ghost use Rattle.period_grammar.specs.Events.{Event, EventAt, all_at};
-ghost use Rattle.link_sink.specs.Sinks.{Fed, IsGainAt, IsLastBy};
+ghost use Rattle.std.specs.Prelude.{◌≡◌, ◌⊎◌, ◌<◌, ◌≤◌, List, [], true, false, IfOk};
+ghost use Rattle.link_sink.specs.Sinks.{Fed};
 ghost use Rattle.link_sink.specs.Pieces.{no_bits};
-ghost use Rattle.c_room.specs.Kinds.{grammar_of};
-ghost use Rattle.c_room.specs.Rooms.{IsFull, HasNoOne};
+ghost use Rattle.track_sink.specs.TrackEvents.{TrackEventAt};
+ghost use Rattle.c_room.specs.KindRooms.{IsKindFull, LacksEnd};
+ghost use Rattle.c_room.specs.Reports.{IsGainOfKind, IsEndOfKind};
 ghost use Rattle.c_room.specs.Sinks.{kind_of, goes_on};
 ghost use Rattle.c_room.specs.Stands.{Stands};
 ghost use Rattle.c_room.specs.Statuses.{IsFeedStatus, IsEndStatus};
 ghost use Rattle.c_room.specs.Takes.{no_counts, most_of, counts_to, grown_to, MayTakeLanes, AreFew};
-ghost use Rattle.c_room.specs.Written.{HasTaken};
+ghost use Rattle.c_room.specs.TrackWritten.{HasTakenTrack};
 ghost use Rattle.c_room.specs.declared.status.Status.TheVariants.{Done, Full, Misuse, TooMany};
 
+use crate::ended::Ended;
 use crate::kind::Kind;
 use crate::kind_sink::KindSink;
-use crate::lanes::{BitCounts, LentLanes};
+use crate::lanes::{BitCounts, CallerLanes};
 use crate::room::EventRoom;
 use crate::status::Status;
-use link_sink::Outcome;
 use outside_io::NoMemory;
 use std::alloc::Global;
 
@@ -66,28 +66,6 @@ impl Taken {
     }
 }
 
-/// What an end answers: its status, and what is said of the lanes where it is `Done`.
-#[derive(Clone, Copy, Drop)]
-pub struct Ended {
-    pub status: Status,
-    pub outcome: Outcome,
-}
-
-impl Ended {
-    /// Nothing was ended.
-    pub fn refused(status: Status) -> Ended
-        ensures { result.status ≡ status }
-    {
-        Ended {
-            status,
-            outcome: Outcome {
-                aligned: false,
-                columns: 0,
-            },
-        }
-    }
-}
-
 impl Kept {
     /// One of a kind that was fed nothing, with all memory that it ever has.
     pub fn open(alloc: Global, kind: Kind) -> Result<Kept, NoMemory>
@@ -103,14 +81,14 @@ impl Kept {
     /// Takes bits of each lane, and writes the events that they decide. `Done` where it took all; `Full` where the room did not
     /// suffice: the rest of the bits goes on; `Misuse` where it was finished, where a lane has fewer bytes than bits, and where
     /// bits come after a part of a byte or after fewer bits than another lane had; `TooMany` where there would be too many.
-    pub fn feed(&mut self, lanes: LentLanes<'_>, room: &mut EventRoom<'_>) -> Taken
+    pub fn feed(&mut self, lanes: CallerLanes<'_>, room: &mut EventRoom<'_>) -> Taken
         requires { (fed : Fed) × Stands self.old fed }
         ensures kind { kind_of self.new.sink ≡ kind_of self.old.sink }
         ensures stands { (fed : Fed) → Stands self.old fed → Stands self.new (grown_to result.bits fed lanes.entry) }
         ensures reported { (fed : Fed) → Stands self.old fed
-            → (events : List EventAt) × IsGainAt (grammar_of (kind_of self.old.sink)) fed (grown_to result.bits fed lanes.entry) events × HasTaken room.old room.new events }
+            → (told : List TrackEventAt) × IsGainOfKind (kind_of self.old.sink) fed (grown_to result.bits fed lanes.entry) told × HasTakenTrack room.old room.new told }
         ensures done { result.status ≡ Done → result.bits ≡ lanes.entry.bits }
-        ensures full { result.status ≡ Full → IsFull room.new }
+        ensures full { result.status ≡ Full → IsKindFull (kind_of self.old.sink) room.new }
         ensures misuse { result.status ≡ Misuse → goes_on self.old.sink ≡ true → MayTakeLanes self.old.fed lanes.entry → ⊥ }
         ensures many { result.status ≡ TooMany → AreFew self.old.fed lanes.entry.bits → ⊥ }
         ensures refused { (result.status ≡ Misuse) ⊎ (result.status ≡ TooMany) → (self.new ≡ self.old) × (result.bits ≡ no_counts) }
@@ -127,45 +105,45 @@ impl Kept {
     }
 
     /// The same of lanes that may be taken. Answers before which bit of each lane it stopped.
-    fn feed_open(&mut self, lanes: LentLanes<'_>, room: &mut EventRoom<'_>) -> u64
+    fn feed_open(&mut self, lanes: CallerLanes<'_>, room: &mut EventRoom<'_>) -> u64
         requires open { goes_on self.old.sink ≡ true }
         requires stands { (fed : Fed) × Stands self.old fed }
         requires may { MayTakeLanes self.old.fed lanes }
         requires few { AreFew self.old.fed lanes.bits }
         ensures kind { kind_of self.new.sink ≡ kind_of self.old.sink }
-        ensures full { result < most_of lanes.entry.bits → IsFull room.new }
+        ensures full { result < most_of lanes.entry.bits → IsKindFull (kind_of self.old.sink) room.new }
         ensures stands { (fed : Fed) → Stands self.old fed → Stands self.new (grown_to (counts_to result lanes.entry.bits) fed lanes.entry) }
         ensures reported { (fed : Fed) → Stands self.old fed
-            → (events : List EventAt) × IsGainAt (grammar_of (kind_of self.old.sink)) fed (grown_to (counts_to result lanes.entry.bits) fed lanes.entry) events × HasTaken room.old room.new events }
+            → (told : List TrackEventAt) × IsGainOfKind (kind_of self.old.sink) fed (grown_to (counts_to result lanes.entry.bits) fed lanes.entry) told × HasTakenTrack room.old room.new told }
     {
         let at = self.sink.feed(lanes, room);
         self.fed = self.fed.plus(lanes.bits.first(at));
         at
     }
 
-    /// Writes the event that is left at the end, and answers whether the lanes were aligned and how many columns they have; it is
-    /// then finished. `Full` where there is no room for one event, `Misuse` where it was finished before: then nothing is changed.
+    /// Writes what is left at the end, and answers what was counted; it is then finished. `Full` where there is no room for all that
+    /// may be left, `Misuse` where it was finished before: then nothing is changed.
     pub fn finish(&mut self, room: &mut EventRoom<'_>) -> Ended
         requires { (fed : Fed) × Stands self.old fed }
         ensures kind { kind_of self.new.sink ≡ kind_of self.old.sink }
         ensures stands { (fed : Fed) → Stands self.old fed → Stands self.new fed }
         ensures reported { (fed : Fed) → Stands self.old fed → result.status ≡ Done
-            → (events : List Event) × IsLastBy (grammar_of (kind_of self.old.sink)) fed result.outcome events × HasTaken room.old room.new (all_at result.outcome.columns events) }
+            → (told : List TrackEventAt) × IsEndOfKind (kind_of self.old.sink) fed result.counts told × HasTakenTrack room.old room.new told }
         ensures done { result.status ≡ Done → goes_on self.new.sink ≡ false }
-        ensures full { result.status ≡ Full → HasNoOne room.old }
+        ensures full { result.status ≡ Full → LacksEnd (kind_of self.old.sink) room.old }
         ensures misuse { result.status ≡ Misuse → goes_on self.old.sink ≡ false }
-        ensures refused { (result.status ≡ Misuse) ⊎ (result.status ≡ Full) → (self.new ≡ self.old) × HasTaken room.old room.new [] }
+        ensures refused { (result.status ≡ Misuse) ⊎ (result.status ≡ Full) → (self.new ≡ self.old) × HasTakenTrack room.old room.new [] }
         ensures kinds { IsEndStatus result.status }
     {
         if !self.sink.is_open() {
             return Ended::refused(Status::Misuse);
         }
-        if !room.has_one() {
+        if !self.sink.can_finish(room) {
             return Ended::refused(Status::Full);
         }
         Ended {
             status: Status::Done,
-            outcome: self.sink.finish(room),
+            counts: self.sink.finish(room),
         }
     }
 

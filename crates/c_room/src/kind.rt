@@ -2,13 +2,17 @@
 ghost use Rattle.std.specs.Prelude.{◌≡◌, MatchOption};
 ghost use Rattle.c_room.specs.Kinds.{number_of, IsNoKind};
 
-/// By what grammar a receiver hears.
+/// How a receiver hears.
 #[derive(Clone, Copy, Drop)]
 pub enum Kind {
     /// A link, with guard bands and preambles.
     Link,
     /// A link without them (DVI 1.0).
     Dvi,
+    /// A link whose lanes may lose bits: where one does they are searched anew.
+    Track,
+    /// The same, from an alignment that a guard band confirms, and as long as none refutes it.
+    Relock,
 }
 
 impl Kind {
@@ -19,6 +23,8 @@ impl Kind {
         match number {
             0 => Some(Kind::Link),
             1 => Some(Kind::Dvi),
+            2 => Some(Kind::Track),
+            3 => Some(Kind::Relock),
             _ => None,
         }
     }

@@ -76,14 +76,14 @@ fn is_few(fed: u64, more: u64) -> bool
 
 /// Bits of three lanes that are lent, any number of each: bit i of a lane is bit `i % 8` of byte `i / 8`.
 #[derive(Clone, Copy, Drop)]
-pub struct LentLanes<'a> {
+pub struct CallerLanes<'a> {
     pub blue: &'a [u8],
     pub green: &'a [u8],
     pub red: &'a [u8],
     pub bits: BitCounts,
 }
 
-impl<'a> LentLanes<'a> {
+impl<'a> CallerLanes<'a> {
     /// Whether lanes that were fed so many bits may take these.
     pub fn may_follow(&self, fed: BitCounts) -> bool
         ensures may { OnTrue result (MayTakeLanes fed self.now) }

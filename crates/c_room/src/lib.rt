@@ -2,6 +2,7 @@
 #![tactic(auto)]
 
 mod calls;
+mod ended;
 mod feeding;
 mod handle;
 mod kept;
@@ -13,11 +14,13 @@ mod record;
 mod room;
 mod slot;
 mod status;
+mod track_feeding;
+mod track_room;
 
 pub use calls::{EndAnswer, FeedAnswer};
+pub use ended::{EndCounts, Ended};
 pub use handle::Handle;
-pub use kept::Ended;
-pub use lanes::{BitCounts, LentLanes};
+pub use lanes::{BitCounts, CallerLanes};
 pub use record::Record;
 pub use room::EventRoom;
 pub use status::Status;

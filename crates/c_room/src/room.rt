@@ -1,6 +1,7 @@
 //! Writes events to an array and a buffer of the caller's.
 ghost use Rattle.std.specs.Prelude.{◌≡◌, ◌⊎◌, ◌+◌, ◌-◌, ◌*◌, ◌/◌, ◌%◌, ◌<◌, ◌≤◌, ◌++◌, ◌∷◌, [], ℕ, List, length, take, slice_index, OnOk, OnErr};
 ghost use Rattle.std.specs.Bool.{OnTrue, OnFalse};
+ghost use Rattle.outside_io.specs.Causes.{HasCause};
 ghost use Rattle.period_grammar.specs.Events.{at};
 ghost use Rattle.period_grammar.specs.Lending.{lent_event, fault_event};
 ghost use Rattle.c_room.specs.Written.{row, says, event_row, event_said, event_bytes, Wrote, HasNoRoom};
@@ -98,14 +99,24 @@ impl<'a> EventRoom<'a> {
         rest.min(bits_for(self.columns_left()))
     }
 
+    /// How many events and bytes have room.
+    pub(crate) fn left(&self) -> (usize, usize)
+        ensures events { result.0 ≡ length self.now.records.now - self.now.count }
+        ensures bytes { result.1 ≡ length self.now.bytes.now - self.now.used }
+    {
+        (
+            self.records.len().saturating_sub(self.count),
+            self.bytes.len().saturating_sub(self.used),
+        )
+    }
+
     /// So many columns may report whatever they can.
     fn columns_left(&self) -> usize
         ensures events { 8 * result ≤ length self.now.records.now - self.now.count }
         ensures bytes { 0 < result → 12288 + 3 * result ≤ length self.now.bytes.now - self.now.used }
         ensures full { result < 13 → IsFull self.now }
     {
-        let events = self.records.len().saturating_sub(self.count);
-        let bytes = self.bytes.len().saturating_sub(self.used);
+        let (events, bytes) = self.left();
         columns_for(events, bytes)
     }
 
@@ -168,6 +179,21 @@ impl<'a> EventRoom<'a> {
                 self.put(column, Said::new(5, named, 0, 0, 0), b"")
             }
             EventRef::Fault(fault) => self.put(column, said_of(fault), b""),
+        }
+    }
+
+    /// Puts what ends an epoch of lanes that may lose bits: it has no column, and no bytes.
+    pub(crate) fn put_end(&mut self, said: Said) -> Result<(), Failed>
+        ensures put { OnOk result (Wrote self.old self.new (row 0 self.old.used 0 said ∷ []) []) }
+        ensures full { OnErr result ((length self.old.records.now ≤ self.old.count) ⊎ (length self.old.bytes.now < self.old.used + 0)) }
+        ensures cause { HasCause self.old.failed self.new.failed result }
+    {
+        match self.put(0, said, b"") {
+            Ok(()) => Ok(()),
+            Err(e) => {
+                self.failed = self.failed.saturating_add(1);
+                Err(e)
+            }
         }
     }
 

@@ -1,36 +1,37 @@
 //! The receiver and the sender of a link for C: `vabgrot.h` says what each call does, and what C owes.
 #![tactic(auto)]
 
-ghost use Rattle.std.specs.Prelude.{◌≡◌, ◌⊎◌, ◌+◌, ◌<◌, ◌≤◌, ◌/◌, ℤ, pos, List, [], ◌∷◌, length, take, replicate, map, cond, None};
+ghost use Rattle.std.specs.Prelude.{◌≡◌, ◌⊎◌, ◌<◌, ◌/◌, ℤ, pos, List, [], ◌∷◌, length, take, replicate, map, None};
 ghost use Rattle.tmds_word.specs.Column.{column_of};
 ghost use Rattle.terc4.specs.Tables.{video_guard};
 ghost use Rattle.island_pack.specs.Packets.{Carries};
 ghost use Rattle.island_pack.specs.Periods.{pixels_of};
 ghost use Rattle.island_pack.specs.Spelling.{SpellsPixels, column_words, control_column, guard_column};
-ghost use Rattle.period_grammar.specs.Events.{Event, EventAt, all_at};
-ghost use Rattle.link_sink.specs.Sinks.{Fed, IsGainAt, IsLastBy};
+ghost use Rattle.link_sink.specs.Sinks.{Fed};
 ghost use Rattle.link_sink.specs.Pieces.{no_bits};
-ghost use Rattle.link_sink.specs.declared.hear.Outcome.{Outcome as OutcomeValue};
+ghost use Rattle.track_sink.specs.TrackEvents.{TrackEventAt};
 ghost use Rattle.command_line.specs.declared.command.Command.TheVariants.{Check};
 ghost use Rattle.c_capture.specs.Listed.{Lists, Recovers};
 ghost use Rattle.c_capture.specs.Made.{Makes};
 ghost use Rattle.c_capture.specs.Statuses.{code_of as listing_code};
-ghost use Rattle.c_capture.specs.declared.status.Status.{Status as ListingStatus};
+ghost use Rattle.c_capture.specs.declared.status.ListingStatus.{ListingStatus};
 ghost use Rattle.column_rows.specs.Laid.{AreLine, IsPacket, IsRun, Lays, packet_of, rows_of};
 ghost use Rattle.column_rows.specs.Statuses.{code_of as row_code};
-ghost use Rattle.column_rows.specs.declared.laid.Status.{Status as RowStatus};
+ghost use Rattle.column_rows.specs.declared.laid.RowStatus.{RowStatus};
 ghost use Rattle.c_room.specs.Handles.{IsHandle, IsOfKind, Holds, IsOpen, MayFeedAll, AreFewMore};
-ghost use Rattle.c_room.specs.Kinds.{number_of, grammar_of, IsNoKind};
-ghost use Rattle.c_room.specs.Orders.{FollowInOrder};
+ghost use Rattle.c_room.specs.KindRooms.{IsFullFor, IsShort};
+ghost use Rattle.c_room.specs.Kinds.{number_of, IsNoKind};
+ghost use Rattle.c_room.specs.Orders.{FollowInOrderOf};
+ghost use Rattle.c_room.specs.Reports.{IsGainOfKind, IsEndOfKind, counted};
 ghost use Rattle.c_room.specs.Statuses.{code_of, IsOpenStatus, IsFeedStatus, IsEndStatus};
 ghost use Rattle.c_room.specs.Takes.{no_counts, grown_first};
-ghost use Rattle.c_room.specs.Written.{AreWritten};
+ghost use Rattle.c_room.specs.TrackWritten.{AreTold};
 ghost use Rattle.c_room.specs.declared.kind.Kind.{Kind as KindValue};
 ghost use Rattle.c_room.specs.declared.status.Status.{Status as StatusValue};
 ghost use Rattle.c_room.specs.declared.status.Status.TheVariants.{Done, Full, Misuse, TooMany, NoMemory};
 
-use c_capture::{Tap, check, make, recover};
-use c_room::{BitCounts, Handle, LentLanes, Record};
+use c_capture::{LentTap, check, make, recover};
+use c_room::{BitCounts, CallerLanes, Handle, Record};
 use column_rows::{
     encode_island_guard, encode_packet, encode_pixels, encode_run, encode_video_guard,
 };
@@ -46,9 +47,9 @@ pub struct Answer {
     pub bytes: u64,
     /// How many bits of each lane it took.
     pub taken: BitCounts,
-    /// At the end: how many columns there were.
+    /// At the end: how many columns there were; of lanes that may lose bits how many epochs.
     pub columns: u64,
-    /// At the end: 1 where the lanes were aligned.
+    /// At the end: 1 where the lanes were aligned; of lanes that may lose bits in how many epochs they were.
     pub aligned: u64,
 }
 
@@ -85,18 +86,18 @@ pub extern "C" fn vabgrot_feed(
     ensures handle { IsHandle handle.new }
     ensures stands { (kind : KindValue) (fed : Fed) → Holds handle.old.slot.value kind fed → Holds handle.new.slot.value kind (grown_first answer.new.taken fed blue.now green.now red.now) }
     ensures reported { (kind : KindValue) (fed : Fed) → Holds handle.old.slot.value kind fed
-        → (reported : List EventAt) × IsGainAt (grammar_of kind) fed (grown_first answer.new.taken fed blue.now green.now red.now) reported
-        × AreWritten reported answer.new.events events.new answer.new.bytes bytes.new }
+        → (told : List TrackEventAt) × IsGainOfKind kind fed (grown_first answer.new.taken fed blue.now green.now red.now) told
+        × AreTold told answer.new.events events.new answer.new.bytes bytes.new }
     ensures done { result ≡ code_of Done → answer.new.taken ≡ bits.now }
-    ensures full { result ≡ code_of Full → (length events.new < answer.new.events + 104) ⊎ (length bytes.new < answer.new.bytes + 12327) }
+    ensures full { result ≡ code_of Full → (kind : KindValue) × IsOfKind handle.old.slot.value kind × IsFullFor kind (length events.new) (length bytes.new) answer.new.events answer.new.bytes }
     ensures misuse { result ≡ code_of Misuse → MayFeedAll handle.old.slot.value blue.now green.now red.now bits.now → ⊥ }
     ensures many { result ≡ code_of TooMany → AreFewMore handle.old.slot.value bits.now → ⊥ }
     ensures refused { (result ≡ code_of Misuse) ⊎ (result ≡ code_of TooMany) → (handle.new.slot.value ≡ handle.old.slot.value) × (answer.new.taken ≡ no_counts) }
-    ensures in_order { (kind : KindValue) (fed : Fed) → Holds handle.old.slot.value kind fed → FollowInOrder (grammar_of kind) fed (take answer.new.events events.new) }
+    ensures in_order { (kind : KindValue) (fed : Fed) → Holds handle.old.slot.value kind fed → FollowInOrderOf kind fed (take answer.new.events events.new) }
     ensures memory { result ≡ code_of NoMemory → ⊥ }
     ensures kinds { (status : StatusValue) × IsFeedStatus status × (result ≡ code_of status) }
 {
-    let lanes = LentLanes {
+    let lanes = CallerLanes {
         blue,
         green,
         red,
@@ -113,7 +114,7 @@ pub extern "C" fn vabgrot_feed(
     said.status.code()
 }
 
-/// Writes the event that is left at the end.
+/// Writes what is left at the end.
 #[tactic(auto, using(c_room::specs::StatusLaws::code_is))]
 #[unsafe(no_mangle)]
 pub extern "C" fn vabgrot_finish(
@@ -126,14 +127,13 @@ pub extern "C" fn vabgrot_finish(
     ensures handle { IsHandle handle.new }
     ensures stands { (kind : KindValue) (fed : Fed) → Holds handle.old.slot.value kind fed → Holds handle.new.slot.value kind fed }
     ensures reported { (kind : KindValue) (fed : Fed) → Holds handle.old.slot.value kind fed → result ≡ code_of Done
-        → (outcome : OutcomeValue) × (reported : List Event) × IsLastBy (grammar_of kind) fed outcome reported
-        × AreWritten (all_at outcome.columns reported) answer.new.events events.new answer.new.bytes bytes.new
-        × (answer.new.columns ≡ outcome.columns) × (answer.new.aligned ≡ cond outcome.aligned 1 0) }
+        → (told : List TrackEventAt) × IsEndOfKind kind fed (counted answer.new.columns answer.new.aligned) told
+        × AreTold told answer.new.events events.new answer.new.bytes bytes.new }
     ensures done { result ≡ code_of Done → IsOpen handle.new.slot.value → ⊥ }
-    ensures full { result ≡ code_of Full → length events.new ≤ 0 }
+    ensures full { result ≡ code_of Full → (kind : KindValue) × IsOfKind handle.old.slot.value kind × IsShort kind (length events.new) (length bytes.new) }
     ensures misuse { result ≡ code_of Misuse → IsOpen handle.old.slot.value → ⊥ }
     ensures refused { (result ≡ code_of Misuse) ⊎ (result ≡ code_of Full) → (handle.new.slot.value ≡ handle.old.slot.value) × (answer.new.events ≡ 0) }
-    ensures in_order { (kind : KindValue) (fed : Fed) → Holds handle.old.slot.value kind fed → FollowInOrder (grammar_of kind) fed (take answer.new.events events.new) }
+    ensures in_order { (kind : KindValue) (fed : Fed) → Holds handle.old.slot.value kind fed → FollowInOrderOf kind fed (take answer.new.events events.new) }
     ensures others { (result ≡ code_of NoMemory) ⊎ (result ≡ code_of TooMany) → ⊥ }
     ensures kinds { (status : StatusValue) × IsEndStatus status × (result ≡ code_of status) }
 {
@@ -142,8 +142,8 @@ pub extern "C" fn vabgrot_finish(
         events: said.events as u64,
         bytes: said.bytes as u64,
         taken: BitCounts::none(),
-        columns: said.ended.outcome.columns,
-        aligned: u64::from(said.ended.outcome.aligned),
+        columns: said.ended.counts.columns,
+        aligned: said.ended.counts.aligned,
     };
     said.ended.status.code()
 }
@@ -211,7 +211,7 @@ pub extern "C" fn vabgrot_check(
 pub extern "C" fn vabgrot_make(
     alloc: Global,
     number: u32,
-    tap: &Tap,
+    tap: &LentTap,
     listing: &[u8],
     capture: &mut [u8],
     size: &mut usize,
