@@ -24,7 +24,8 @@ from vabgrot.tools import watch
 FRAME, FRAMES = 1800, 3  # columns of a frame of examples/bars.content, and frames
 WHOLE = 10 * FRAME * FRAMES  # bits of them, which are whole bytes
 CAPTURES = 12
-SOAKED, SETTLED, MOST = 10, 3, 2048  # seconds, those after which memory is to stand, and the KiB by which it may grow
+SOAKED, EARLY, LATE = 16, slice(3, 7), slice(13, 16)  # seconds, and those whose memory is compared: it rises and falls with a batch
+MOST = 2048  # the KiB by which the least of the late ones may be more than the most of the early ones
 
 
 @pytest.fixture(autouse=True)
@@ -231,7 +232,7 @@ def test_a_soak(bars, tmp_path):
         ran.send_signal(signal.SIGINT)
         out = ran.communicate(timeout=HANGS)[0].decode()
     assert ran.returncode == 0 and out.endswith("no fault\n")
-    assert max(sizes[SETTLED:]) - sizes[SETTLED] < MOST, sizes
+    assert min(sizes[LATE]) - max(sizes[EARLY]) < MOST, sizes
 
 
 def resident(process):

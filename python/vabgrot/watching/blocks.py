@@ -6,18 +6,18 @@ from __future__ import annotations
 import os
 from bisect import bisect_right
 from collections.abc import Sequence
-from itertools import accumulate
 
 import numpy as np
 
 from vabgrot.capture import BLOCK
 from vabgrot.receiving import Octets
 
-BLOCKS = 256  # of each lane for which there is room
-MOST = 256  # rooms of blocks that one call reads into: a pipe has no more
+BLOCKS = 1024  # of each lane for which there is room: what is done once a room, or once a batch of events, is then done seldom
+FEW, MOST = 256, 1024  # rooms of blocks that one call reads into: a pipe has no more than the one, and no call takes more than the other
 LANES = 3
 WITHOUT_END = 1 << 60  # bytes of a lane of raw blocks: more than come
 LONGEST = BLOCKS * BLOCK
+Cut = tuple[list[memoryview], list[int], list[int]]  # rooms, where each ends, and where each three end
 
 
 class Blocks:
@@ -26,18 +26,26 @@ class Blocks:
     def __init__(self, sizes: Sequence[int] = (WITHOUT_END,) * LANES) -> None:
         self.left = list(sizes)
         self.rooms: list[Octets] = [np.empty(LONGEST, np.uint8) for _ in range(LANES)]
+        self.most = FEW
+        self.usual: Cut = [], [], []
         self.usual = self.cut([LONGEST] * LANES)
         self.begin()
 
-    def cut(self, sizes: Sequence[int]) -> tuple[list[memoryview], list[int], list[int]]:
-        """The blocks of lanes of so many bytes at most as rooms, in the order of a file; where each room ends, and each three."""
-        views = [room.data for room in self.rooms]
-        found, stops = [], []
-        for at in range(0, min(LONGEST, max(sizes)), BLOCK):
-            found += [view[at : min(at + BLOCK, size)] for view, size in zip(views, sizes) if size > at]
-            stops.append(len(found))
-        ends = list(accumulate(map(len, found)))
-        return found, ends, [ends[stop - 1] for stop in stops]
+    def cut(self, sizes: Sequence[int]) -> Cut:
+        """The blocks of lanes of so many bytes at most as rooms, in the order of a file; where each room ends, and each three. Those of
+        whole blocks of all lanes are the usual ones."""
+        views, ends, stops = self.usual
+        whole = min(len(stops), min(sizes) // BLOCK)
+        views, ends, stops = views[: LANES * whole], ends[: LANES * whole], stops[:whole]
+        rooms, end = [room.data for room in self.rooms], LANES * whole * BLOCK
+        for at in range(whole * BLOCK, min(LONGEST, max(sizes)), BLOCK):
+            for room, size in zip(rooms, sizes):
+                if size > at:
+                    views.append(room[at : min(at + BLOCK, size)])
+                    end += len(views[-1])
+                    ends.append(end)
+            stops.append(end)
+        return views, ends, stops
 
     def begin(self) -> None:
         """Room for the next ones."""
@@ -56,11 +64,12 @@ class Blocks:
         return not any(self.left)
 
     def read(self, file: int) -> int:
-        """Reads what is there into the room; answers how many bytes came."""
+        """Reads what is there into the room; answers how many bytes came. A file that fills all that one call reads into is given more."""
         at = bisect_right(self.ends, self.filled)
         into = self.filled - (self.ends[at - 1] if at else 0)
-        came = os.readv(file, [self.views[at][into:], *self.views[at + 1 : at + MOST]])
+        came = os.readv(file, [self.views[at][into:], *self.views[at + 1 : at + self.most]])
         self.filled += came
+        self.most = min(2 * self.most, MOST) if self.filled == self.ends[at : at + self.most][-1] else FEW
         return came
 
     def whole(self) -> int:

@@ -2,6 +2,7 @@
 
 from __future__ import annotations
 
+import functools
 from collections import Counter, deque
 from collections.abc import Callable
 from dataclasses import dataclass, field
@@ -22,16 +23,15 @@ Kinds = npt.NDArray[np.int8]
 Bytes = npt.NDArray[np.uint8]
 Key = tuple[str, int | None]  # the kind of a fault, and its lane
 RUN, LINE, PACKET, WORD = map(int, (Kind.RUN, Kind.LINE, Kind.PACKET, Kind.WORD))  # NumPy compares plain numbers sooner
-END, SLIP = -1, Kind.GUARD + 1  # beside the kinds of events: the end of a listing, and a fault of lanes that are aligned anew
+END, SLIP = -1, int(Kind.SLIP)  # the end of a listing, which is no event; and the last kind that is counted: nothing here is relocked
 NAMES: dict[int, str] = {**{int(kind): name for kind, name in events.NAMES.items()}, SLIP: "slip"}  # of faults
 KINDS = {name: kind for kind, name in NAMES.items()}
 HAS_LANE = np.array([NAMES.get(kind) in LANED for kind in range(SLIP + 1)])
-PARTS = np.isin(np.arange(SLIP + 1), (RUN, WORD), invert=True)  # whether an event parts control columns
-PARTS_NOT = bytes((RUN, WORD))
+PARTS_NOT = bytes((RUN, WORD))  # the events that do not part control columns
 LEAST = 3  # neighbouring columns of one value of VSYNC, from which on it has it
-SIZE, TYPES = 31, 256  # bytes of a packet, and types that it can have
+SIZE = 31  # bytes of a packet
 SAMPLES = 2  # the type of packets of samples
-STANDS = np.isin(np.arange(TYPES), (0, SAMPLES, 7, 8, 9), invert=True)  # the types but null packets and those of sound
+FLEETING = {0, SAMPLES, 7, 8, 9}  # the types of null packets and of those of sound, which do not stand
 LAST = 10  # faults that are kept
 WAYS = len(LANES) + 1  # a fault has one of the lanes, or none
 
@@ -40,6 +40,11 @@ def places_of(mask: npt.NDArray[np.generic]) -> Ints:
     """Where an array is not 0; quicker than the like of NumPy for some hundreds."""
     (found,) = mask.nonzero()
     return found
+
+
+def rows_before(lines: Ints, places: Ints, at: int) -> int:
+    """How many of these lines are before one of some places."""
+    return int(np.searchsorted(lines, places[at]))
 
 
 class Fault(NamedTuple):
@@ -58,7 +63,7 @@ Ear = Callable[[Fault], None]
 class Batch(Protocol):
     """Some events one after another. Places are their numbers in the batch, from 0."""
 
-    kinds: Kinds  # of each a Kind, SLIP or END
+    kinds: Kinds  # of each a Kind, or END
 
     @property
     def size(self) -> int:
@@ -131,9 +136,11 @@ class Syncs:
         if (levels == self.heard).all():
             self.go_on(kinds, runs, batch)
             return []
-        places = np.append(runs, stop) - begin
-        parts, rows = (np.searchsorted(places_of(one), places) for one in (PARTS[kinds], kinds == LINE))
-        return [int(runs[at]) for at in self.changed(levels.astype(np.int64), batch.lengths(runs), parts, rows)]
+        places, words, lines = np.append(runs, stop) - begin, places_of(kinds == WORD), places_of(kinds == LINE)
+        parts = places - np.arange(len(places))
+        parts -= np.searchsorted(words, places) if len(words) else 0
+        rows = functools.partial(rows_before, lines, places)
+        return [int(runs[at]) for at in self.changed(levels, batch.lengths(runs), parts, rows)]
 
     def go_on(self, kinds: Kinds, runs: Ints, batch: Batch) -> None:
         """Events whose runs have the value of VSYNC that it had before."""
@@ -144,9 +151,9 @@ class Syncs:
         self.streak = self.streak * goes_on + int(batch.lengths(runs[len(runs) - last.count(RUN) :]).sum())
         self.level = self.heard if len(runs) else self.level
 
-    def changed(self, levels: Ints, counts: Ints, parts: Ints, rows: Ints) -> list[int]:
-        """Runs: their levels and columns, and before each how many events part a streak, and how many are rows; of the last two one more,
-        of all events. Answers in which of them VSYNC changed."""
+    def changed(self, levels: Bytes, counts: Ints, parts: Ints, rows: Callable[[int], int]) -> list[int]:
+        """Runs: their levels and columns, and before each how many events part a streak, and how many are rows, which is asked of few; of
+        the last two one more, of all events. Answers in which of them VSYNC changed."""
         first, found = -self.rows, []
         if len(levels):
             new = (levels[1:] != levels[:-1]) | (parts[1:-1] != parts[:-2])
@@ -154,15 +161,16 @@ class Syncs:
             sums = np.add.reduceat(counts, starts)
             sums[0] += self.streak if levels[0] == self.level and not parts[0] else 0
             heard = starts[sums >= LEAST]
-            values = levels[heard]
-            is_other = values != np.concatenate((np.array([self.heard]), values[:-1]))
+            values = levels[heard].astype(np.int8)
+            is_other = values != np.concatenate((np.array([self.heard], np.int8), values[:-1]))
             for at in heard[is_other].tolist():
                 found += [at] if self.heard >= 0 else []
-                self.change(int(levels[at]), int(rows[at]) - first)
-                first = int(rows[at]) if self.changes else first
+                before = rows(at)
+                self.change(int(levels[at]), before - first)
+                first = before if self.changes else first
             self.level, self.streak = int(levels[-1]), int(sums[-1])
         self.streak = self.streak if parts[-1] == (parts[-2] if len(levels) else 0) else 0
-        self.rows = int(rows[-1]) - first
+        self.rows = rows(-1) - first
         return found
 
     def change(self, level: int, rows: int) -> None:
@@ -184,8 +192,7 @@ class Count:
     is_aligned: bool = False
     times: Ints = field(default_factory=lambda: np.zeros((SLIP + 1) * WAYS, np.int64))  # of faults, by kind and lane
     last: deque[Fault] = field(default_factory=lambda: deque(maxlen=LAST))
-    kept: Bytes = field(default_factory=lambda: np.zeros((TYPES, SIZE), np.uint8))  # of each type the last packet: its header, its bodies
-    has: npt.NDArray[np.bool_] = field(default_factory=lambda: np.zeros(TYPES, np.bool_))  # whether there was one
+    kept: dict[int, bytes] = field(default_factory=dict)  # of each type the last packet that no block is lost of: its header, its bodies
     syncs: Syncs = field(default_factory=Syncs)
     slip: Fault | None = None  # the last one
 
@@ -202,7 +209,7 @@ class Count:
     @property
     def standing(self) -> dict[int, bytes]:
         """The last packet of each type that no block was lost of, but of sound: its header and its bodies."""
-        return {kind: self.kept[kind].tobytes() for kind in places_of(self.has).tolist()}
+        return dict(sorted(self.kept.items()))
 
     def take(self, batch: Batch, ear: Ear | None = None) -> None:
         """The next events. The ear is told each fault; it takes time."""
@@ -247,11 +254,10 @@ class Count:
     def stand(self, batch: Batch) -> None:
         """Keeps the last packet of each type that no block is lost of."""
         packets, types = batch.packets
-        stands = STANDS[types] if len(types) else self.has[:0]
-        if stands.any():
-            those = types[stands].astype(np.int64)
-            self.kept[those] = batch.octets(packets[stands])  # of those of one type the last
-            self.has[those] = True
+        told = types.tobytes()
+        last = {kind: told.rindex(kind) for kind in set(told) - FLEETING}
+        if last:
+            self.kept.update(zip(last, map(bytes, batch.octets(packets[[*last.values()]]))))
 
 
 def counter_of(times: Ints) -> Counter[Key]:

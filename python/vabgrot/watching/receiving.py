@@ -18,7 +18,7 @@ from vabgrot.watching.feeding import HEADS, PAUSE, bits_of
 from vabgrot.watching.records import Recorded
 
 MAGIC, VERSIONS = b"TMC", b"12"
-EVENTS, BYTES = 1 << 17, 1 << 22  # room for what a room of blocks mostly says: what is done once a batch is then done seldom
+EVENTS, BYTES = 1 << 18, 1 << 24  # room for what a room of blocks mostly says
 NOTHING = Recorded(np.empty(0, RECORD), np.empty(0, np.uint8))
 
 

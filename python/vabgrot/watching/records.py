@@ -142,10 +142,12 @@ class Recorded:
         columns, values = self.changes(events, first, last, meter.value if begin == meter.next else -1)
         level = meter.follow(begin, self.behind(len(self.kinds) - 1), columns, values)
         lines = self.lines
-        before = np.concatenate((np.array([level]), last))[lines - np.arange(len(lines))]  # of the events before each
-        meter.lines(self.column[lines], (self.sizes[lines] & LOW) // PIXEL, before)
+        if len(lines):
+            places = lines - np.arange(1, len(lines) + 1)  # in `events`, of the one before each
+            before = last[places] if places[0] >= 0 else np.append(last, level)[places]
+            meter.lines(self.column[lines], (self.sizes[lines] & LOW) // PIXEL, before)
         packets, types = self.packets
-        told = packets[(types == AVI) | (types == CONTROL)]
+        told = packets[(types == AVI) | (types == CONTROL)] if len(packets) else packets
         for column, octets in zip(self.named[told].tolist(), self.octets(told)):
             meter.tell(column, packet_of(octets.tobytes()))
 
@@ -164,12 +166,15 @@ class Recorded:
     def syncs(self, events: Ints) -> tuple[Bytes, Bytes]:
         """HSYNC and twice VSYNC in the first and in the last column of events that tell them."""
         found = self.firsts[events] & SYNCS
-        packets = np.searchsorted(events, self.packets[0])
+        kinds = self.kinds[events]
+        islands = places_of(kinds != RUN)
+        if not len(islands):
+            return found, found
+        is_packet = kinds[islands] == PACKET
+        packets, guards = islands[is_packet], islands[~is_packet]
         found[packets] = self.levels[:, 0]
         last = found.copy()
         last[packets] = self.levels[:, -1]
-        kinds = self.kinds[events]
-        guards = places_of((kinds == OPEN) | (kinds == CLOSE))
         last[guards] = self.seconds[events[guards]] & SYNCS
         return found, last
 
@@ -178,12 +183,10 @@ class Recorded:
         new = places_of(first[1:] != last[:-1]) + 1
         if len(first) and first[0] != before:
             new = np.concatenate((np.zeros(1, np.int64), new))
-        places = events[new]
-        kinds = self.kinds[places]
-        begins = np.where(kinds == PACKET, self.named[places], self.column[places] - np.where(kinds == RUN, self.count[places], 1))
+        begins = self.begins(events[new])
         unlike = places_of(first != last)
         guards = unlike[self.kinds[events[unlike]] != PACKET]
-        rows, steps = np.divmod(places_of((self.levels[:, 1:] != self.levels[:, :-1]).reshape(-1)), COLUMNS - 1)
+        rows, steps = self.steps()
         if not len(rows) and not len(guards):
             return begins, first[new].astype(np.int64)
         packets = self.packets[0][rows]
@@ -191,6 +194,22 @@ class Recorded:
         values = np.concatenate((first[new], last[guards], self.levels[rows, steps + 1]))
         order = np.argsort(columns, kind="stable")
         return columns[order], values[order].astype(np.int64)
+
+    def begins(self, events: Ints) -> Ints:
+        """The first columns of events that are no lines."""
+        found: Ints = self.column[events] - self.count[events]
+        others = places_of(self.kinds[events] != RUN)
+        if len(others):
+            those = events[others]
+            found[others] = np.where(self.kinds[those] == PACKET, self.named[those], self.column[those] - 1)
+        return found
+
+    def steps(self) -> tuple[Ints, Ints]:
+        """Where the syncs change within packets: their numbers, and how many columns of each are before it, less one."""
+        levels = self.levels.reshape(-1)
+        rows, steps = np.divmod(places_of(levels[1:] != levels[:-1]), COLUMNS)
+        within = steps < COLUMNS - 1
+        return rows[within], steps[within]
 
 
 def more_of(kind: int, count: int, value: int, second: int) -> tuple[int, ...]:

@@ -1,0 +1,123 @@
+"""The receiver's binding without the C library: the numbers of vabgrot.h, events of records, and calls that something else answers."""
+
+import ctypes
+import re
+
+import numpy as np
+import pytest
+
+import vabgrot
+from tests.support import TOP
+from vabgrot import library
+from vabgrot.events import UNTOLD, Cut, End, EpochsEnd, Fault, Kind, Relocked, Run, Slip, event_of
+from vabgrot.receiving import RECORD, Arrays
+from vabgrot.recovery import faults_of
+
+ENUMS = "vabgrot_kind", "vabgrot_event_kind"
+HEADER = (TOP / "library" / "vabgrot.h").read_text("utf-8")
+LEFT = [(4, 0, 4, 0, 0, Kind.RUN, 0, 0), (43, 14, 0, 0, 0, Kind.CUT, 0, 0), (0, 437, 0, 0, 0, Kind.SLIP, 2, 0)]
+LEFT += [(0, 620, 0, 0, 0, Kind.RELOCKED, 0, 0)]
+EVENTS = [Run(4, 0, 4), Cut(43, 14), Slip(0, 2, 437), Relocked(0, 620)]
+ROOM = {"link": (104, 12327), "dvi": (104, 12327), "track": (400, 12622), "relock": (400, 12622)}
+
+
+class Calls:
+    """Stands for the C library: a feed takes a byte of each lane at a time and writes the first of the records, and the end the others.
+    `kinds` are the receivers that it has."""
+
+    def __init__(self, kinds=4):
+        self.kinds, self.opened, self.closed = kinds, [], 0
+
+    def vabgrot_open(self, _, kind):
+        self.opened.append(kind)
+        return library.OK if kind < self.kinds else library.MISUSE
+
+    def vabgrot_feed(self, _, *words):
+        bits, answer = words[6]._obj, words[-1]._obj
+        counts = [min(8, count) for count in (bits.blue, bits.green, bits.red)]
+        answer.taken = library.Bits(*counts)
+        self.write(LEFT[:1], *words[7:])
+        return library.FULL if any(count > 8 for count in (bits.blue, bits.green, bits.red)) else library.OK
+
+    def vabgrot_finish(self, _, *room):
+        self.write(LEFT[1:], *room)
+        room[-1]._obj.columns, room[-1]._obj.aligned = 7, 1
+        return library.OK
+
+    def vabgrot_close(self, _):
+        self.closed += 1
+
+    @staticmethod
+    def write(rows, place, room, _, size, answer):
+        records = np.array(rows, RECORD)
+        assert len(records) <= room and size > 0
+        ctypes.memmove(place, records.ctypes.data, records.nbytes)
+        answer._obj.events, answer._obj.bytes = len(records), 0
+
+
+@pytest.fixture
+def calls(monkeypatch):
+    """What answers in place of the library."""
+    found = Calls()
+    monkeypatch.setattr(library, "find", lambda: "none")
+    monkeypatch.setattr(library, "loaded", lambda _: found)
+    return found
+
+
+def test_numbers():
+    """They are those of the header, as far as it has them."""
+    numbers = re.findall(r"(?m)^#define VABGROT_((?:LEAST|QUICK)\w+) (\d+)$", HEADER)
+    assert len(numbers) >= 4 and [(name, getattr(library, name)) for name, _ in numbers] == [(name, int(it)) for name, it in numbers]
+    kinds, events = (re.findall(r"VABGROT_(\w+) = (\d+)", re.search(rf"(?s)enum {name} {{.*?\n}};", HEADER)[0]) for name in ENUMS)
+    assert [(name.lower(), int(it)) for name, it in kinds] == [*library.KINDS.items()]
+    assert len(events) >= 19 and [(name, int(it)) for name, it in events] == [(it.name, it.value) for it in Kind][: len(events)]
+
+
+def test_slips():
+    slip, relocked = (event_of(numbers, b"") for numbers in LEFT[2:])
+    assert (slip, relocked) == (Slip(0, 2, 437), Relocked(0, 620)) and (slip.kind, relocked.kind) == (Kind.SLIP, Kind.RELOCKED)
+    assert (slip.line, relocked.line) == ("! slip 2 437", "! relock 620")
+    assert str(slip) == "bit 437 on lane 2 (red): slip, a lane lost bits; from here on the lanes were searched anew"
+    assert str(relocked) == "bit 620: relock, a later guard band refuted the alignment; from here on the lanes were searched anew"
+    assert not isinstance(slip, Fault) and [*Arrays(np.array(LEFT, RECORD), b"").events()] == EVENTS
+
+
+def test_faults_are_no_slips():
+    """Among records those between WORD and GUARD, each by its name."""
+    rows = [(5, 5, 0, 0, 0, kind, 0, 0) for kind in Kind]
+    names = faults_of(np.array(rows, RECORD))["kind"].tolist()
+    assert len(names) == 13 and (names[0], names[-1]) == ("word", "guard")
+
+
+@pytest.mark.parametrize("kind", ROOM)
+def test_kinds(calls, kind):
+    """The End of lanes that may lose bits counts epochs."""
+    end = EpochsEnd(UNTOLD, True, 7, 1) if kind in ("track", "relock") else End(7, True)
+    with vabgrot.Receiver(kind) as receiver:
+        assert receiver.feed(b"abc", b"abc", b"ab") == EVENTS[:1] * 3
+        assert receiver.finish() == [*EVENTS[1:], end]
+        records, last = receiver.finish_arrays()[0].records, receiver.finish()[-1]
+    assert records["named"].tolist() == [14, 437, 620] and records["value"].tolist() == [0, 2, 0]
+    assert isinstance(last, End) and last.columns == last.column and bool(last.aligned)
+    assert [*vabgrot.receive(b"", b"", b"", kind=kind)] == [*EVENTS[1:], end]
+    assert calls.opened == [library.KINDS[kind]] * 2 and calls.closed == 2
+
+
+def test_no_such_kind(calls):
+    with pytest.raises(ValueError, match="'content', but of link, dvi, track, relock"):
+        vabgrot.Receiver("content")
+    calls.kinds = 2
+    vabgrot.Receiver("dvi").close()
+    with pytest.raises(vabgrot.NoLibrary, match="no receiver of the kind 'track'"):
+        vabgrot.Receiver("track")
+
+
+@pytest.mark.parametrize("kind, room", ROOM.items())
+def test_too_little_room(calls, kind, room):
+    """With which no feed would ever take anything."""
+    events, size = room
+    for few in ((events - 1, size), (events, size - 1)):
+        with pytest.raises(ValueError, match=f"wants room for {events} events and {size} bytes"):
+            vabgrot.Receiver(kind, *few)
+    assert not calls.opened
+    vabgrot.Receiver(kind, events, size).close()
