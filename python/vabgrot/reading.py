@@ -19,18 +19,18 @@ from tqdm import tqdm
 from vabgrot import capture, library, listing, place, program
 from vabgrot.batch import Batch, Gathering
 from vabgrot.errors import Refused
-from vabgrot.events import BLOCKED, LANED, NAMES, Kind
+from vabgrot.events import BLOCKED, FAULTS, LANED, NAMES, Kind
 from vabgrot.formats.characters import LANES, PACKET, TEN
 from vabgrot.formats.faults import NEXT
 from vabgrot.lanes.strays import Strays
-from vabgrot.link import CLOSE, CONTROL, CUT, FAULT, ISLAND_PACKET, OPEN, SURE, VIDEO, Columns, Ints, Thing
+from vabgrot.link import CLOSE, CONTROL, CUT, FAULT, ISLAND_PACKET, OPEN, SLIP, SURE, VIDEO, Columns, Ints, Thing
 from vabgrot.receiving import Arrays, Receiver
 
 LINES = 4096  # of a batch of the program's text
 BLOCKS = 240  # of a capture that are read at a time: a multiple of 80 bytes of each lane
 EVENTS, BYTES = 1 << 17, 1 << 22  # room for what a piece tells
 SIZE = BLOCKS * capture.BLOCK  # bytes of a lane in a piece
-KINDS = np.array([CONTROL, VIDEO, OPEN, ISLAND_PACKET, CLOSE, CUT] + [FAULT] * (len(Kind) - Kind.WORD), np.uint8)  # of the library's
+KINDS = np.array([CONTROL, VIDEO, OPEN, ISLAND_PACKET, CLOSE, CUT] + [FAULT] * len(FAULTS) + [SLIP] * 2, np.uint8)  # of the library's
 HEARD = frozenset(("link", "track"))  # what the library hears; of lanes that slip the program
 RELOCK = ["recover", "relock"]
 ANEW = "read anew: the first alignment was wrong"

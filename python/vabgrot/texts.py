@@ -12,9 +12,9 @@ from typing import Literal, NamedTuple
 
 from vabgrot import library, program
 from vabgrot.errors import Refused
+from vabgrot.library import KINDS, Grammar
 
-Reader = Literal["link", "dvi", "track", "relock", "check"]
-KINDS: dict[Reader, int] = {"link": 0, "dvi": 1, "track": 2, "relock": 3}  # of vabgrot_recover; the faults alone are vabgrot_check's
+Reader = Grammar | Literal["check"]  # the faults alone are vabgrot_check's
 STATUSES = {0: 0, 5: 1, 6: 3, 7: 7}  # of the program, by those of the library
 FIRST_ROOM = 4  # bytes of a listing for each of a capture, at first: pixels take some 1.6
 WORDS = ctypes.c_char_p, c_size_t, c_char_p, c_size_t, POINTER(c_size_t)

@@ -5,8 +5,9 @@ ghost use Rattle.lane_edges.specs.Finders.{HasScanned, HasNoEdge};
 ghost use Rattle.alignment_search.specs.Parts.{HasRoom, IsPartOf};
 ghost use Rattle.alignment_search.specs.Reached.{IsAt, CanLook, HasReached, CanReach, IsBound};
 
-use lane_align::{RUN_BITS, first_run};
+use lane_align::RUN_BITS;
 use lane_edges::EdgeFinder;
+use lane_track::next_run;
 
 /// From the first bit of a character to its last.
 const WORD_SPAN: u64 = 9;
@@ -166,7 +167,7 @@ fn first_lock(part: LanePart<'_>, base: u64, from: u64, until: u64) -> Option<u6
         return None;
     }
     let first = (from - base) as u32;
-    match first_run(part.bytes, part.skip + first, part.skip + last, ANY) {
+    match next_run(part.bytes, part.skip + first, part.skip + last, ANY) {
         Some(place) => Some(base + u64::from(place - part.skip)),
         None => None,
     }

@@ -7,7 +7,7 @@ use Rattle.capture_commands.specs.declared.ending.Ending.{Ending}
 use Rattle.capture_commands.specs.declared.ending.Ending.TheVariants as ends
 use Rattle.c_capture.specs.Listed.{IsOutput, Says}
 use Rattle.c_capture.specs.Statuses.{status_of}
-use Rattle.c_capture.specs.declared.status.Status.{Status}
+use Rattle.c_capture.specs.declared.status.ListingStatus.{ListingStatus}
 
 -- an ending with an outcome says what was written since nothing was
 pub output_of : (command : Command) (e : Ending) (bytes : List ℕ) (f g h : ℕ) (rest : Option (List ℕ)) (text : List ℕ) (status : ℕ)
@@ -24,9 +24,9 @@ said command ends.Unaligned bytes text rest f g h it = output_of command ends.Un
 said command _ bytes text rest f g h it = tt
 
 -- the same of a source that had these bytes, and a sink that held nothing
-pub said_of : (command : Command) (e : Ending) (bytes text left held : List ℕ) (rest : Option (List ℕ)) (f g h : ℕ) (status : Status)
+pub said_of : (command : Command) (e : Ending) (bytes text left held : List ℕ) (rest : Option (List ℕ)) (f g h : ℕ) (status : ListingStatus)
     → Ends command e (seen (Some left) 0 (Some held) f) (seen rest g (Some text) h) → left ≡ bytes → held ≡ [] → status ≡ status_of e → Says command bytes status text
 said_of command e bytes text left held rest f g h status it is none named =
     let from_bytes = subst (λ (l : List ℕ). Ends command e (seen (Some l) 0 (Some held) f) (seen rest g (Some text) h)) is it in
     let to_none = subst (λ (l : List ℕ). Ends command e (seen (Some bytes) 0 (Some l) f) (seen rest g (Some text) h)) none from_bytes in
-    subst (λ (s : Status). Says command bytes s text) (sym named) (said command e bytes text rest f g h to_none)
+    subst (λ (s : ListingStatus). Says command bytes s text) (sym named) (said command e bytes text rest f g h to_none)

@@ -9,9 +9,9 @@ use Rattle.c_capture.specs.Listed.{IsOutput, IsWhole, IsCut}
 use Rattle.c_capture.specs.Makers.{number_of, IsNoMaker, command_of}
 use Rattle.c_capture.specs.Taps.{words_of, IsTaken}
 use Rattle.c_capture.specs.declared.maker.Maker.{Maker}
-use Rattle.c_capture.specs.declared.status.Status.{Status}
-use Rattle.c_capture.specs.declared.status.Status.TheVariants.{Done, Full, Misuse, NoMemory, NoListing}
-use Rattle.c_capture.specs.declared.tap.Tap.{Tap}
+use Rattle.c_capture.specs.declared.status.ListingStatus.{ListingStatus}
+use Rattle.c_capture.specs.declared.status.ListingStatus.TheVariants.{Done, Full, Misuse, NoMemory, NoListing}
+use Rattle.c_capture.specs.declared.tap.LentTap.{LentTap}
 
 -- the command refuses the listing with this note
 pub record IsRefused (command : Command) (listing note : List ℕ) : Type 0 where
@@ -36,7 +36,7 @@ pub record IsNoted (command : Command) (listing : List ℕ) (size : ℕ) (buffer
   pub written : take size buffer ≡ take (length buffer) outcome.note
 
 -- by what a call answers: how many bytes the capture has, or the note, and what the buffer has of them
-abbrev pub Gives : Command → List ℕ → Status → ℕ → List ℕ → Type 0
+abbrev pub Gives : Command → List ℕ → ListingStatus → ℕ → List ℕ → Type 0
 Gives command listing Done size buffer = IsWhole command listing 0 size buffer
 Gives command listing Full size buffer = IsCut command listing size buffer
 Gives command listing NoListing size buffer = IsNoted command listing size buffer
@@ -44,7 +44,7 @@ Gives command listing NoMemory size buffer = size ≡ 0
 Gives command listing _ size buffer = ⊥
 
 -- the same of the maker that has a number, by a tap. It is a misuse exactly where none has it, or no command line takes the tap
-abbrev pub Makes : ℕ → Tap → List ℕ → Status → ℕ → List ℕ → Type 0
+abbrev pub Makes : ℕ → LentTap → List ℕ → ListingStatus → ℕ → List ℕ → Type 0
 Makes number tap listing Misuse size buffer = (IsNoMaker number ⊎ (IsTaken tap → ⊥)) × (size ≡ 0)
 Makes number tap listing status size buffer =
     (maker : Maker) × (number ≡ number_of maker) × IsTaken tap × Gives (command_of maker (words_of tap)) listing status size buffer

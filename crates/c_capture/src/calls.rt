@@ -8,7 +8,7 @@ ghost use Rattle.c_capture.specs.Listed.{Says, Lists, Recovers};
 ghost use Rattle.c_capture.specs.Readers.{command_of};
 
 use crate::reader::Reader;
-use crate::status::Status;
+use crate::status::ListingStatus;
 use crate::text_sink::TextSink;
 use capture_commands::{
     Ending, InTurn, SliceSource, recover_dvi, recover_link, recover_relock, recover_track,
@@ -19,7 +19,7 @@ use std::alloc::Global;
 /// What a call answers: its status, and how many bytes all that was listed has.
 #[derive(Clone, Copy, Drop)]
 pub struct Listed {
-    pub status: Status,
+    pub status: ListingStatus,
     pub size: usize,
 }
 
@@ -30,7 +30,7 @@ pub fn recover(alloc: Global, number: u32, capture: &[u8], listing: &mut [u8]) -
 {
     let Some(reader) = Reader::of(number) else {
         return Listed {
-            status: Status::Misuse,
+            status: ListingStatus::Misuse,
             size: 0,
         };
     };
@@ -49,20 +49,20 @@ pub fn check(alloc: Global, capture: &[u8], listing: &mut [u8]) -> Listed
 }
 
 /// Writes what a reader lists of a capture.
-fn read_by(alloc: Global, reader: Reader, capture: &[u8], text: &mut TextSink) -> Status
+fn read_by(alloc: Global, reader: Reader, capture: &[u8], text: &mut TextSink) -> ListingStatus
     requires { text.old.bytes.items ≡ [] }
     ensures { Says (command_of reader) capture.now result text.new.bytes.items }
 {
-    Status::of(list_by(alloc, reader, &mut SliceSource::new(capture), text))
+    ListingStatus::of(list_by(alloc, reader, &mut SliceSource::new(capture), text))
 }
 
 /// Writes what a check of a capture lists.
-fn read_faults(alloc: Global, capture: &[u8], text: &mut TextSink) -> Status
+fn read_faults(alloc: Global, capture: &[u8], text: &mut TextSink) -> ListingStatus
     requires { text.old.bytes.items ≡ [] }
     ensures { Says Check capture.now result text.new.bytes.items }
 {
     let mut source = SliceSource::new(capture);
-    Status::of(capture_commands::check(&InTurn, alloc, &mut source, text))
+    ListingStatus::of(capture_commands::check(&InTurn, alloc, &mut source, text))
 }
 
 /// Reads a source by a reader.
@@ -85,7 +85,7 @@ fn list_by(
 }
 
 /// Puts a listing into the buffer, or its first bytes where there is no room for all.
-fn hand_over(status: Status, text: &[u8], buffer: &mut [u8]) -> Listed
+fn hand_over(status: ListingStatus, text: &[u8], buffer: &mut [u8]) -> Listed
     ensures { (command : Command) (bytes : List ℕ) → Says command bytes status text.now → Lists command bytes result.status result.size buffer.new }
 {
     let size = text.len();
@@ -95,7 +95,7 @@ fn hand_over(status: Status, text: &[u8], buffer: &mut [u8]) -> Listed
         Listed { status, size }
     } else {
         Listed {
-            status: Status::Full,
+            status: ListingStatus::Full,
             size,
         }
     }

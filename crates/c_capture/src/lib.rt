@@ -16,5 +16,5 @@ pub use calls::{Listed, check, recover};
 pub use maker::Maker;
 pub use making::make;
 pub use reader::Reader;
-pub use status::Status;
-pub use tap::{Skews, Tap};
+pub use status::ListingStatus;
+pub use tap::{LentTap, Skews};

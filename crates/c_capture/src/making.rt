@@ -9,8 +9,8 @@ ghost use Rattle.c_capture.specs.Taps.{IsVersion};
 
 use crate::calls::{Listed, copy_text};
 use crate::maker::Maker;
-use crate::status::Status;
-use crate::tap::Tap;
+use crate::status::ListingStatus;
+use crate::tap::LentTap;
 use crate::text_sink::TextSink;
 use capture_commands::{Ending, SliceSource, make_content, make_dvi, make_link};
 use command_line::TapWords;
@@ -19,18 +19,18 @@ use std::alloc::Global;
 
 /// Makes the capture of a tap of a listing by the maker that has a number. Where the buffer has less room than the capture has
 /// bytes it gets the first of them; where the listing is refused it gets the note that says why.
-pub fn make(alloc: Global, number: u32, tap: &Tap, listing: &[u8], capture: &mut [u8]) -> Listed
+pub fn make(alloc: Global, number: u32, tap: &LentTap, listing: &[u8], capture: &mut [u8]) -> Listed
     ensures { Makes number tap.now listing.now result.status result.size capture.new }
 {
     let Some(maker) = Maker::of(number) else {
         return Listed {
-            status: Status::Misuse,
+            status: ListingStatus::Misuse,
             size: 0,
         };
     };
     let Some(words) = tap.words() else {
         return Listed {
-            status: Status::Misuse,
+            status: ListingStatus::Misuse,
             size: 0,
         };
     };
@@ -83,7 +83,7 @@ fn give(ending: Ending, made: &[u8], buffer: &mut [u8]) -> Listed
         Ending::Listing(_) => give_note(note(&ending).as_slice(), buffer),
         Ending::Raster(_) => give_note(note(&ending).as_slice(), buffer),
         _ => Listed {
-            status: Status::NoMemory,
+            status: ListingStatus::NoMemory,
             size: 0,
         },
     }
@@ -94,9 +94,9 @@ fn give_capture(made: &[u8], buffer: &mut [u8]) -> Listed
     ensures { (command : Command) (listing : List ℕ) → IsOutput command listing 0 made.now → Gives command listing result.status result.size buffer.new }
 {
     let status = if copy_text(made, buffer) {
-        Status::Done
+        ListingStatus::Done
     } else {
-        Status::Full
+        ListingStatus::Full
     };
     Listed {
         status,
@@ -110,7 +110,7 @@ fn give_note(note: &[u8], buffer: &mut [u8]) -> Listed
 {
     copy_text(note, buffer);
     Listed {
-        status: Status::NoListing,
+        status: ListingStatus::NoListing,
         size: note.len(),
     }
 }

@@ -6,7 +6,7 @@ use capture_commands::Ending;
 
 /// What a call answers.
 #[derive(Clone, Copy, Drop)]
-pub enum Status {
+pub enum ListingStatus {
     /// All was listed, and it has no faults.
     Done,
     /// The buffer has no room for all that was listed.
@@ -25,17 +25,17 @@ pub enum Status {
     NoListing,
 }
 
-impl Status {
+impl ListingStatus {
     /// What it is where a reader ends so. No read of memory fails, and no write but for want of memory.
-    pub fn of(ending: Ending) -> Status
+    pub fn of(ending: Ending) -> ListingStatus
         ensures { result ≡ status_of ending }
     {
         match ending {
-            Ending::Done => Status::Done,
-            Ending::Faulty => Status::Faulty,
-            Ending::Capture(_) => Status::NoCapture,
-            Ending::Unaligned => Status::Unaligned,
-            _ => Status::NoMemory,
+            Ending::Done => ListingStatus::Done,
+            Ending::Faulty => ListingStatus::Faulty,
+            Ending::Capture(_) => ListingStatus::NoCapture,
+            Ending::Unaligned => ListingStatus::Unaligned,
+            _ => ListingStatus::NoMemory,
         }
     }
 
@@ -44,10 +44,10 @@ impl Status {
         ensures { result ≡ has_text self }
     {
         match self {
-            Status::Done => true,
-            Status::Faulty => true,
-            Status::NoCapture => true,
-            Status::Unaligned => true,
+            ListingStatus::Done => true,
+            ListingStatus::Faulty => true,
+            ListingStatus::NoCapture => true,
+            ListingStatus::Unaligned => true,
             _ => false,
         }
     }
@@ -57,14 +57,14 @@ impl Status {
         ensures { result ≡ code_of self }
     {
         match self {
-            Status::Done => 0,
-            Status::Full => 1,
-            Status::Misuse => 2,
-            Status::NoMemory => 4,
-            Status::Faulty => 5,
-            Status::NoCapture => 6,
-            Status::Unaligned => 7,
-            Status::NoListing => 8,
+            ListingStatus::Done => 0,
+            ListingStatus::Full => 1,
+            ListingStatus::Misuse => 2,
+            ListingStatus::NoMemory => 4,
+            ListingStatus::Faulty => 5,
+            ListingStatus::NoCapture => 6,
+            ListingStatus::Unaligned => 7,
+            ListingStatus::NoListing => 8,
         }
     }
 }

@@ -17,7 +17,7 @@ pub struct Skews {
 /// Which bits of three lanes a capture has: of each lane those from the offset plus its skew on, and at most `bits`.
 #[repr(C)]
 #[derive(Clone, Copy, Drop)]
-pub struct Tap {
+pub struct LentTap {
     /// The version of the capture's layout, 1 or 2.
     pub version: u32,
     /// How many bits at the front of each lane are left out.
@@ -30,7 +30,7 @@ pub struct Tap {
     pub bits: u32,
 }
 
-impl Tap {
+impl LentTap {
     /// The options of `make` that it stands for; none where the command line takes no such.
     pub fn words(&self) -> Option<TapWords>
         ensures { MatchOption result (IsTaken self.now → ⊥) (λ words. (words ≡ words_of self.now) × IsTaken self.now) }

@@ -1,6 +1,6 @@
 //! What the calls answer of one capture, in buffers of every size. The capture and the listing were computed apart from this
 //! program.
-use crate::{Skews, Tap, check, make, recover};
+use crate::{LentTap, Skews, check, make, recover};
 use std::process::Abort;
 use std::test::*;
 
@@ -12,7 +12,7 @@ static SKEWED: &str =
 static SENT: &[u8] = b"c 00 24\nc 04 8\nv ff0000\nc 00 12\nend\n";
 
 /// Its tap.
-static TAP: Tap = Tap {
+static TAP: LentTap = LentTap {
     version: 1,
     offset: 7,
     skews: Skews {
@@ -97,7 +97,7 @@ fn refusals(rt: HostRuntime) -> Result<(), Fail> {
     }
     assert_eq!(rt; make(alloc, 2, &TAP, SENT, &mut whole).status.code(), 8);
     assert_eq!(rt; make(alloc, 3, &TAP, SENT, &mut whole).status.code(), 2);
-    let late = Tap {
+    let late = LentTap {
         skews: Skews {
             blue: 0,
             green: 0,
@@ -105,8 +105,8 @@ fn refusals(rt: HostRuntime) -> Result<(), Fail> {
         },
         ..TAP
     };
-    let third = Tap { version: 3, ..TAP };
-    let odd = Tap { limited: 2, ..TAP };
+    let third = LentTap { version: 3, ..TAP };
+    let odd = LentTap { limited: 2, ..TAP };
     for tap in [late, third, odd] {
         assert_eq!(rt; make(alloc, 0, &tap, SENT, &mut whole).status.code(), 2);
     }

@@ -12,14 +12,14 @@ use tmds_word::{BitRow, ColumnSink, Word};
 
 /// Three rows of bits, one of each lane, which take columns.
 #[derive(Drop)]
-pub struct Lanes {
+pub struct LaneRows {
     pub(crate) blue: BitRow,
     pub(crate) green: BitRow,
     pub(crate) red: BitRow,
     refusals: u64,
 }
 
-impl Model for Lanes {
+impl Model for LaneRows {
     ghost use Rattle.std.specs.Prelude.{◌≡◌, ◌%◌, ◌^◌, ◌<◌, length};
     ghost use Rattle.capture_file.specs.Lanes.{Collected};
     ghost use Rattle.tmds_word.specs.Words.{all_words, columns_of};
@@ -40,12 +40,12 @@ impl Model for Lanes {
     } };
 }
 
-impl Lanes {
+impl LaneRows {
     /// No columns. The allocator is kept for the rows' growth.
-    pub fn new(alloc: Global) -> Lanes
+    pub fn new(alloc: Global) -> LaneRows
         ensures { result ≡ record { columns = []; refusals = 0 } }
     {
-        Lanes {
+        LaneRows {
             blue: BitRow::new(alloc),
             green: BitRow::new(alloc),
             red: BitRow::new(alloc),
@@ -54,11 +54,11 @@ impl Lanes {
     }
 
     /// No columns. It asks for room for so many at once, so that the rows need not grow for them; its contract says nothing of room.
-    pub fn with_capacity(alloc: Global, columns: u32) -> Result<Lanes, NoMemory>
+    pub fn with_capacity(alloc: Global, columns: u32) -> Result<LaneRows, NoMemory>
         ensures { IfOk result (λ lanes. lanes ≡ record { columns = []; refusals = 0 }) }
     {
         let bits = columns.saturating_mul(10);
-        Ok(Lanes {
+        Ok(LaneRows {
             blue: BitRow::with_capacity(alloc, bits)?,
             green: BitRow::with_capacity(alloc, bits)?,
             red: BitRow::with_capacity(alloc, bits)?,
@@ -67,7 +67,7 @@ impl Lanes {
     }
 }
 
-impl ColumnSink for Lanes {
+impl ColumnSink for LaneRows {
     ghost taken = { λ l. l.columns };
 
     ghost refusals = { λ l. l.refusals };

@@ -17,7 +17,7 @@ pub use block_damage::damage;
 pub use capture_reader::CaptureReader;
 pub use damaging::{DamageError, Hit};
 pub use fault::{CaptureError, CaptureFault};
-pub use lanes::Lanes;
+pub use lanes::LaneRows;
 pub use slipping::{SlipError, slip};
 pub use writing::{Tap, write_capture};
 

@@ -44,20 +44,20 @@ impl From<CaptureError> for SlipError {
 
 /// The bits of three lanes.
 #[derive(Drop)]
-struct Rows {
+struct WholeLanes {
     blue: BitRow,
     green: BitRow,
     red: BitRow,
 }
 
-impl Rows {
+impl WholeLanes {
     /// No bits. The allocator is kept for the rows' growth.
-    fn new(alloc: Global) -> Rows
+    fn new(alloc: Global) -> WholeLanes
         ensures blue { result.blue ≡ [] }
         ensures green { result.green ≡ [] }
         ensures red { result.red ≡ [] }
     {
-        Rows {
+        WholeLanes {
             blue: BitRow::new(alloc),
             green: BitRow::new(alloc),
             red: BitRow::new(alloc),
@@ -171,7 +171,11 @@ fn cut_out(alloc: Global, row: &mut BitRow, place: u32, count: u32) -> Result<()
 }
 
 /// Reads the blocks of a capture whose header is taken, to the end of its bytes.
-fn read_rows<S: Source>(alloc: Global, source: &mut S, heading: Heading) -> Result<Rows, SlipError>
+fn read_rows<S: Source>(
+    alloc: Global,
+    source: &mut S,
+    heading: Heading,
+) -> Result<WholeLanes, SlipError>
     requires said { CanSay heading.version heading.bits }
     ensures blue { IfOk result (λ rows. length rows.blue ≡ slice_index heading.bits 0) }
     ensures green { IfOk result (λ rows. length rows.green ≡ slice_index heading.bits 1) }
@@ -190,7 +194,7 @@ fn read_rows<S: Source>(alloc: Global, source: &mut S, heading: Heading) -> Resu
     ensures later { S.faults source.old ≤ S.faults source.new }
 {
     let mut chunks = Chunks::new();
-    let mut rows = Rows::new(alloc);
+    let mut rows = WholeLanes::new(alloc);
     let mut j = 0;
     loop {
         match rows.read_block(source, heading, j, &mut chunks) {

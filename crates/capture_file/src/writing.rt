@@ -7,7 +7,7 @@ ghost use Rattle.capture_file.specs.Captures.{header_of, header_two};
 ghost use Rattle.capture_file.specs.Taps.{limited, tap_lag, tapped_capture, HasBits, part_capture, part_block};
 
 use crate::chunk::{blocks_for, chunk_len};
-use crate::{BLOCK_BITS, BLOCK_BYTES, Lanes};
+use crate::{BLOCK_BITS, BLOCK_BYTES, LaneRows};
 use outside_io::{Sink, Wrote, write_all};
 use tmds_word::BitRow;
 
@@ -30,7 +30,7 @@ pub struct Tap {
 /// # Errors
 ///
 /// `Wrote` where the sink fails: only the first `gone` bytes of the capture are written.
-pub fn write_capture<K: Sink>(lanes: &Lanes, tap: &Tap, out: &mut K) -> Result<(), Wrote>
+pub fn write_capture<K: Sink>(lanes: &LaneRows, tap: &Tap, out: &mut K) -> Result<(), Wrote>
     requires version { (tap.now.version ≡ 1) ⊎ (tap.now.version ≡ 2) }
     ensures whole { OnOk result (Appends (K.held out.old) (K.held out.new) (tapped_capture lanes.now.columns tap.now)) }
     ensures part { IfErr result (λ w. Appends (K.held out.old) (K.held out.new) (take w.gone (tapped_capture lanes.now.columns tap.now))) }
@@ -74,7 +74,7 @@ impl Tap {
     }
 }
 
-impl Lanes {
+impl LaneRows {
     /// How many bits a tap takes of a lane that begins so many bits after the offset.
     fn length(&self, tap: &Tap, lag: u32) -> u32
         ensures { result ≡ limited tap.now.bits (10 * length self.now.columns - tap.now.offset - lag) }

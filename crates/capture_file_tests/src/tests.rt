@@ -6,7 +6,7 @@ mod captures;
 mod rows;
 
 use capture_file::{
-    CaptureError, CaptureFault, CaptureReader, Hit, Lanes, Tap, damage, slip, write_capture,
+    CaptureError, CaptureFault, CaptureReader, Hit, LaneRows, Tap, damage, slip, write_capture,
 };
 use captures::{LINES, PIXEL, RED, SIX, SKEWED, SLIPPED};
 use outside_io::{MemSink, MemSource, write_all};
@@ -288,10 +288,10 @@ fn word_at(bytes: &[u8], i: usize) -> Result<Word, Fail>
 }
 
 /// Lanes that took so many columns, which are those of bytes again and again.
-fn lanes_of(alloc: Global, columns: &[u8], count: u32) -> Result<Lanes, Fail>
+fn lanes_of(alloc: Global, columns: &[u8], count: u32) -> Result<LaneRows, Fail>
     requires { count < 10000 }
 {
-    let mut lanes = Lanes::with_capacity(alloc, count)?;
+    let mut lanes = LaneRows::with_capacity(alloc, count)?;
     for i in 0..count {
         let at = 3 * i as usize;
         let blue = word_at(columns, at)?;
@@ -347,7 +347,7 @@ fn packed(
     sink: &mut MemSink,
 ) -> Result<String, Fail> {
     assert!(rt; bytes.len() == 15);
-    let mut lanes = Lanes::new(alloc);
+    let mut lanes = LaneRows::new(alloc);
     lanes.packed(&bytes[..5], &bytes[5..10], &bytes[10..])?;
     let tap = Tap {
         version: 1,

@@ -3,8 +3,8 @@ use Rattle.std.proofs.Common.{◌≡◌, ℕ, suc, zero, ◌+◌, ◌*◌, ◌<�
 use Rattle.std.proofs.lemmas.List.{length-drop}
 use Rattle.std.proofs.lemmas.Slice.{drop-append-drop}
 use Rattle.column_rows.specs.Laid.{AreAlikeFrom, Lays, Rows, first_columns, rows_of}
-use Rattle.column_rows.specs.declared.laid.Status.{Status}
-use Rattle.column_rows.specs.declared.laid.Status.TheVariants.{Done}
+use Rattle.column_rows.specs.declared.laid.RowStatus.{RowStatus}
+use Rattle.column_rows.specs.declared.laid.RowStatus.TheVariants.{Done}
 use Rattle.tmds_code.specs.Lanes.{IsLane}
 use Rattle.island_pack.specs.Periods.{Pixel, pixels_of}
 use Rattle.island_pack.specs.Spelling.{SpellsPixels}
@@ -52,9 +52,9 @@ pub rest_of : (n : ℕ) (xs : List ℕ) → take (length xs - n) (drop n xs) ≡
 rest_of n xs = take_all (length xs - n) (drop n xs) (omega (arith, length-drop n xs))
 
 -- a part was laid
-pub laid : (P : Type 0) (S : List Column → Type 0) (n m : ℕ) (s : Status) (old new : Rows) → s ≡ Done → m ≡ n → P → S (first_columns n new) → AreAlikeFrom n old new → Lays P S n s m old new
+pub laid : (P : Type 0) (S : List Column → Type 0) (n m : ℕ) (s : RowStatus) (old new : Rows) → s ≡ Done → m ≡ n → P → S (first_columns n new) → AreAlikeFrom n old new → Lays P S n s m old new
 laid P S n m s old new e f p h r =
-    subst (λ (t : Status). Lays P S n t m old new) (sym e) (p, f, subst (λ (k : ℕ). S (first_columns k new)) (sym f) h, subst (λ (k : ℕ). AreAlikeFrom k old new) (sym f) r)
+    subst (λ (t : RowStatus). Lays P S n t m old new) (sym e) (p, f, subst (λ (k : ℕ). S (first_columns k new)) (sym f) h, subst (λ (k : ℕ). AreAlikeFrom k old new) (sym f) r)
 
 -- what stands behind the words that were written
 pub alike_from : (n : ℕ) (b g r x y z : List ℕ) → length b ≡ n → length g ≡ n → length r ≡ n → AreAlikeFrom n (rows_of x y z) (rows_of (b ++ drop n x) (g ++ drop n y) (r ++ drop n z))

@@ -4,8 +4,8 @@ use Rattle.tmds_word.specs.Column.{Column}
 use Rattle.tmds_word.specs.Words.{columns_of}
 use Rattle.island_pack.specs.declared.packet.Packet.{Packet}
 use Rattle.island_pack.specs.declared.ranges.TheConstants.{COLUMN_LIMIT, PIXEL_LIMIT}
-use Rattle.column_rows.specs.declared.laid.Status.{Status}
-use Rattle.column_rows.specs.declared.laid.Status.TheVariants.{Done, Full, Misuse}
+use Rattle.column_rows.specs.declared.laid.RowStatus.{RowStatus}
+use Rattle.column_rows.specs.declared.laid.RowStatus.TheVariants.{Done, Full, Misuse}
 
 -- the words of the three lanes
 pub record Rows : Type 0 where
@@ -30,7 +30,7 @@ AreAlikeFrom n old new = (drop n new.blue ≡ drop n old.blue) × (drop n new.gr
 
 -- by what a call answers: of a part of so many columns they are in the rows, before what stood there, or there is no room for them; else
 -- it is no part
-abbrev pub Lays : Type 0 → (List Column → Type 0) → ℕ → Status → ℕ → Rows → Rows → Type 0
+abbrev pub Lays : Type 0 → (List Column → Type 0) → ℕ → RowStatus → ℕ → Rows → Rows → Type 0
 Lays IsPart spells count Done n old new = IsPart × (n ≡ count) × spells (first_columns n new) × AreAlikeFrom n old new
 Lays IsPart spells count Full n old new = IsPart × (n ≡ count) × AreShort count old × (new ≡ old)
 Lays IsPart spells count Misuse n old new = (IsPart → ⊥) × (n ≡ 0) × (new ≡ old)

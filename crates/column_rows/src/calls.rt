@@ -8,7 +8,7 @@ ghost use Rattle.island_pack.specs.Periods.{pixels_of};
 ghost use Rattle.island_pack.specs.Spelling.{SpellsPixels, column_words, control_column, guard_column};
 ghost use Rattle.column_rows.specs.Laid.{AreLine, IsPacket, IsRun, Lays, packet_of, rows_of};
 
-use crate::laid::{Laid, Status, has_room};
+use crate::laid::{Laid, RowStatus, has_room};
 use crate::rows::{lay_control, lay_island_guard, lay_packet, lay_pixels, lay_video_guard};
 use island_pack::{COLUMN_LIMIT, PIXEL_LIMIT};
 

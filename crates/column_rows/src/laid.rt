@@ -3,11 +3,11 @@ ghost use Rattle.std.specs.Prelude.{◌≡◌, ◌≤◌, length};
 ghost use Rattle.std.specs.Bool.{OnTrue, OnFalse};
 ghost use Rattle.column_rows.specs.Laid.{AreShort, rows_of};
 ghost use Rattle.column_rows.specs.Statuses.{code_of};
-ghost use Rattle.column_rows.specs.declared.laid.Status.TheVariants.{Done, Full, Misuse};
+ghost use Rattle.column_rows.specs.declared.laid.RowStatus.TheVariants.{Done, Full, Misuse};
 
 /// What a call answers.
 #[derive(Clone, Copy, Drop)]
-pub enum Status {
+pub enum RowStatus {
     /// The columns are in the rows.
     Done,
     /// A row has no room for them: nothing was written.
@@ -16,15 +16,15 @@ pub enum Status {
     Misuse,
 }
 
-impl Status {
+impl RowStatus {
     /// Its number.
     pub fn code(self) -> i32
         ensures { result ≡ code_of self }
     {
         match self {
-            Status::Done => 0,
-            Status::Full => 1,
-            Status::Misuse => 2,
+            RowStatus::Done => 0,
+            RowStatus::Full => 1,
+            RowStatus::Misuse => 2,
         }
     }
 }
@@ -32,7 +32,7 @@ impl Status {
 /// What a call answers, and how many columns the part has.
 #[derive(Clone, Copy, Drop)]
 pub struct Laid {
-    pub status: Status,
+    pub status: RowStatus,
     pub columns: usize,
 }
 
@@ -43,7 +43,7 @@ impl Laid {
         ensures columns { result.columns ≡ 0 }
     {
         Laid {
-            status: Status::Misuse,
+            status: RowStatus::Misuse,
             columns: 0,
         }
     }
@@ -54,7 +54,7 @@ impl Laid {
         ensures columns { result.columns ≡ columns }
     {
         Laid {
-            status: Status::Full,
+            status: RowStatus::Full,
             columns,
         }
     }
@@ -65,7 +65,7 @@ impl Laid {
         ensures columns { result.columns ≡ columns }
     {
         Laid {
-            status: Status::Done,
+            status: RowStatus::Done,
             columns,
         }
     }

@@ -8,4 +8,4 @@ mod rows;
 pub use calls::{
     encode_island_guard, encode_packet, encode_pixels, encode_run, encode_video_guard,
 };
-pub use laid::{Laid, Status};
+pub use laid::{Laid, RowStatus};

@@ -21,7 +21,7 @@ use Rattle.dvi_hearing.specs.DviGains.{no_gain}
 use Rattle.dvi_hearing.specs.DviGrammar.{pushed, ended_by}
 use Rattle.dvi_hearing.specs.DviSeen.{DviSeen}
 use Rattle.dvi_hearing.specs.DviStands.{IsStretchAfter, DviHearingRepresents, closed}
-use Rattle.dvi_hearing.specs.declared.phase.Phase.TheVariants.{Control}
+use Rattle.dvi_hearing.specs.declared.phase.DviPhase.TheVariants.{Control}
 
 gains_true : (n b : ℕ) (c : Column) (x : Stretch) → closed (value_of c) b x ++ other_words n c ≡ gains_by dvi_gaps no_gain true b n c x
 gains_true n b c (stretch control []) = refl

@@ -23,8 +23,8 @@ use Rattle.dvi_hearing.specs.DviGains.{no_gain}
 use Rattle.period_grammar.specs.Gains.{gains_by}
 use Rattle.dvi_hearing.specs.DviSeen.{DviSeen}
 use Rattle.dvi_hearing.specs.DviStands.{IsStretchAfter, DviHearingRepresents}
-use Rattle.dvi_hearing.specs.declared.phase.Phase.{Phase}
-use Rattle.dvi_hearing.specs.declared.phase.Phase.TheVariants.{Control, Pixels}
+use Rattle.dvi_hearing.specs.declared.phase.DviPhase.{DviPhase}
+use Rattle.dvi_hearing.specs.declared.phase.DviPhase.TheVariants.{Control, Pixels}
 use Rattle.dvi_hearing.proofs.Hearings.{reported_control, reported_other}
 
 -- columns after which the last stretch is this one, and of which nothing is reported
@@ -79,7 +79,7 @@ pub run_went : (old new : DviSeen) (cs cols : List Column) (n : ℕ) → old.pha
     → ((control ds : List Column) → length ds ≡ n → All (λ c. old.control.value ≡ value_of c) ds → IsControlAfter old.control control → IsControlAfter new.control (control ++ ds))
     → DviHearingRepresents old cs → Went new cs cols n
 run_went old new cs cols n phase next more first heard was =
-    by (last (stretches cs)) refl (subst (λ (p : Phase). IsStretchAfter p old.control old.line old.columns (last (stretches cs))) phase was.stretch)
+    by (last (stretches cs)) refl (subst (λ (p : DviPhase). IsStretchAfter p old.control old.line old.columns (last (stretches cs))) phase was.stretch)
   where
     by : (x : Stretch) → last (stretches cs) ≡ x → IsStretchAfter Control old.control old.line old.columns x → Went new cs cols n
     by (stretch control []) at kept =
@@ -93,7 +93,7 @@ pub line_went : (old new : DviSeen) (cs cols : List Column) (n start : ℕ) → 
     → ((pixels : List Column) → IsLineAfter old.line pixels → IsLineAfter new.line (pixels ++ take n cols))
     → DviHearingRepresents old cs → Went new cs cols n
 line_went old new cs cols n start phase next kept more first heard was =
-    by (last (stretches cs)) refl (subst (λ (p : Phase). IsStretchAfter p old.control old.line old.columns (last (stretches cs))) phase was.stretch)
+    by (last (stretches cs)) refl (subst (λ (p : DviPhase). IsStretchAfter p old.control old.line old.columns (last (stretches cs))) phase was.stretch)
   where
     by : (x : Stretch) → last (stretches cs) ≡ x → IsStretchAfter (Pixels start) old.control old.line old.columns x → Went new cs cols n
     by (stretch control []) at w = absurd w.1
@@ -108,7 +108,7 @@ line_went old new cs cols n start phase next kept more first heard was =
             columns = omega (arith, more, was.columns, long, length-append cs (take n cols));
             stretch =
                 subst (λ (x : Stretch). IsStretchAfter new.phase new.control new.line new.columns x) (sym all.last)
-                (subst (λ (p : Phase). IsStretchAfter p new.control new.line new.columns (stretch control (g ∷ (gap ++ take n cols)))) (sym next)
+                (subst (λ (p : DviPhase). IsStretchAfter p new.control new.line new.columns (stretch control (g ∷ (gap ++ take n cols)))) (sym next)
                 (here, (omega (arith, more, place, long, length-append gap (take n cols)), heard (g ∷ gap) w.1.1)));
           };
         }

@@ -13,7 +13,7 @@ use Rattle.period_grammar.specs.declared.control.ControlState.{ControlState}
 use Rattle.dvi_hearing.specs.DviHeard.{dvi_gaps, dvi_line, dvi_closing}
 use Rattle.dvi_hearing.specs.DviGains.{no_gain}
 use Rattle.dvi_hearing.specs.DviStands.{IsStretchAfter, closed}
-use Rattle.dvi_hearing.specs.declared.phase.Phase.TheVariants.{Control, Pixels}
+use Rattle.dvi_hearing.specs.declared.phase.DviPhase.TheVariants.{Control, Pixels}
 
 module _ (kept : ControlState) (line : LineSeen) (n : ℕ) (ts : List Event) where
   pub close_control : (v : ℕ) → ((control : List Column) → IsControlAfter kept control → ts ≡ change v (runs control))

@@ -8,12 +8,12 @@ use Rattle.period_grammar.specs.Events.{Event}
 use Rattle.period_grammar.specs.declared.control.ControlState.{ControlState}
 use Rattle.period_grammar.specs.declared.island.WholePacket.{WholePacket}
 use Rattle.period_grammar.specs.declared.event_queue.QueuedEvent.{QueuedEvent}
-use Rattle.dvi_hearing.specs.declared.phase.Phase.{Phase}
-use Rattle.dvi_hearing.specs.declared.phase.Phase.TheVariants.{Control, Pixels}
+use Rattle.dvi_hearing.specs.declared.phase.DviPhase.{DviPhase}
+use Rattle.dvi_hearing.specs.declared.phase.DviPhase.TheVariants.{Control, Pixels}
 
 pub record DviSeen : Type 0 where
   pub columns : ℕ
-  pub phase : Phase
+  pub phase : DviPhase
   pub control : ControlState
   pub line : LineSeen
   pub notes : List QueuedEvent
@@ -21,11 +21,11 @@ pub record DviSeen : Type 0 where
   pub finished : Bool
 
 -- where a line began
-abbrev pub IsPlaced : Phase → ℕ → ℕ → Type 0
+abbrev pub IsPlaced : DviPhase → ℕ → ℕ → Type 0
 IsPlaced Control count n = Unit {0}
 IsPlaced (Pixels start) count n = start + count ≡ n
 
-pub record IsSound (columns : ℕ) (phase : Phase) (control : ControlState) (line : LineSeen) (notes : List QueuedEvent) : Type 0 where
+pub record IsSound (columns : ℕ) (phase : DviPhase) (control : ControlState) (line : LineSeen) (notes : List QueuedEvent) : Type 0 where
   pub counted : IsCounted control
   pub few : control.columns ≤ columns
   pub placed : IsPlaced phase line.count columns

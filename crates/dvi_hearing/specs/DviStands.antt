@@ -10,17 +10,17 @@ use Rattle.period_grammar.specs.ControlAfter.{IsControlAfter}
 use Rattle.period_grammar.specs.declared.control.ControlState.{ControlState}
 use Rattle.dvi_hearing.specs.DviHeard.{dvi_closing}
 use Rattle.dvi_hearing.specs.DviSeen.{DviSeen}
-use Rattle.dvi_hearing.specs.declared.phase.Phase.{Phase}
-use Rattle.dvi_hearing.specs.declared.phase.Phase.TheVariants.{Control, Pixels}
+use Rattle.dvi_hearing.specs.declared.phase.DviPhase.{DviPhase}
+use Rattle.dvi_hearing.specs.declared.phase.DviPhase.TheVariants.{Control, Pixels}
 
 -- the columns after the last control columns
-abbrev pub IsPhaseAfter : Phase → LineSeen → ℕ → List Column → Type 0
+abbrev pub IsPhaseAfter : DviPhase → LineSeen → ℕ → List Column → Type 0
 IsPhaseAfter Control line n [] = Unit {0}
 IsPhaseAfter (Pixels start) line n (g ∷ gap) = (start + length (g ∷ gap) ≡ n) × IsLineAfter line (g ∷ gap)
 IsPhaseAfter _ line n _ = ⊥
 
 -- the last stretch
-abbrev pub IsStretchAfter : Phase → ControlState → LineSeen → ℕ → Stretch → Type 0
+abbrev pub IsStretchAfter : DviPhase → ControlState → LineSeen → ℕ → Stretch → Type 0
 IsStretchAfter phase kept line n (stretch control gap) = IsControlAfter kept control × IsPhaseAfter phase line n gap
 
 -- a hearing stands for the columns that it has heard

@@ -7,9 +7,9 @@ ghost use Rattle.period_grammar.specs.Lending.{lent_event};
 ghost use Rattle.dvi_hearing.specs.DviHeard.{dvi_so_far, dvi_heard};
 ghost use Rattle.dvi_hearing.specs.DviSeen.{last_reported};
 ghost use Rattle.dvi_hearing.specs.DviStands.{DviHearingRepresents};
-ghost use Rattle.dvi_hearing.specs.declared.phase.Phase.TheVariants.{Control, Pixels};
+ghost use Rattle.dvi_hearing.specs.declared.phase.DviPhase.TheVariants.{Control, Pixels};
 
-use crate::phase::{Phase, close, end, go_on};
+use crate::phase::{DviPhase, close, end, go_on};
 use period_grammar::{
     ControlState, EventQueue, EventRef, Line, WholePacket, column_value, lend, tell_words,
 };
@@ -22,7 +22,7 @@ use tmds_word::{Columns, MOST_COLUMNS, Word};
 #[derive(Drop)]
 pub struct DviHearing {
     columns: u64,
-    phase: Phase,
+    phase: DviPhase,
     control: ControlState,
     line: Line,
     notes: EventQueue,
@@ -49,7 +49,7 @@ impl DviHearing {
     {
         DviHearing {
             columns: 0,
-            phase: Phase::Control,
+            phase: DviPhase::Control,
             control: ControlState::new(),
             line: Line::new(),
             notes: EventQueue::new(),
@@ -65,7 +65,7 @@ impl DviHearing {
         ensures none_reported { last_reported self.new ≡ [] }
     {
         self.columns = 0;
-        self.phase = Phase::Control;
+        self.phase = DviPhase::Control;
         self.control = ControlState::new();
         self.notes.clear();
         self.finished = false;
@@ -95,7 +95,7 @@ impl DviHearing {
             kept.hear(value);
             tell_words(n, column, &mut self.notes);
             self.control = kept;
-            self.phase = Phase::Control;
+            self.phase = DviPhase::Control;
             self.columns = n + 1;
             return;
         }
@@ -124,8 +124,8 @@ impl DviHearing {
     {
         self.notes.clear();
         match self.phase {
-            Phase::Control => self.hear_run(columns),
-            Phase::Pixels { .. } => self.hear_line(columns),
+            DviPhase::Control => self.hear_run(columns),
+            DviPhase::Pixels { .. } => self.hear_line(columns),
         }
     }
 

@@ -21,14 +21,14 @@ use tmds_word::Word;
 
 /// Where the hearing is: in control columns, or in a line whose first pixel is at the start.
 #[derive(Clone, Copy, Drop)]
-pub enum Phase {
+pub enum DviPhase {
     Control,
     Pixels { start: u64 },
 }
 
 /// Reports what ends at a control column, and gives what is kept of the control columns that go on.
 pub fn close(
-    phase: Phase,
+    phase: DviPhase,
     n: u64,
     value: u8,
     kept: ControlState,
@@ -47,11 +47,11 @@ pub fn close(
     ensures kept { (x : Stretch) → IsStretchAfter phase kept line.now n x → IsControlAfter result (going_on x) }
 {
     match phase {
-        Phase::Control => {
+        DviPhase::Control => {
             kept.tell_change(value, notes);
             kept
         }
-        Phase::Pixels { start } => {
+        DviPhase::Pixels { start } => {
             tell_short(kept.columns, start, notes);
             line.tell_pixels(start, start, notes);
             ControlState::new()
@@ -72,13 +72,13 @@ fn tell_short(columns: u64, start: u64, notes: &mut EventQueue)
 
 /// Makes the reports at a column that is no control column, and puts it into the line.
 pub fn go_on(
-    phase: Phase,
+    phase: DviPhase,
     n: u64,
     column: &[Word; 3],
     kept: &ControlState,
     line: &mut Line,
     notes: &mut EventQueue,
-) -> Phase
+) -> DviPhase
     requires room { length notes.old ≤ 0 }
     requires placed { IsPlaced phase line.old.count n }
     requires fits { n + 40 < 2 ^ 64 }
@@ -88,27 +88,27 @@ pub fn go_on(
     ensures stands { (x : Stretch) → IsStretchAfter phase kept.now line.old n x → IsStretchAfter result kept.now line.new (n + 1) (grown false (column_of column.now) x) }
 {
     match phase {
-        Phase::Control => {
+        DviPhase::Control => {
             kept.tell_run(notes);
             line.clear();
             line.hear(column);
-            Phase::Pixels { start: n }
+            DviPhase::Pixels { start: n }
         }
-        Phase::Pixels { start } => {
+        DviPhase::Pixels { start } => {
             line.hear(column);
-            Phase::Pixels { start }
+            DviPhase::Pixels { start }
         }
     }
 }
 
 /// Reports what is left to report at the end.
-pub fn end(phase: Phase, n: u64, kept: &ControlState, line: &Line, notes: &mut EventQueue)
+pub fn end(phase: DviPhase, n: u64, kept: &ControlState, line: &Line, notes: &mut EventQueue)
     requires room { length notes.old ≤ 0 }
     ensures room { length notes.new ≤ 1 }
     ensures reported { (x : Stretch) (b : ℕ) (whole : WholePacket) → IsStretchAfter phase kept.now line.now n x → b + length (gap_of x) ≡ n → events (lent line.now.bytes whole) notes.new ≡ ends_by dvi_gaps b x }
 {
     match phase {
-        Phase::Control => kept.tell_run(notes),
-        Phase::Pixels { start } => notes.push(QueuedEvent::Cut { column: start }),
+        DviPhase::Control => kept.tell_run(notes),
+        DviPhase::Pixels { start } => notes.push(QueuedEvent::Cut { column: start }),
     }
 }

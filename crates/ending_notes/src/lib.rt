@@ -14,15 +14,15 @@ use listing_reader::{ListCause, ListFault};
 use source_end::RasterFault;
 
 /// Room for the longest note.
-pub type Line = ArrayVec<u8, 64>;
+pub type NoteLine = ArrayVec<u8, 64>;
 
 /// The note of an ending, with its line feed; nothing where there is none.
-pub fn note(ending: &Ending) -> Line
+pub fn note(ending: &Ending) -> NoteLine
     ensures { result.items ≡ note_of ending.now }
 {
     match ending {
-        Ending::Done => Line::new(),
-        Ending::Faulty => Line::new(),
+        Ending::Done => NoteLine::new(),
+        Ending::Faulty => NoteLine::new(),
         Ending::Usage => text_line(b"usage: make, recover, check, damage or sample\n"),
         Ending::Listing(fault) => listing_line(fault),
         Ending::Raster(fault) => raster_line(*fault),
@@ -38,10 +38,10 @@ pub fn note(ending: &Ending) -> Line
 }
 
 /// The note of a listing that was refused.
-fn listing_line(fault: &ListFault) -> Line
+fn listing_line(fault: &ListFault) -> NoteLine
     ensures { result.items ≡ listing_note fault.now.line fault.now.cause }
 {
-    let mut line = Line::new();
+    let mut line = NoteLine::new();
     let mut number = itoa::Buffer::new();
     append(&mut line, b"input: line ");
     append(&mut line, number.format(fault.line).as_bytes());
@@ -52,7 +52,7 @@ fn listing_line(fault: &ListFault) -> Line
 }
 
 /// The note of a content that has no raster.
-fn raster_line(fault: RasterFault) -> Line
+fn raster_line(fault: RasterFault) -> NoteLine
     ensures { result.items ≡ raster_note fault }
 {
     match fault {
@@ -65,21 +65,21 @@ fn raster_line(fault: RasterFault) -> Line
 }
 
 /// A note without numbers.
-fn text_line(text: &[u8]) -> Line
+fn text_line(text: &[u8]) -> NoteLine
     requires { length text.now ≤ 64 }
     ensures { result.items ≡ text.now }
 {
-    let mut line = Line::new();
+    let mut line = NoteLine::new();
     append(&mut line, text);
     line
 }
 
 /// A note with a number at its end.
-fn number_line(text: &[u8], value: u32) -> Line
+fn number_line(text: &[u8], value: u32) -> NoteLine
     requires { length text.now ≤ 16 }
     ensures { result.items ≡ text.now ++ decimal value ++ codes "\n" }
 {
-    let mut line = Line::new();
+    let mut line = NoteLine::new();
     let mut number = itoa::Buffer::new();
     append(&mut line, text);
     append(&mut line, number.format(value).as_bytes());
@@ -88,11 +88,11 @@ fn number_line(text: &[u8], value: u32) -> Line
 }
 
 /// A note with two numbers at its end.
-fn pair_line(text: &[u8], first: u32, second: u32) -> Line
+fn pair_line(text: &[u8], first: u32, second: u32) -> NoteLine
     requires { length text.now ≤ 16 }
     ensures { result.items ≡ text.now ++ decimal first ++ codes " " ++ decimal second ++ codes "\n" }
 {
-    let mut line = Line::new();
+    let mut line = NoteLine::new();
     let mut number = itoa::Buffer::new();
     append(&mut line, text);
     append(&mut line, number.format(first).as_bytes());
@@ -103,10 +103,10 @@ fn pair_line(text: &[u8], first: u32, second: u32) -> Line
 }
 
 /// The note of a capture that was refused.
-fn capture_line(fault: &CaptureFault) -> Line
+fn capture_line(fault: &CaptureFault) -> NoteLine
     ensures { result.items ≡ capture_note fault.now }
 {
-    let mut line = Line::new();
+    let mut line = NoteLine::new();
     let mut number = itoa::Buffer::new();
     append(&mut line, b"input: ");
     append(&mut line, kind(*fault).as_bytes());
@@ -116,7 +116,7 @@ fn capture_line(fault: &CaptureFault) -> Line
 }
 
 /// The note of bytes that are no list of frames.
-fn frames_line(fault: BiphaseFault) -> Line
+fn frames_line(fault: BiphaseFault) -> NoteLine
     ensures { result.items ≡ frames_note fault }
 {
     match fault {
@@ -127,7 +127,7 @@ fn frames_line(fault: BiphaseFault) -> Line
 }
 
 /// The note of a hit that passes the capture's end.
-fn place_line(hit: u32) -> Line
+fn place_line(hit: u32) -> NoteLine
     ensures { result.items ≡ place_note hit }
 {
     number_line(b"input: place ", hit)
@@ -160,7 +160,7 @@ fn place(fault: CaptureFault) -> u64
     }
 }
 
-fn append(line: &mut Line, text: &[u8])
+fn append(line: &mut NoteLine, text: &[u8])
     requires { array_vec_len line.old + length text.now ≤ 64 }
     ensures items { line.new.items ≡ line.old.items ++ text.now }
     ensures len { array_vec_len line.new ≡ array_vec_len line.old + length text.now }

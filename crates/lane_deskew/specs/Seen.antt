@@ -1,7 +1,7 @@
 -- What a deskew shows: where its lanes are aligned, once they are, and what it keeps of each lane.
 use Rattle.std.specs.Prelude.{ℕ, ◌+◌, ◌*◌, ◌^◌, ◌<◌, Bool, Option}
 use Rattle.lane_deskew.specs.Keeping.{Stored}
-use Rattle.lane_deskew.specs.declared.lane.Lane.{Lane}
+use Rattle.lane_deskew.specs.declared.lane.DeskewLane.{DeskewLane}
 use Rattle.lane_deskew.specs.declared.Aligned.{Aligned}
 
 -- a lane: the characters of it that are kept, the place of its first one, how many it has pushed, and whether it gets
@@ -21,5 +21,5 @@ pub record Seen : Type 0 where
   pub found : Option Aligned
 
 -- what is shown of a lane
-abbrev pub held_of : Lane → Held
+abbrev pub held_of : DeskewLane → Held
 held_of lane = record { kept = lane.kept; lock = lane.lock; count = lane.count; ended = lane.ended; small = lane.small }

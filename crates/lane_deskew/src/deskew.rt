@@ -8,7 +8,7 @@ ghost use Rattle.tmds_word.specs.Lent.{columns_in};
 ghost use Rattle.lane_deskew.specs.Stretches.{IsStretchTriple, AreFirstAt};
 ghost use Rattle.lane_deskew.specs.declared.Aligned.{Aligned};
 
-use crate::lane::Lane;
+use crate::lane::DeskewLane;
 use crate::stretch::first_triple;
 use crate::{Aligned, RUN};
 use lane_align::ROW_WORDS;
@@ -18,9 +18,9 @@ use tmds_word::Columns;
 /// Lines three lanes up. It is seen as where they are aligned and what is kept of each.
 #[derive(Drop)]
 pub struct Deskew {
-    pub(crate) blue: Lane,
-    pub(crate) green: Lane,
-    pub(crate) red: Lane,
+    pub(crate) blue: DeskewLane,
+    pub(crate) green: DeskewLane,
+    pub(crate) red: DeskewLane,
     found: Option<Aligned>,
 }
 
@@ -44,9 +44,9 @@ impl Deskew {
         ensures found { result.found ≡ None }
     {
         Deskew {
-            blue: Lane::open(),
-            green: Lane::open(),
-            red: Lane::open(),
+            blue: DeskewLane::open(),
+            green: DeskewLane::open(),
+            red: DeskewLane::open(),
             found: None,
         }
     }

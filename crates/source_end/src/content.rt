@@ -3,7 +3,7 @@ ghost use Rattle.std.specs.Prelude.{◌≡◌, ◌↔◌, ◌≤◌, ◌<◌, �
 ghost use Rattle.island_pack.specs.Conforming.{are_bytes};
 ghost use Rattle.source_end.specs.Content.{empty_frame, with_packet, with_row, on_last, is_payload, are_content};
 
-use crate::rows::Rows;
+use crate::rows::ByteRows;
 use island_pack::Packet;
 use outside_io::NoMemory;
 use std::alloc::Global;
@@ -13,7 +13,7 @@ use std::marker::Model;
 #[derive(Drop)]
 pub(crate) struct FrameContent {
     packets: Vec<Packet>,
-    rows: Rows,
+    rows: ByteRows,
 }
 
 impl Model for FrameContent {
@@ -31,7 +31,7 @@ impl FrameContent {
     {
         FrameContent {
             packets: Vec::new(alloc),
-            rows: Rows::new(alloc),
+            rows: ByteRows::new(alloc),
         }
     }
 
@@ -60,7 +60,7 @@ impl FrameContent {
     }
 
     /// The rows, in order.
-    pub(crate) fn rows(&self) -> &Rows
+    pub(crate) fn rows(&self) -> &ByteRows
         ensures { result.now ≡ self.now.rows }
     {
         &self.rows

@@ -10,7 +10,7 @@ ghost use Rattle.source_end.specs.Lines.{lead, lead_end, left, AreWide};
 use crate::content::FrameContent;
 use crate::gathering::Gathering;
 use crate::mode::{active, back, front, sync, total};
-use crate::rows::Rows;
+use crate::rows::ByteRows;
 use crate::{Island, Mode};
 use island_pack::{ISLAND_CTL, Packet, VIDEO_CTL};
 use outside_io::NoMemory;
@@ -154,7 +154,7 @@ fn blank_lines<'a>(
 /// Writes lines with rows. Answers the packets that they did not take.
 fn row_lines<'a>(
     mode: &Mode,
-    rows: &Rows,
+    rows: &ByteRows,
     packets: &'a [Packet],
     out: &mut Gathering,
 ) -> Result<&'a [Packet], NoMemory>

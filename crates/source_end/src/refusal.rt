@@ -7,7 +7,7 @@ ghost use Rattle.source_end.specs.RasterRefusals.{numbers_of, is_in_range, bad_m
 
 use crate::content::FrameContent;
 use crate::mode::{active, back, front, sync, total};
-use crate::rows::Rows;
+use crate::rows::ByteRows;
 use crate::{Content, Mode};
 use island_pack::{COLUMN_LIMIT, PIXEL_LIMIT};
 use outside_io::NoMemory;
@@ -123,7 +123,7 @@ fn rows_fault(mode: &Mode, frames: &[FrameContent]) -> Option<RasterFault>
 }
 
 /// The first row of a frame that is missing, is one too many, or has not the mode's width.
-fn row_fault(mode: &Mode, frame: u32, rows: &Rows) -> Option<RasterFault>
+fn row_fault(mode: &Mode, frame: u32, rows: &ByteRows) -> Option<RasterFault>
     ensures { result ≡ bad_row (active mode.now.across) frame 0 (active mode.now.down) rows.now }
 {
     let width = 3 * active(&mode.across) as usize;

@@ -8,13 +8,13 @@ use std::marker::Model;
 
 /// Rows, as they were given.
 #[derive(Drop)]
-pub(crate) struct Rows {
+pub(crate) struct ByteRows {
     bytes: Vec<u8>,
     /// Where each row ends.
     ends: Vec<usize>,
 }
 
-impl Model for Rows {
+impl Model for ByteRows {
     ghost use Rattle.std.specs.Prelude.{List, ℕ, length};
     ghost use Rattle.source_end.specs.Rows.{rows_between, AreEnds};
 
@@ -25,12 +25,12 @@ impl Model for Rows {
     ghost invariant = { λ r. AreEnds 0 r.ends.items (length r.bytes.items) };
 }
 
-impl Rows {
+impl ByteRows {
     /// No rows yet; keeps the allocator for its growth.
-    pub(crate) fn new(alloc: Global) -> Rows
+    pub(crate) fn new(alloc: Global) -> ByteRows
         ensures { result ≡ [] }
     {
-        Rows {
+        ByteRows {
             bytes: Vec::new(alloc),
             ends: Vec::new(alloc),
         }

@@ -25,6 +25,8 @@ FULL = 1 << VALUE - 1  # of full scale
 FLOOR = -60  # dB, where the bars of levels begin
 MOST_STATUS = 4  # unlike blocks of channel status that are shown
 SUPPOSED = 48000
+WIDE, PRESENT = 16, 15  # of the second byte of a packet of samples: whether it is of layout 1, and which of its bodies are there
+CARRIED = np.array([bool(it & PRESENT) if it & WIDE else (it & PRESENT).bit_count() for it in range(256)])  # samples, by that byte
 
 
 @dataclass
@@ -46,17 +48,15 @@ class Sound:
         if packet.kind in NAMED:
             self.others[NAMED[packet.kind]] += 1
         elif packet.kind == 2:
-            present = packet.header[1]
             self.headers += packet.header
             self.bodies += packet.bytes
-            self.samples += bool(present & 15) if present & 16 else (present & 15).bit_count()
+            self.samples += int(CARRIED[packet.header[1]])
 
     def take_samples(self, octets: Bytes) -> None:
         """The next packets of samples: of each a row of its header and its bodies."""
         self.headers += octets[:, :3].tobytes()
         self.bodies += octets[:, 3:].tobytes()
-        present = octets[:, 1, None] >> np.arange(packets.PAIRS) & 1
-        self.samples += int(np.where(octets[:, 1] >> 4 & 1, present.any(axis=1), present.sum(axis=1)).sum())
+        self.samples += int(CARRIED[octets[:, 1]].sum())
 
     def infoframe(self, packet: packets.Packet) -> None:
         """An audio InfoFrame."""

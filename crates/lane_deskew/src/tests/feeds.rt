@@ -8,7 +8,7 @@ ghost use Rattle.lane_deskew.specs.Pushed.{ready_of};
 
 use super::rows::CASES;
 use super::{Case, Row, bits_of, case_of, number_of_column};
-use crate::lane::Lane;
+use crate::lane::DeskewLane;
 use crate::reference::first_alignment;
 use crate::{Aligned, Deskew};
 use lane_align::LaneAligner;
@@ -17,7 +17,7 @@ use std::process::Abort;
 use std::test::*;
 
 /// Whether a lane may push characters at a lock.
-fn may_push(lane: &Lane, lock: u64, words: &[u16]) -> bool
+fn may_push(lane: &DeskewLane, lock: u64, words: &[u16]) -> bool
     ensures same { IsTrue result → 0 < lane.now.count → lock ≡ lane.now.lock }
     ensures room { IsTrue result → length (stored lane.now.kept) + length words.now ≤ 4160 }
     ensures total { IsTrue result → lock + 10 * (lane.now.count + length words.now) < 2 ^ 63 }

@@ -2,7 +2,7 @@ use Rattle.std.proofs.Common.{◌≡◌, ◌+◌, ap, sym, subst, refl, ◌∙�
 use Rattle.tmds_word.specs.Lent.{columns_in}
 use Rattle.dvi_hearing.specs.DviSeen.{DviSeen}
 use Rattle.dvi_hearing.specs.DviStands.{DviHearingRepresents}
-use Rattle.dvi_hearing.specs.declared.phase.Phase.TheVariants.{Pixels}
+use Rattle.dvi_hearing.specs.declared.phase.DviPhase.TheVariants.{Pixels}
 use Rattle.dvi_hearing.proofs.Many.{line_went}
 use Rattle.dvi_hearing.proofs.hearing.DviHearing.hear_line.Goals as goal
 

@@ -2,7 +2,7 @@ use Rattle.std.proofs.Common.{◌≡◌, ◌+◌, ap, sym, subst, refl, ◌∙�
 use Rattle.tmds_word.specs.Lent.{columns_in}
 use Rattle.dvi_hearing.specs.DviSeen.{DviSeen}
 use Rattle.dvi_hearing.specs.DviStands.{DviHearingRepresents}
-use Rattle.dvi_hearing.specs.declared.phase.Phase.TheVariants.{Control}
+use Rattle.dvi_hearing.specs.declared.phase.DviPhase.TheVariants.{Control}
 use Rattle.dvi_hearing.proofs.Many.{run_went}
 use Rattle.dvi_hearing.proofs.hearing.DviHearing.hear_run.Goals as goal
 
