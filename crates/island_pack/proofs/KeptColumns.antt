@@ -1,15 +1,14 @@
 -- Columns that are kept lane by lane.
-use Rattle.std.proofs.Common.{◌≡◌, ℕ, suc, zero, ◌+◌, ◌<◌, ◌≤◌, Bool, true, false, List, [], ◌∷◌, ◌++◌, length, map, take, All, get_or, set, refl, ap, ◌∙◌, sym, arith, slice_index}
+use Rattle.std.proofs.Common.{◌≡◌, ℕ, suc, zero, ◌+◌, ◌<◌, ◌≤◌, Bool, ◌||◌, List, [], ◌∷◌, ◌++◌, length, map, take, drop, get_or, set, refl, ap, ◌∙◌, sym, arith}
 use Rattle.std.specs.Prelude.{slice_index_or}
-use Rattle.std.proofs.lemmas.List.{map-append, length-map, length-take-le, take-map}
-use Rattle.std.proofs.lemmas.List.Elements.{All-head, All-tail, All-nil, All-cons}
+use Rattle.std.proofs.lemmas.List.{map-append, length-map, length-take-le, take-map, drop-map}
 use Rattle.std.proofs.lemmas.Grind.{take-set_at}
-use Rattle.std.specs.Bool.{OnFalse}
+use Rattle.std.specs.List.{list_any}
 use Rattle.tmds_word.specs.Column.{Column, blues, greens, reds}
 use Rattle.tmds_word.specs.Words.{columns_of}
-use Rattle.tmds_word.proofs.Lent.{columns_first, lanes_of}
+use Rattle.tmds_word.proofs.Lent.{columns_first, columns_drop, lanes_of}
 use Rattle.terc4.specs.Tables.{is_control}
-use Rattle.island_pack.specs.Spelling.{column_words}
+use Rattle.island_pack.specs.Spelling.{column_words, has_control}
 
 -- as lists of words
 unfoldable pub kept_of : List ℕ → List ℕ → List ℕ → List (List ℕ)
@@ -34,6 +33,10 @@ columns_append (b ∷ bs) (h ∷ gs) (s ∷ rs) xs ys zs g r =
 take_kept_of : (n : ℕ) (bs gs rs : List ℕ) → take n (kept_of bs gs rs) ≡ kept_of (take n bs) (take n gs) (take n rs)
 unfolding kept_of
 take_kept_of n bs gs rs = take-map column_words n (columns_of bs gs rs) ∙ ap (map column_words) (columns_first n bs gs rs)
+
+drop_kept_of : (n : ℕ) (bs gs rs : List ℕ) → drop n (kept_of bs gs rs) ≡ kept_of (drop n bs) (drop n gs) (drop n rs)
+unfolding kept_of
+drop_kept_of n bs gs rs = drop-map column_words n (columns_of bs gs rs) ∙ ap (map column_words) (columns_drop n bs gs rs)
 
 -- words that are put on each lane at a place
 pub put_in_lanes : (bs gs rs bs' gs' rs' xs ys zs : List ℕ) (at m : ℕ) → length gs ≡ length bs → length rs ≡ length bs → at ≤ length bs
@@ -68,20 +71,21 @@ kept_at (b ∷ bs) (h ∷ gs) [] k g r lt = absurd (omega arith)
 kept_at (b ∷ bs) (h ∷ gs) (s ∷ rs) zero g r lt = refl
 kept_at (b ∷ bs) (h ∷ gs) (s ∷ rs) (suc k) g r lt = kept_at bs gs rs k (omega arith) (omega arith) (omega arith)
 
--- no control words on lanes 1 and 2
-abbrev pub HasNone : List ℕ → Type 0
-HasNone words = (is_control (slice_index words 1) ≡ false) × (is_control (slice_index words 2) ≡ false)
+-- whether a lane has a control word, of lanes 1 and 2
+or_of_two : (g r x y : Bool) → (g || x) || (r || y) ≡ (g || r) || (x || y)
+or_of_two g r x y = grind arith
 
-pub none_kept : (bs gs rs : List ℕ) → length gs ≡ length bs → length rs ≡ length bs → All (λ w. is_control w ≡ false) gs → All (λ w. is_control w ≡ false) rs
-    → All (λ (words : List ℕ). HasNone words) (kept_of bs gs rs)
-unfolding kept_of columns_of
-none_kept [] gs rs lg lr g r = All-nil (λ (words : List ℕ). HasNone words)
-none_kept (b ∷ bs) [] rs lg lr g r = absurd (omega arith)
-none_kept (b ∷ bs) (h ∷ gs) [] lg lr g r = absurd (omega arith)
-none_kept (b ∷ bs) (h ∷ gs) (s ∷ rs) lg lr g r =
-    All-cons (λ (words : List ℕ). HasNone words) (b ∷ h ∷ s ∷ []) (kept_of bs gs rs)
-    (All-head (λ w. is_control w ≡ false) h gs g, All-head (λ w. is_control w ≡ false) s rs r)
-    (none_kept bs gs rs (omega arith) (omega arith) (All-tail (λ w. is_control w ≡ false) h gs g) (All-tail (λ w. is_control w ≡ false) s rs r))
+pub any_kept : (bs gs rs : List ℕ) → length gs ≡ length bs → length rs ≡ length bs
+    → list_any has_control (kept_of bs gs rs) ≡ (list_any is_control gs || list_any is_control rs)
+unfolding kept_of columns_of has_control
+any_kept [] [] [] lg lr = refl
+any_kept [] (h ∷ gs) rs lg lr = absurd (omega arith)
+any_kept [] [] (s ∷ rs) lg lr = absurd (omega arith)
+any_kept (b ∷ bs) [] rs lg lr = absurd (omega arith)
+any_kept (b ∷ bs) (h ∷ gs) [] lg lr = absurd (omega arith)
+any_kept (b ∷ bs) (h ∷ gs) (s ∷ rs) lg lr =
+    ap (λ (any : Bool). (is_control h || is_control s) || any) (any_kept bs gs rs (omega arith) (omega arith))
+    ∙ sym (or_of_two (is_control h) (is_control s) (list_any is_control gs) (list_any is_control rs))
 
 -- what is kept after a column is put
 pub set_kept : (bs gs rs : List ℕ) (now : List (List ℕ)) (at x y z b g r : ℕ) → kept_of bs gs rs ≡ now → length bs ≡ 32 → length gs ≡ 32 → length rs ≡ 32 → at < 32
@@ -109,6 +113,9 @@ put_kept bs gs rs bs' gs' rs' xs ys zs now cs at is lb lg lr le eb eg er pb pg p
     ∙ (λ i. take at (is i) ++ map column_words (columns_of (eb i) (eg i) (er i)))
     ∙ ap (λ (ds : List Column). take at now ++ map column_words ds) (lanes_again cs)
 
-pub on_false : (b : Bool) (P Q : Type 0) → (P → Q) → OnFalse b P → OnFalse b Q
-on_false true P Q f h = tt
-on_false false P Q f h = f h
+-- what stands behind
+pub behind_kept : (bs gs rs bs' gs' rs' : List ℕ) (now : List (List ℕ)) (m : ℕ) → kept_of bs gs rs ≡ now → drop m bs' ≡ drop m bs → drop m gs' ≡ drop m gs → drop m rs' ≡ drop m rs
+    → drop m (kept_of bs' gs' rs') ≡ drop m now
+unfolding kept_of
+behind_kept bs gs rs bs' gs' rs' now m is e f h =
+    drop_kept_of m bs' gs' rs' ∙ (λ i. map column_words (columns_of (e i) (f i) (h i))) ∙ sym (drop_kept_of m bs gs rs) ∙ ap (drop m) is

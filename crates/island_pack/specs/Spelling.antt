@@ -1,9 +1,9 @@
 -- Which columns periods are spelled by. HDMI 1.4, sections 5.2.1 (control), 5.2.2 and 5.2.2.1 (video, guard band),
 -- 5.2.3 and 5.2.3.3 (data island, guard band).
-use Rattle.std.specs.Prelude.{◌≡◌, ℕ, ◌+◌, ◌/◌, ◌%◌, Bool, true, false, List, [], ◌∷◌, ◌++◌, map, slice_index}
+use Rattle.std.specs.Prelude.{◌≡◌, ℕ, ◌+◌, ◌/◌, ◌%◌, Bool, true, false, ◌||◌, List, [], ◌∷◌, ◌++◌, map, slice_index}
 use Rattle.tmds_word.specs.Column.{Column, column_of}
 use Rattle.tmds_code.specs.Lanes.{IsLane}
-use Rattle.terc4.specs.Tables.{control_words, terc_words, video_guard, island_guard}
+use Rattle.terc4.specs.Tables.{control_words, is_control, terc_words, video_guard, island_guard}
 use Rattle.island_pack.specs.Periods.{SyncPair, DataIsland, Period, control, video, island, values_of, Pixel, pixels_of}
 use Rattle.island_pack.specs.Packets.{Carries, CarriesFreely}
 use Rattle.island_pack.specs.declared.packet.Packet.{Packet}
@@ -36,6 +36,10 @@ guard_columns pair = guard_column pair.first ∷ guard_column pair.second ∷ []
 -- the words of a column, lane 0 first
 abbrev pub column_words : Column → List ℕ
 column_words c = c.blue ∷ c.green ∷ c.red ∷ []
+
+-- whether the word of lane 1 or of lane 2 is a control word
+unfoldable pub has_control : List ℕ → Bool
+has_control words = is_control (slice_index words 1) || is_control (slice_index words 2)
 
 -- how columns carry a packet, which is an island's first or not
 abbrev pub Carrying : Type 1

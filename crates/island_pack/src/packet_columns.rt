@@ -1,10 +1,10 @@
 //! The columns of a packet, kept lane by lane.
-ghost use Rattle.std.specs.Prelude.{◌≡◌, ◌<◌, ◌≤◌, ◌+◌, ◌++◌, ◌∷◌, [], All, length, map, take, false, slice_index, slice_index_or};
-ghost use Rattle.std.specs.Bool.{OnFalse};
+ghost use Rattle.std.specs.Prelude.{◌≡◌, ◌<◌, ◌≤◌, ◌+◌, ◌++◌, ◌∷◌, [], All, length, map, take, drop, replicate, nat_le, slice_index, slice_index_or};
+ghost use Rattle.std.specs.List.{list_any};
 ghost use Rattle.tmds_word.specs.Column.{column_of};
 ghost use Rattle.tmds_word.specs.Lent.{columns_in};
 ghost use Rattle.terc4.specs.Tables.{is_control};
-ghost use Rattle.island_pack.specs.Spelling.{column_words};
+ghost use Rattle.island_pack.specs.Spelling.{column_words, has_control};
 
 use std::marker::Model;
 use tmds_word::{Columns, Word};
@@ -32,7 +32,7 @@ impl Model for PacketColumns {
 impl PacketColumns {
     /// Columns of one word on each lane.
     pub fn new(word: Word) -> PacketColumns
-        ensures { length result ≡ 32 }
+        ensures { result ≡ replicate 32 (word ∷ word ∷ word ∷ []) }
     {
         PacketColumns {
             blue: [word.value(); 32],
@@ -58,6 +58,7 @@ impl PacketColumns {
         ensures long { length self.new ≡ 32 }
         ensures put { take (at + 1) self.new ≡ take at self.old ++ column_words (column_of column.now) ∷ [] }
         ensures own { take (at + 1) self.new ≡ take at self.old ++ column.now ∷ [] }
+        ensures behind { drop (at + 1) self.new ≡ drop (at + 1) self.old }
     {
         self.blue[at] = column[0].value();
         self.green[at] = column[1].value();
@@ -70,6 +71,7 @@ impl PacketColumns {
         ensures room { length self.old ≡ 32 }
         ensures long { length self.new ≡ 32 }
         ensures put { take (at + length (columns_in columns.entry)) self.new ≡ take at self.old ++ map column_words (columns_in columns.entry) }
+        ensures behind { drop (at + length (columns_in columns.entry)) self.new ≡ drop (at + length (columns_in columns.entry)) self.old }
     {
         put_words(&mut self.blue, at, columns.blue());
         put_words(&mut self.green, at, columns.green());
@@ -78,7 +80,7 @@ impl PacketColumns {
 
     /// Whether a word of lane 1 or 2 is a control word.
     pub fn has_control(&self) -> bool
-        ensures { OnFalse result (All (λ words. (is_control (slice_index words 1) ≡ false) × (is_control (slice_index words 2) ≡ false)) self.now) }
+        ensures { result ≡ list_any has_control self.now }
     {
         has_control(&self.green) || has_control(&self.red)
     }
@@ -120,6 +122,7 @@ fn put_words(lane: &mut [u16; 32], at: usize, words: &[u16])
     requires lane { All (λ w. w < 1024) lane.old }
     ensures lane { All (λ w. w < 1024) lane.new }
     ensures put { take (at + length words.now) lane.new ≡ take at lane.old ++ words.now }
+    ensures behind { drop (at + length words.now) lane.new ≡ drop (at + length words.now) lane.old }
 {
     let end = at + words.len();
     lane[at..end].copy_from_slice(words);
@@ -128,20 +131,21 @@ fn put_words(lane: &mut [u16; 32], at: usize, words: &[u16])
 /// Whether one of 32 words is a control word.
 fn has_control(words: &[u16; 32]) -> bool
     requires { All (λ w. w < 1024) words.now }
-    ensures { OnFalse result (All (λ w. is_control w ≡ false) words.now) }
+    ensures { result ≡ list_any is_control words.now }
 {
-    let mut count = 0;
+    let mut marks = 0;
     for i in 0..32 {
-        count += u16::from(is_control(words[i]));
+        marks |= mark(words[i]);
     }
-    count != 0
+    marks >= 512
 }
 
-/// Whether a word is a control word: two of these differ in bit 9 alone, and the two others have all their bits turned over.
-fn is_control(word: u16) -> bool
+/// A number that is 512 for a control word, and less for each other word: two of these differ in bit 9 alone, and the two others
+/// have all their bits turned over.
+fn mark(word: u16) -> u16
     requires { word < 1024 }
-    ensures { result ≡ is_control word }
+    ensures marks { nat_le 512 result ≡ is_control word }
+    ensures few { result ≤ 512 }
 {
-    let low = word % 512;
-    (low == 0x0ab) | (low == 0x154)
+    512 - (((word ^ 0x0ab) + 1) & 0x1fe)
 }

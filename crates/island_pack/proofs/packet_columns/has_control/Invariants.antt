@@ -1,9 +1,8 @@
-use Rattle.std.proofs.Common.{◌≡◌, ℕ, ◌<◌, ◌≤◌, false, get_or}
+use Rattle.std.proofs.Common.{◌≡◌, take}
+use Rattle.std.specs.Prelude.{nat_le}
+use Rattle.std.specs.List.{list_any}
 use Rattle.terc4.specs.Tables.{is_control}
 use Rattle.island_pack.proofs.packet_columns.has_control.Given as goal
 
 abbrev pub invariant-loop-i : goal.invariant-loop-i
-invariant-loop-i l = record {
-  few : l.count ≤ l.i;
-  none : l.count ≡ 0 → (k : ℕ) → k < l.i → is_control (get_or l.words k 0) ≡ false;
-}
+invariant-loop-i l = record { any : nat_le 512 l.marks ≡ list_any is_control (take l.i l.words) }

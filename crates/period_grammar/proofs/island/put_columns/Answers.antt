@@ -15,7 +15,7 @@ pub returns-clause-pixels : goal.returns-clause-pixels
 returns-clause-pixels c =
     let cols = columns_in c.args.columns in
     subst (λ (cs : List Column). All (λ d. is_pixel d ≡ true) cs) (sym (take_all c.len.result cols (omega (arith, c.len.ensures))))
-    (pixels_kept cols c.args.block.now c.put_all.new.self c.args.at c.if-has_control.ensures c.put_all.ensures.put)
+    (pixels_kept cols c.args.block.now c.put_all.new.self c.args.at (sym c.if-has_control.ensures) c.put_all.ensures.put)
 
 pub returns-clause-put : goal.returns-clause-put
 returns-clause-put c =

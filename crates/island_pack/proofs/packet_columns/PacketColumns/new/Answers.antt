@@ -1,6 +1,7 @@
-use Rattle.std.proofs.Common.{◌<◌, refl}
+use Rattle.std.proofs.Common.{◌<◌, map, replicate}
 use Rattle.std.proofs.lemmas.List.Elements.{All-replicate}
 use Rattle.tmds_word.specs.Words.{columns_of}
+use Rattle.island_pack.specs.Spelling.{column_words}
 use Rattle.island_pack.proofs.packet_columns.PacketColumns.new.Goals as goal
 
 pub invariant_of-result : goal.invariant_of-result
@@ -11,4 +12,4 @@ invariant_of-result c = (
 
 pub returns : goal.returns
 unfolding columns_of
-returns c = refl
+returns c = λ i. map column_words (columns_of (replicate 32 (c.value.ensures.value i)) (replicate 32 (c.value-2.ensures.value i)) (replicate 32 (c.value-3.ensures.value i)))
