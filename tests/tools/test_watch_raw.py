@@ -25,7 +25,7 @@ FRAME, FRAMES = 1800, 3  # columns of a frame of examples/bars.content, and fram
 WHOLE = 10 * FRAME * FRAMES  # bits of them, which are whole bytes
 CAPTURES = 12
 SOAKED, EARLY, LATE = 16, slice(3, 7), slice(13, 16)  # seconds, and those whose memory is compared: it rises and falls with a batch
-MOST = 2048  # the KiB by which the least of the late ones may be more than the most of the early ones
+MOST = 16 << 10  # the KiB by which the least of the late ones may be more than the most of the early ones: what the room of a batch takes
 
 
 @pytest.fixture(autouse=True)
