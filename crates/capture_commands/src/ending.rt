@@ -1,9 +1,12 @@
 //! How a run ends.
 ghost use Rattle.std.specs.Prelude.{◌≡◌};
+ghost use Rattle.capture_commands.specs.Endings.{heard_ending, judged_ending};
 
 use biphase_listing::BiphaseFault;
 use capture_file::CaptureFault;
+use capture_reading::ReadCaptureError;
 use listing_reader::{ListError, ListFault};
+use outside_io::Failed;
 use source_end::RasterFault;
 
 /// How a run ends.
@@ -74,5 +77,27 @@ impl From<ListError> for Ending {
             ListError::Read => Ending::ReadFailed,
             ListError::NoMemory => Ending::NoMemory,
         }
+    }
+}
+
+/// How a command ends that did not hear a capture to its end.
+pub(crate) fn unheard(error: ReadCaptureError) -> Ending
+    ensures { result ≡ heard_ending error }
+{
+    match error {
+        ReadCaptureError::Bad(fault) => Ending::Capture(fault),
+        ReadCaptureError::Read => Ending::ReadFailed,
+        ReadCaptureError::Ear => Ending::WriteFailed,
+    }
+}
+
+/// How a command ends after its last line, and so many faults.
+pub(crate) fn judged(last: Result<(), Failed>, faults: u64) -> Ending
+    ensures { result ≡ judged_ending last faults }
+{
+    match last {
+        Ok(()) if faults == 0 => Ending::Done,
+        Ok(()) => Ending::Faulty,
+        Err(Failed) => Ending::WriteFailed,
     }
 }

@@ -4,16 +4,15 @@ ghost use Rattle.std.specs.Io.KnownBytes.{Consumes};
 ghost use Rattle.link_sink.specs.Pieces.{no_bits};
 ghost use Rattle.link_sink.specs.Streams.{StandsBy, most_bits};
 ghost use Rattle.capture_commands.specs.ListsCommands.{IsLists};
-ghost use Rattle.capture_commands.specs.Endings.{Ends, heard_ending, judged_ending, seen};
+ghost use Rattle.capture_commands.specs.Endings.{Ends, seen};
 ghost use Rattle.command_line.specs.declared.command.Command.{Command as CommandValue};
 
-use crate::ending::Ending;
+use crate::ending::{Ending, judged, unheard};
 use crate::feeding::Feeds;
 use crate::hearing::hear_capture;
 use crate::lister::Lister;
-use capture_reading::ReadCaptureError;
 use link_sink::{Hears, LaneSink};
-use outside_io::{Failed, Source};
+use outside_io::Source;
 use std::alloc::Global;
 
 /// Writes what a lister lists of a capture, while it is read.
@@ -65,27 +64,5 @@ fn list_lanes<F: Feeds, S: Source, H: Hears, L: Lister>(
         }
         Ok(_) => Ending::Unaligned,
         Err(error) => unheard(error),
-    }
-}
-
-/// How a command ends that did not hear a capture to its end.
-pub(crate) fn unheard(error: ReadCaptureError) -> Ending
-    ensures { result ≡ heard_ending error }
-{
-    match error {
-        ReadCaptureError::Bad(fault) => Ending::Capture(fault),
-        ReadCaptureError::Read => Ending::ReadFailed,
-        ReadCaptureError::Ear => Ending::WriteFailed,
-    }
-}
-
-/// How a command ends after its last line, and so many faults.
-pub(crate) fn judged(last: Result<(), Failed>, faults: u64) -> Ending
-    ensures { result ≡ judged_ending last faults }
-{
-    match last {
-        Ok(()) if faults == 0 => Ending::Done,
-        Ok(()) => Ending::Faulty,
-        Err(Failed) => Ending::WriteFailed,
     }
 }

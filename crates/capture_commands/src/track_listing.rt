@@ -7,9 +7,8 @@ ghost use Rattle.capture_commands.specs.ListsCommands.{IsTracks};
 ghost use Rattle.capture_commands.specs.Endings.{Ends, seen};
 ghost use Rattle.command_line.specs.declared.command.Command.{Command as CommandValue};
 
-use crate::ending::Ending;
+use crate::ending::{Ending, judged, unheard};
 use crate::feeding::Feeds;
-use crate::listing::{judged, unheard};
 use crate::track_lister::TrackLister;
 use crate::tracking::follow_capture;
 use outside_io::Source;
