@@ -1,5 +1,6 @@
 pub mod Relocks
 pub mod Rivals
+pub mod Doubts
 pub mod Columns
 pub mod Watches
 pub mod Growing
