@@ -1,4 +1,4 @@
--- What is looked at to judge whether an alignment is refuted by other edges, of lanes that are lent.
+-- What is looked at to judge what other edges say of an alignment, of lanes that are lent.
 use Rattle.std.specs.Prelude.{◌≡◌, ℕ, ◌+◌, ◌*◌, ◌-◌, ◌<◌, Bool, true, false, List, [], ◌∷◌, slice_index, Option, Some}
 use Rattle.tmds_word.specs.Column.{Column}
 use Rattle.terc4.specs.Columns.{is_control_column}
@@ -17,7 +17,18 @@ pub record AreSo (a b : Option Column) (test : Column → Column → Bool) : Typ
   pub is_next : b ≡ Some next
   pub holds : test here next ≡ true
 
--- three are there, and a control period ends with the first after which no period opens
+-- three are there, and a control period ends with the first
+pub record AreEnding (a b c : Option Column) : Type 0 where
+  pub last : Column
+  pub first : Column
+  pub second : Column
+  pub is_last : a ≡ Some last
+  pub is_first : b ≡ Some first
+  pub is_second : c ≡ Some second
+  pub control : is_control_column last ≡ true
+  pub ends : is_control_column first ≡ false
+
+-- and no period opens after it
 pub record AreUnopened (a b c : Option Column) : Type 0 where
   pub last : Column
   pub first : Column
@@ -38,6 +49,9 @@ IsBand fed places = AreSo (column_here fed places) (column_after fed places) is_
 
 abbrev pub column_third : Fed → List ℕ → Option Column
 column_third fed places = column_here fed ((slice_index places 0 + 20) ∷ (slice_index places 1 + 20) ∷ (slice_index places 2 + 20) ∷ [])
+
+abbrev pub IsEnding : Fed → List ℕ → Type 0
+IsEnding fed places = AreEnding (column_here fed places) (column_after fed places) (column_third fed places)
 
 abbrev pub IsUnopened : Fed → List ℕ → Type 0
 IsUnopened fed places = AreUnopened (column_here fed places) (column_after fed places) (column_third fed places)

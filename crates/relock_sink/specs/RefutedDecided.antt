@@ -1,4 +1,4 @@
--- Whether an alignment is refuted by bits that have arrived, and by which edges first.
+-- Whether an alignment is let go for what bits that have arrived show, and for which edges first.
 use Rattle.std.proofs.Common.{◌≡◌, ◌⊎◌, ℕ, suc, ◌+◌, ◌-◌, ◌%◌, ◌<◌, ◌≤◌, max, Bool, true, false, List, Option, Some, None, refl, ◌∙◌, subst, arith, inl, inr}
 use mathlib.Core.Logic.Dec.{and as both}
 use native.Mathlib.Decide.{map_dec, ℕ_discrete, dec_le}
@@ -22,7 +22,8 @@ use Rattle.track_sink.specs.Epochs.{most_of}
 use Rattle.track_sink.specs.Ends.{run_decided}
 use Rattle.relock_sink.specs.Relocks.{is_announced}
 use Rattle.relock_sink.specs.Rivals.{is_guard_band, columns_before, HaveSameSkew, IsConfirmed, IsRival, IsRefuted, OpensNothing}
-use Rattle.relock_sink.specs.Judges.{AreSo, AreUnopened}
+use Rattle.relock_sink.specs.Doubts.{EndsPeriod, IsContender, IsUpheld, AreInRow, IsDoubted, IsLetGo}
+use Rattle.relock_sink.specs.Judges.{AreSo, AreEnding, AreUnopened}
 use Rattle.relock_sink.specs.Refuting.{refuted_at}
 
 -- one below a bound, or none
@@ -35,6 +36,49 @@ some_below P n decided = elim (least_or_none P n decided) [
 not_so : {P : Type 0} → Dec P → Dec (P → ⊥)
 not_so (yes p) = no (λ none. none p)
 not_so (no none) = yes none
+
+either : {P Q : Type 0} → Dec P → Dec Q → Dec (P ⊎ Q)
+either (yes p) other = yes (inl p)
+either (no none) (yes q) = yes (inr q)
+either (no none) (no nor) = no (λ h. elim h [ inl p ↦ none p | inr q ↦ nor q ])
+
+-- three numbers of a kind, all below a bound
+record HasBelow (P : ℕ → ℕ → ℕ → Type 0) (n : ℕ) : Type 0 where
+  d : ℕ
+  e : ℕ
+  f : ℕ
+  within : max d (max e f) < n
+  here : P d e f
+
+three_below : (P : ℕ → ℕ → ℕ → Type 0) (n : ℕ) → ((d e f : ℕ) → Dec (P d e f)) → Dec (HasBelow P n)
+three_below P n decided =
+    map_dec
+    (λ h. record {
+      d = h.0;
+      e = h.2.0;
+      f = h.2.2.0;
+      within = let a = h.1 in let b = h.2.1 in let c = h.2.2.1 in omega arith;
+      here = h.2.2.2;
+    })
+    (λ h. let a = h.within in
+    (h.d, omega arith, (h.e, omega arith, (h.f, omega arith, h.here))))
+    (some_below (λ d. (e : ℕ) × (e < n) × ((f : ℕ) × (f < n) × P d e f)) n (λ d.
+    some_below (λ e. (f : ℕ) × (f < n) × P d e f) n (λ e.
+    some_below (λ f. P d e f) n (λ f. decided d e f))))
+
+-- of those of a kind none has its greatest past a place and before another
+abbrev HasNoneBetween : (ℕ → ℕ → ℕ → Type 0) → ℕ → ℕ → Type 0
+HasNoneBetween P from to = (i j k : ℕ) → P i j k → max i (max j k) < to → max i (max j k) ≤ from
+
+none_between : (P : ℕ → ℕ → ℕ → Type 0) (from to : ℕ) → ((i j k : ℕ) → Dec (P i j k)) → Dec (HasNoneBetween P from to)
+none_between P from to decided =
+    map_dec
+    (λ none i j k here less. elim (cases_lt from (max i (max j k))) [
+      | inl past ↦ absurd (none (record { d = i; e = j; f = k; within = less; here = (here, past) }))
+      | inr not ↦ not
+    ])
+    (λ none some. let past = some.here.1 in let not = none some.d some.e some.f some.here.0 some.within in omega arith)
+    (not_so (three_below (λ i j k. P i j k × (from < max i (max j k))) to (λ i j k. both (decided i j k) (dec_lt from (max i (max j k))))))
 
 -- Edges of lanes.
 
@@ -102,6 +146,23 @@ unopened_decided (Some g) (Some h) (Some i) =
     (λ u. let a = u.is_last in let b = u.is_first in let c = u.is_second in let x = u.control in let y = u.ends in let z = u.nothing in (cc, (cc, cc)))
     (both (Bool-discrete (is_control_column g) true) (both (Bool-discrete (is_control_column h) false) (neither_decided (opened h i))))
 
+ending_decided : (a b c : Option Column) → Dec (AreEnding a b c)
+ending_decided None b c = no (λ h. let k = h.is_last in absurd cc)
+ending_decided (Some g) None c = no (λ h. let k = h.is_first in absurd cc)
+ending_decided (Some g) (Some h) None = no (λ u. let k = u.is_second in absurd cc)
+ending_decided (Some g) (Some h) (Some i) =
+    map_dec (λ t. record { last = g; first = h; second = i; is_last = refl; is_first = refl; is_second = refl; control = t.0; ends = t.1 })
+    (λ u. let a = u.is_last in let b = u.is_first in let x = u.control in let y = u.ends in (cc, cc))
+    (both (Bool-discrete (is_control_column g) true) (Bool-discrete (is_control_column h) false))
+
+period_decided : (fed : Fed) (p q r j : ℕ) → Dec (EndsPeriod fed p q r j)
+period_decided fed p q r j =
+    let column : ℕ → Option Column = aligned_column fed.blue fed.green fed.red p q r in
+    map_dec
+    (λ u. record { last = u.last; first = u.first; second = u.second; is_last = u.is_last; is_first = u.is_first; is_second = u.is_second; control = u.control; ends = u.ends })
+    (λ u. record { last = u.last; first = u.first; second = u.second; is_last = u.is_last; is_first = u.is_first; is_second = u.is_second; control = u.control; ends = u.ends })
+    (ending_decided (column j) (column (j + 1)) (column (j + 2)))
+
 nothing_decided : (fed : Fed) (p q r j : ℕ) → Dec (OpensNothing fed p q r j)
 nothing_decided fed p q r j =
     let column : ℕ → Option Column = aligned_column fed.blue fed.green fed.red p q r in
@@ -136,10 +197,10 @@ nothing_decided fed p q r j =
 abbrev HasBand : Fed → ℕ → ℕ → ℕ → Type 0
 HasBand fed d e f = AreSo (aligned_column fed.blue fed.green fed.red d e f 12) (aligned_column fed.blue fed.green fed.red d e f 13) is_guard_band
 
-module _ (fed : Fed) (p q r : ℕ) (own : IsConfirmed fed p q r) where
-  skew_decided : (d e f : ℕ) → Dec (HaveSameSkew p q r d e f)
-  skew_decided d e f = both (ℕ_discrete (d + q) (e + p)) (ℕ_discrete (d + r) (f + p))
+skew_decided : (p q r d e f : ℕ) → Dec (HaveSameSkew p q r d e f)
+skew_decided p q r d e f = both (ℕ_discrete (d + q) (e + p)) (ℕ_discrete (d + r) (f + p))
 
+module _ (fed : Fed) (p q r : ℕ) (own : IsConfirmed fed p q r) where
   rival_decided : (d e f : ℕ) → Dec (IsRival fed p q r d e f)
   rival_decided d e f =
       map_dec
@@ -162,12 +223,67 @@ module _ (fed : Fed) (p q r : ℕ) (own : IsConfirmed fed p q r) where
       ))
       (both (triple_decided fed.blue fed.green fed.red d e f)
       (both (dec_lt p d) (both (dec_lt q e) (both (dec_lt r f)
-      (both (not_so (skew_decided d e f)) (so_decided (aligned_column fed.blue fed.green fed.red d e f 12) (aligned_column fed.blue fed.green fed.red d e f 13) is_guard_band))))))
+      (both (not_so (skew_decided p q r d e f)) (so_decided (aligned_column fed.blue fed.green fed.red d e f 12) (aligned_column fed.blue fed.green fed.red d e f 13) is_guard_band))))))
 
   pub refuted_decided : (d e f : ℕ) → Dec (IsRefuted fed p q r d e f)
   refuted_decided d e f =
       map_dec (λ h. record { rival = h.0; unopened = h.1 }) (λ h. (h.rival, h.unopened))
       (both (rival_decided d e f) (nothing_decided fed p q r (11 + columns_before p q r d e f)))
+
+  contender_decided : (d e f : ℕ) → Dec (IsContender fed p q r d e f)
+  contender_decided d e f =
+      map_dec (λ h. record { rival = h.0; period = h.1 }) (λ h. (h.rival, h.period))
+      (both (rival_decided d e f) (period_decided fed p q r (11 + columns_before p q r d e f)))
+
+  upheld_decided : (d e f : ℕ) → Dec (IsUpheld fed p q r d e f)
+  upheld_decided d e f =
+      map_dec
+      (λ h. record {
+        own = own;
+        triple = h.0;
+        blue_later = h.1.0;
+        green_later = h.1.1.0;
+        red_later = h.1.1.1.0;
+        own_skew = h.1.1.1.1.0;
+        here = h.1.1.1.1.1.here;
+        next = h.1.1.1.1.1.next;
+        is_here = h.1.1.1.1.1.is_here;
+        is_next = h.1.1.1.1.1.is_next;
+        whole = h.1.1.1.1.1.holds;
+      })
+      (λ h. (
+        h.triple,
+        (h.blue_later, (h.green_later, (h.red_later, (h.own_skew, record { here = h.here; next = h.next; is_here = h.is_here; is_next = h.is_next; holds = h.whole })))),
+      ))
+      (both (triple_decided fed.blue fed.green fed.red d e f)
+      (both (dec_lt p d) (both (dec_lt q e) (both (dec_lt r f)
+      (both (skew_decided p q r d e f) (so_decided (aligned_column fed.blue fed.green fed.red d e f 12) (aligned_column fed.blue fed.green fed.red d e f 13) is_guard_band))))))
+
+  row_decided : (from to : ℕ) → Dec (AreInRow fed p q r from to)
+  row_decided from to =
+      map_dec (λ h. record { before = h.0; unopposed = h.1.0; unupheld = h.1.1 }) (λ h. (h.before, (h.unopposed, h.unupheld)))
+      (both (dec_lt from to)
+      (both (none_between (λ i j k. IsContender fed p q r i j k) from to contender_decided) (none_between (λ i j k. IsUpheld fed p q r i j k) from to upheld_decided)))
+
+  doubted_decided : (d e f : ℕ) → Dec (IsDoubted fed p q r d e f)
+  doubted_decided d e f =
+      map_dec
+      (λ h. record {
+        contender = h.0;
+        blue = h.1.d;
+        green = h.1.e;
+        red = h.1.f;
+        earlier = h.1.here.0;
+        row = h.1.here.1.0;
+        same_skew = h.1.here.1.1;
+      })
+      (λ h. (h.contender, record { d = h.blue; e = h.green; f = h.red; within = h.row.before; here = (h.earlier, (h.row, h.same_skew)) }))
+      (both (contender_decided d e f)
+      (three_below (λ i j k. IsContender fed p q r i j k × (AreInRow fed p q r (max i (max j k)) (max d (max e f)) × HaveSameSkew i j k d e f)) (max d (max e f)) (λ i j k.
+      both (contender_decided i j k) (both (row_decided (max i (max j k)) (max d (max e f))) (skew_decided i j k d e f)))))
+
+  pub let_go_decided : (d e f : ℕ) → Dec (IsLetGo fed p q r d e f)
+  let_go_decided d e f = either (refuted_decided d e f) (doubted_decided d e f)
 
 -- The alignment that is confirmed.
 
@@ -192,43 +308,41 @@ confirmed_decided fed = elim (first_decided fed.blue fed.green fed.red) [
 pub one_confirmed : (fed : Fed) (p q r d e f : ℕ) → IsConfirmed fed p q r → IsConfirmed fed d e f → (p ≡ d) × (q ≡ e) × (r ≡ f)
 one_confirmed fed p q r d e f a b = one_first fed.blue fed.green fed.red p q r d e f a.first b.first
 
--- what refutes the one refutes the other
-pub refuted_own : (fed : Fed) (p q r u v w d e f : ℕ) → IsConfirmed fed p q r → IsRefuted fed u v w d e f → IsRefuted fed p q r d e f
-refuted_own fed p q r u v w d e f own is =
-    let s = one_confirmed fed u v w p q r is.rival.own own in
-    subst (λ i. IsRefuted fed i q r d e f) s.0 (subst (λ i. IsRefuted fed u i r d e f) s.1 (subst (λ i. IsRefuted fed u v i d e f) s.2 is))
+-- what is so of the one is so of the other
+pub same_own : (fed : Fed) (P : ℕ → ℕ → ℕ → Type 0) (u v w p q r : ℕ) → IsConfirmed fed u v w → IsConfirmed fed p q r → P u v w → P p q r
+same_own fed P u v w p q r is own here =
+    let s = one_confirmed fed u v w p q r is own in
+    subst (λ i. P i q r) s.0 (subst (λ i. P u i r) s.1 (subst (λ i. P u v i) s.2 here))
 
--- Of the edges that refute it those whose greatest is least.
+-- edges for which an alignment is let go are a rival's
+pub rival_of : (fed : Fed) (p q r d e f : ℕ) → IsLetGo fed p q r d e f → IsRival fed p q r d e f
+rival_of fed p q r d e f (inl refuted) = refuted.rival
+rival_of fed p q r d e f (inr doubted) = doubted.contender.rival
 
--- some refute it, none of them past a place
+pub let_go_own : (fed : Fed) (p q r u v w d e f : ℕ) → IsConfirmed fed p q r → IsLetGo fed u v w d e f → IsLetGo fed p q r d e f
+let_go_own fed p q r u v w d e f own is = same_own fed (λ i j k. IsLetGo fed i j k d e f) u v w p q r (rival_of fed u v w d e f is).own own is
+
+-- Of the edges for which it is let go those whose greatest is least.
+
+-- some are such, none of them past a place
 record HasRefuted (fed : Fed) (p q r m : ℕ) : Type 0 where
   d : ℕ
   e : ℕ
   f : ℕ
   within : max d (max e f) ≤ m
-  refuted : IsRefuted fed p q r d e f
+  refuted : IsLetGo fed p q r d e f
 
 has_decided : (fed : Fed) (p q r m : ℕ) → IsConfirmed fed p q r → Dec (HasRefuted fed p q r m)
 has_decided fed p q r m own =
-    map_dec
-    (λ h. record {
-      d = h.0;
-      e = h.2.0;
-      f = h.2.2.0;
-      within = let a = h.1 in let b = h.2.1 in let c = h.2.2.1 in omega arith;
-      refuted = h.2.2.2;
-    })
-    (λ h. let a = h.within in
-    (h.d, omega arith, (h.e, omega arith, (h.f, omega arith, h.refuted))))
-    (some_below (λ d. (e : ℕ) × (e < suc m) × ((f : ℕ) × (f < suc m) × IsRefuted fed p q r d e f)) (suc m) (λ d.
-    some_below (λ e. (f : ℕ) × (f < suc m) × IsRefuted fed p q r d e f) (suc m) (λ e.
-    some_below (λ f. IsRefuted fed p q r d e f) (suc m) (λ f. refuted_decided fed p q r own d e f))))
+    map_dec (λ h. record { d = h.d; e = h.e; f = h.f; within = let a = h.within in omega arith; refuted = h.here })
+    (λ h. let a = h.within in record { d = h.d; e = h.e; f = h.f; within = omega arith; here = h.refuted })
+    (three_below (λ d e f. IsLetGo fed p q r d e f) (suc m) (let_go_decided fed p q r own))
 
--- the edges that refute the alignment first, where all bits have arrived that show it
+-- the first edges for which the alignment is let go, where all bits have arrived that show it
 pub record IsFirstRefuted (fed : Fed) (p q r d e f : ℕ) : Type 0 where
-  pub refuted : IsRefuted fed p q r d e f
+  pub refuted : IsLetGo fed p q r d e f
   pub shown : refuted_at d e f ≤ most_of fed
-  pub least : (u v w i j k : ℕ) → IsRefuted fed u v w i j k → max d (max e f) ≤ max i (max j k)
+  pub least : (u v w i j k : ℕ) → IsLetGo fed u v w i j k → max d (max e f) ≤ max i (max j k)
 
 first_of : (fed : Fed) (p q r m : ℕ) → IsConfirmed fed p q r → IsLeast (HasRefuted fed p q r) (most_of fed - 89) m → (d e f : ℕ) × IsFirstRefuted fed p q r d e f
 first_of fed p q r m own l =
@@ -242,24 +356,24 @@ first_of fed p q r m own l =
         refuted = h.refuted;
         shown = omega arith;
         least = λ u v w i j k is. elim (cases_lt (max i (max j k)) m) [
-          | inl less ↦ absurd (l.least (max i (max j k)) less (record { d = i; e = j; f = k; within = omega arith; refuted = refuted_own fed p q r u v w i j k own is }))
+          | inl less ↦ absurd (l.least (max i (max j k)) less (record { d = i; e = j; f = k; within = omega arith; refuted = let_go_own fed p q r u v w i j k own is }))
           | inr more ↦ omega arith
         ];
       },
     )
 
--- no bits have arrived that show the alignment refuted
+-- no bits have arrived that show any
 abbrev pub IsUnrefuted : Fed → Type 0
-IsUnrefuted fed = (p q r d e f : ℕ) → IsRefuted fed p q r d e f → most_of fed < refuted_at d e f
+IsUnrefuted fed = (p q r d e f : ℕ) → IsLetGo fed p q r d e f → most_of fed < refuted_at d e f
 
 pub refuted_or_not : (fed : Fed) → ((p q r d e f : ℕ) × IsFirstRefuted fed p q r d e f) ⊎ IsUnrefuted fed
 refuted_or_not fed = elim (confirmed_decided fed) [
-  | inr none ↦ inr (λ p q r d e f is. absurd (none p q r is.rival.own))
+  | inr none ↦ inr (λ p q r d e f is. absurd (none p q r (rival_of fed p q r d e f is).own))
   | inl c ↦ elim (least_or_none (HasRefuted fed c.0 c.1 c.2) (most_of fed - 89) (λ m. has_decided fed c.0 c.1 c.2 m c.3)) [
     | inl l ↦ let first = first_of fed c.0 c.1 c.2 l.0 c.3 l.1 in inl (c.0, c.1, c.2, first.0, first.1, first.2, first.3)
     | inr none ↦ inr (λ p q r d e f is. elim (cases_lt (most_of fed) (refuted_at d e f)) [
       | inl late ↦ late
-      | inr soon ↦ absurd (none (max d (max e f)) (omega arith) (record { d = d; e = e; f = f; within = omega arith; refuted = refuted_own fed c.0 c.1 c.2 p q r d e f c.3 is }))
+      | inr soon ↦ absurd (none (max d (max e f)) (omega arith) (record { d = d; e = e; f = f; within = omega arith; refuted = let_go_own fed c.0 c.1 c.2 p q r d e f c.3 is }))
     ])
   ]
 ]

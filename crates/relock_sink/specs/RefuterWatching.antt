@@ -13,6 +13,7 @@ use Rattle.relock_sink.specs.Ends.{end_was}
 use Rattle.relock_sink.specs.FrontsGrowing.{most_front, front_grows, front_stays}
 use Rattle.relock_sink.specs.Watches.{HasWatched}
 use Rattle.relock_sink.specs.Refuting.{IsRefutedEnd, refuting_ends}
+use Rattle.relock_sink.specs.RefutedDecided.{rival_of}
 use Rattle.relock_sink.specs.Refuters.{HasLooked, refuter_passed}
 use Rattle.relock_sink.specs.RivalSearching.{rivals_on}
 use Rattle.relock_sink.specs.declared.refuter.Refuter.{Refuter}
@@ -62,7 +63,7 @@ unconfirmed_past w fed place looked is =
 
 refuted_past : (w : Refuter) (fed : Fed) (place : ℕ) → HasLooked w fed → IsRefutedEnd fed place → refuter_passed w ≤ place
 refuted_past w fed place looked is =
-    let t = is.refuted.rival.triple in
+    let t = (rival_of fed is.own_blue is.own_green is.own_red is.blue is.green is.red is.refuted).triple in
     let late = looked.rivals.none is.own_blue is.own_green is.own_red is.blue is.green is.red is.refuted in
     let limit = looked.limit in
     let a = t.blue_green in

@@ -1,4 +1,5 @@
--- The end of an epoch whose alignment is let go where it is refuted: it has one or none, and what arrives later changes none.
+-- The end of an epoch whose alignment is let go where it is refuted or doubted twice in a row: it has one or none, and what arrives
+-- later changes none.
 use Rattle.std.proofs.Common.{◌≡◌, ◌⊎◌, ℕ, ◌+◌, ◌-◌, ◌<◌, ◌≤◌, max, min, refl, arith, inl, inr}
 use Rattle.std.proofs.lemmas.Bool.{cases_lt}
 use Rattle.alignment_search.proofs.Alignments.{same_greatest}
@@ -12,11 +13,12 @@ use Rattle.track_sink.specs.Tracks.{Grows}
 use Rattle.track_sink.specs.declared.watch.Cause.{Cause}
 use Rattle.track_sink.specs.declared.watch.Cause.TheVariants.{Slip, Unconfirmed, Refuted}
 use Rattle.relock_sink.specs.Relocks.{IsUnconfirmed, IsSlipEnd, IsUnconfirmedEnd, relock_ends}
-use Rattle.relock_sink.specs.Rivals.{IsConfirmed, IsRefuted}
+use Rattle.relock_sink.specs.Rivals.{IsConfirmed}
+use Rattle.relock_sink.specs.Doubts.{IsLetGo}
 use Rattle.relock_sink.specs.Ends.{decided as relock_decided, excludes as relock_excludes, one as one_relock, stays as relock_stays, within as relock_within, end_was}
 use Rattle.relock_sink.specs.Refuting.{refuted_at, IsSlipFirst, IsRefutedEnd, IsLastUnrefuted, refuting_ends}
-use Rattle.relock_sink.specs.RefutedGrowing.{refuted_stays, refuted_was}
-use Rattle.relock_sink.specs.RefutedDecided.{IsFirstRefuted, IsUnrefuted, refuted_or_not}
+use Rattle.relock_sink.specs.RefutedGrowing.{let_go_stays, let_go_was}
+use Rattle.relock_sink.specs.RefutedDecided.{IsFirstRefuted, IsUnrefuted, rival_of, refuted_or_not}
 
 -- an alignment is confirmed or unconfirmed, not both
 pub not_both : (fed : Fed) (p q r d e f : ℕ) → IsConfirmed fed p q r → IsUnconfirmed fed d e f → ⊥
@@ -32,18 +34,19 @@ not_both fed p q r d e f is other =
     let u = other.unannounced in
     cc
 
--- the least edge of those that refute an alignment lies past a run
-pub far_refuted : (fed : Fed) (p q r d e f : ℕ) → IsRefuted fed p q r d e f → 121 ≤ min d (min e f)
+-- the least edge of those for which an alignment is let go lies past a run
+pub far_refuted : (fed : Fed) (p q r d e f : ℕ) → IsLetGo fed p q r d e f → 121 ≤ min d (min e f)
 far_refuted fed p q r d e f is =
-    let a = is.rival.own.first.triple.blue.past in
-    let b = is.rival.own.first.triple.green.past in
-    let c = is.rival.own.first.triple.red.past in
-    let x = is.rival.blue_later in
-    let y = is.rival.green_later in
-    let z = is.rival.red_later in
+    let rival = rival_of fed p q r d e f is in
+    let a = rival.own.first.triple.blue.past in
+    let b = rival.own.first.triple.green.past in
+    let c = rival.own.first.triple.red.past in
+    let x = rival.blue_later in
+    let y = rival.green_later in
+    let z = rival.red_later in
     omega arith
 
--- edges that refute it first end the epoch where the run before them begins, if no stray is shown before
+-- the first edges for which it is let go end the epoch where the run before them begins, if no stray is shown before
 pub refuted_end : (fed : Fed) (p q r d e f : ℕ) → IsFirstRefuted fed p q r d e f → ((lane place : ℕ) → IsEnd fed lane place → refuted_at d e f < place + 120) → IsRefutedEnd fed (min d (min e f) - 120)
 refuted_end fed p q r d e f first before =
     let far = far_refuted fed p q r d e f first.refuted in
@@ -105,13 +108,17 @@ slip_or_refuted fed lane p q slip is =
     omega arith
 
 unconfirmed_or_refuted : (fed : Fed) (p q : ℕ) → IsUnconfirmedEnd fed p → IsRefutedEnd fed q → ⊥
-unconfirmed_or_refuted fed p q other is = not_both fed is.own_blue is.own_green is.own_red other.blue other.green other.red is.refuted.rival.own other.unconfirmed
+unconfirmed_or_refuted fed p q other is =
+    let rival = rival_of fed is.own_blue is.own_green is.own_red is.blue is.green is.red is.refuted in
+    not_both fed is.own_blue is.own_green is.own_red other.blue other.green other.red rival.own other.unconfirmed
 
 one_refuted : (fed : Fed) (p q : ℕ) → IsRefutedEnd fed p → IsRefutedEnd fed q → p ≡ q
 one_refuted fed p q a b =
     let x = a.least b.own_blue b.own_green b.own_red b.blue b.green b.red b.refuted in
     let y = b.least a.own_blue a.own_green a.own_red a.blue a.green a.red a.refuted in
-    let s = same_greatest fed.blue fed.green fed.red a.blue a.green a.red b.blue b.green b.red a.refuted.rival.triple b.refuted.rival.triple (omega arith) in
+    let t = (rival_of fed a.own_blue a.own_green a.own_red a.blue a.green a.red a.refuted).triple in
+    let w = (rival_of fed b.own_blue b.own_green b.own_red b.blue b.green b.red b.refuted).triple in
+    let s = same_greatest fed.blue fed.green fed.red a.blue a.green a.red b.blue b.green b.red t w (omega arith) in
     let u = a.begins in
     let v = b.begins in
     let l = s.0 in
@@ -136,7 +143,7 @@ slip_stays before now lane place is grows =
     record {
       slip = relock_stays before now (Slip lane) place is.slip grows;
       before = λ p q r d e f other. elim (cases_lt (refuted_at d e f) (place + 120)) [
-        | inl sooner ↦ is.before p q r d e f (refuted_was before now grows p q r d e f (omega arith) other)
+        | inl sooner ↦ is.before p q r d e f (let_go_was before now grows p q r d e f (omega arith) other)
         | inr later ↦ later
       ];
     }
@@ -152,10 +159,10 @@ refuted_end_stays before now place is grows =
       blue = is.blue;
       green = is.green;
       red = is.red;
-      refuted = refuted_stays before now grows is.own_blue is.own_green is.own_red is.blue is.green is.red is.refuted;
+      refuted = let_go_stays before now grows is.own_blue is.own_green is.own_red is.blue is.green is.red shown is.refuted;
       shown = omega arith;
       least = λ p q r d e f other. elim (cases_lt (max d (max e f)) (max is.blue (max is.green is.red))) [
-        | inl sooner ↦ is.least p q r d e f (refuted_was before now grows p q r d e f (omega arith) other)
+        | inl sooner ↦ is.least p q r d e f (let_go_was before now grows p q r d e f (omega arith) other)
         | inr later ↦ later
       ];
       begins = is.begins;
