@@ -1,5 +1,6 @@
 mod Fronts
 mod Judging
 mod Refutes
+mod Doubting
 mod Rivalry
 mod Refuters

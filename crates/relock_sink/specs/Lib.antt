@@ -9,6 +9,7 @@ pub mod Ends
 pub mod Watching
 pub mod RelockRule
 pub mod Judges
+pub mod Verdicts
 pub mod Refuting
 pub mod RefutedGrowing
 pub mod RefutedDecided

@@ -1,4 +1,5 @@
-//! The reasons for which an epoch ends: a stray of a lane, an alignment that is not confirmed, or one that is refuted.
+//! The reasons for which an epoch ends: a stray of a lane, an alignment that is not confirmed, or one that is refuted or doubted twice
+//! in a row.
 ghost use Rattle.std.specs.Prelude.{◌≡◌, ◌≤◌, ◌+◌, ◌-◌, ◌<◌, ◌^◌, None, MatchOption, IfSome};
 ghost use Rattle.link_sink.specs.Sinks.{Fed};
 ghost use Rattle.track_sink.specs.Epochs.{most_of};
@@ -15,7 +16,7 @@ use track_sink::{Cause, End, LentLanes, Watch};
 /// How many bits are looked through before the next: an epoch that ends early costs no more.
 const STRETCH: u64 = 2560;
 
-/// From the greatest edge of a rival to the end of the bits that show an alignment refuted by it.
+/// From the greatest edge of a rival to the end of the bits that show what it says of an alignment.
 const SHOWN: u64 = 90;
 
 /// From a place to the first edge whose bits end after a run from the place on.
@@ -24,7 +25,7 @@ const AHEAD: u64 = RUN_BITS as u64 - SHOWN;
 /// From the place at which a refuted alignment is left to the end of the bits that show it, at most.
 const BACK: u64 = 280;
 
-/// Looks for the first stray of three lanes, whether their first alignment is confirmed, and for edges that refute it.
+/// Looks for the first stray of three lanes, whether their first alignment is confirmed, and for edges for which it is let go.
 #[derive(Clone, Copy, Debug)]
 pub struct Refuter {
     relock: Relock,
@@ -100,7 +101,8 @@ impl Refuter {
     }
 }
 
-/// Before which place edges are looked for that refute an alignment, once the bits before one were looked through for another end.
+/// Before which place edges are looked for, for which an alignment is let go, once the bits before one were looked through for
+/// another end.
 fn limit_of(end: Option<End>, shown: u64) -> u64
     requires { IfSome end (λ found. found.place < 2 ^ 63) }
     ensures { result ≡ limit_at end shown }

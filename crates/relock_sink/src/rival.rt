@@ -1,4 +1,4 @@
-//! Whether the alignment in use is refuted by other edges.
+//! What other edges say of the alignment in use.
 ghost use Rattle.std.specs.Prelude.{◌≡◌, ◌≤◌, ◌+◌, ◌*◌, ◌-◌, ◌^◌, ◌<◌, Some, None, Option, MatchBool, MatchOption, slice_index};
 ghost use Rattle.tmds_word.specs.Column.{Column, column_of};
 ghost use Rattle.alignment_search.specs.Alignments.{greatest, least};
@@ -7,7 +7,8 @@ ghost use Rattle.link_sink.specs.Sinks.{Fed};
 ghost use Rattle.track_sink.specs.Lents.{AreLent};
 ghost use Rattle.relock_sink.specs.Columns.{HaveRoom, column_here, column_after};
 ghost use Rattle.relock_sink.specs.Rivals.{is_guard_band, middle};
-ghost use Rattle.relock_sink.specs.Judges.{IsOpening, IsBand, IsUnopened, column_third, AreLater, HaveOneSkew, last_places, IsOwn, AreEdges, Refutes};
+ghost use Rattle.relock_sink.specs.Judges.{IsOpening, IsBand, IsEnding, IsUnopened, column_third, AreLater, HaveOneSkew, last_places, IsOwn, AreEdges};
+ghost use Rattle.relock_sink.specs.Verdicts.{Says};
 
 use crate::columns::{is_announced, words_at};
 use terc4::{is_control_column, island_guard_words, video_guard_words};
@@ -25,6 +26,19 @@ const WORD_BITS: u64 = 10;
 
 /// How many bits two characters have.
 const TWO_WORDS: u64 = 20;
+
+/// What later edges say of the alignment in use.
+#[derive(Clone, Copy, Debug)]
+pub(crate) enum Verdict {
+    /// No guard band is received whole at them, or no control period ends there by the alignment.
+    Nothing,
+    /// One is, and they have the alignment's skew.
+    Upheld,
+    /// One is at another skew, where a control period ends by the alignment too.
+    Doubted,
+    /// And no period opens after it.
+    Refuted,
+}
 
 /// The two columns at an edge.
 #[derive(Clone, Copy)]
@@ -54,18 +68,28 @@ pub(crate) fn is_opening(lanes: LentLanes<'_>, edges: [u64; 3]) -> bool
     }
 }
 
-/// Whether the alignment at the first edges, where a period opens, is refuted by the others.
-pub(crate) fn refutes(lanes: LentLanes<'_>, own: [u64; 3], edges: [u64; 3]) -> bool
+/// What the other edges say of the alignment at the first, where a period opens.
+pub(crate) fn verdict_at(lanes: LentLanes<'_>, own: [u64; 3], edges: [u64; 3]) -> Verdict
     requires room { HaveRoom lanes }
     requires edges { (fed : Fed) × AreLent lanes fed × IsOwn fed own × AreEdges fed edges }
     requires base { lanes.base + 90 ≤ least edges }
     requires small { greatest edges < 2 ^ 60 }
-    ensures { (fed : Fed) → AreLent lanes.entry fed → IsOwn fed own → AreEdges fed edges → MatchBool result (Refutes fed own edges) (Refutes fed own edges → ⊥) }
+    ensures { (fed : Fed) → AreLent lanes.entry fed → IsOwn fed own → AreEdges fed edges → Says result fed own edges }
 {
-    if !are_later(own, edges) || have_one_skew(own, edges) || !is_band(lanes, edges) {
-        return false;
+    if !are_later(own, edges) || !is_band(lanes, edges) {
+        return Verdict::Nothing;
     }
-    is_unopened(lanes, last_before(own, edges))
+    if have_one_skew(own, edges) {
+        return Verdict::Upheld;
+    }
+    let places = last_before(own, edges);
+    if !is_ending(lanes, places) {
+        Verdict::Nothing
+    } else if is_unopened(lanes, places) {
+        Verdict::Refuted
+    } else {
+        Verdict::Doubted
+    }
 }
 
 /// Whether each of three edges is later than that of its lane before.
@@ -76,9 +100,9 @@ fn are_later(own: [u64; 3], edges: [u64; 3]) -> bool
 }
 
 /// Whether between any two lanes the edges of two alignments are as far apart.
-fn have_one_skew(own: [u64; 3], edges: [u64; 3]) -> bool
-    requires small { greatest edges < 2 ^ 60 }
-    requires later { AreLater own edges }
+pub(crate) fn have_one_skew(own: [u64; 3], edges: [u64; 3]) -> bool
+    requires small { greatest own < 2 ^ 60 }
+    requires also_small { greatest edges < 2 ^ 60 }
     ensures { MatchBool result (HaveOneSkew own edges) (HaveOneSkew own edges → ⊥) }
 {
     edges[0] + own[1] == edges[1] + own[0] && edges[0] + own[2] == edges[2] + own[0]
@@ -121,6 +145,19 @@ fn is_band(lanes: LentLanes<'_>, edges: [u64; 3]) -> bool
 {
     match opening_at(lanes, edges) {
         Some(columns) => is_guard_band(&columns.here, &columns.next),
+        None => false,
+    }
+}
+
+/// Whether a control period ends with the column at three places, and another column follows its end.
+fn is_ending(lanes: LentLanes<'_>, places: [u64; 3]) -> bool
+    requires room { HaveRoom lanes }
+    requires base { lanes.base ≤ least places }
+    requires small { greatest places < 2 ^ 61 }
+    ensures { (fed : Fed) → AreLent lanes.entry fed → MatchBool result (IsEnding fed places) (IsEnding fed places → ⊥) }
+{
+    match ending_at(lanes, places) {
+        Some(columns) => is_control_column(&columns.last) && !is_control_column(&columns.first),
         None => false,
     }
 }
