@@ -3,6 +3,7 @@ ghost use Rattle.std.specs.Prelude.{◌≡◌, ◌+◌, ◌≤◌, ◌%◌, true
 ghost use Rattle.track_sink.specs.TrackSinks.{bits_fed};
 
 mod cases;
+mod doubted_rows;
 mod ends;
 mod refuted_rows;
 mod rows;
@@ -135,4 +136,9 @@ fn epochs(rt: HostRuntime) -> Result<(), Fail> {
 #[test]
 fn refuted_epochs(rt: HostRuntime) -> Result<(), Fail> {
     expect_all::<HostRuntime, Refuter>(&rt, rt.alloc(), refuted_rows::CASES)
+}
+
+#[test]
+fn doubted_epochs(rt: HostRuntime) -> Result<(), Fail> {
+    expect_all::<HostRuntime, Refuter>(&rt, rt.alloc(), doubted_rows::CASES)
 }
