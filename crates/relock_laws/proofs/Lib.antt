@@ -21,3 +21,4 @@ pub mod RefutingAgain
 pub mod WholeExample
 pub mod AccountEnds
 pub mod SkewColumns
+pub mod Uncontended

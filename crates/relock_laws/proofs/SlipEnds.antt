@@ -30,7 +30,8 @@ before_slip : (offset : ℕ) (skews : List ℕ) (lane dropped : ℕ) → lane < 
     → AreClose (offset + slice_index skews 0) (offset + slice_index skews 1) × AreClose (offset + slice_index skews 0) (offset + slice_index skews 2)
 before_slip offset skews lane dropped h k l = grind arith
 
-after_slip : (offset : ℕ) (skews : List ℕ) → HasSmallSkew skews
+-- they are as close where they are small
+pub after_slip : (offset : ℕ) (skews : List ℕ) → HasSmallSkew skews
     → AreClose (offset + slice_index skews 0) (offset + slice_index skews 1) × AreClose (offset + slice_index skews 0) (offset + slice_index skews 2)
 after_slip offset skews small = grind arith
 

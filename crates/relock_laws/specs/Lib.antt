@@ -3,3 +3,4 @@ pub mod Settled
 pub mod Refuted
 pub mod RefutingLaws
 pub mod RefutingSettled
+pub mod Doubted

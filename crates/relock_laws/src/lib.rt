@@ -6,6 +6,7 @@ ghost use Rattle.relock_laws.specs.Laws.{PayloadIsLastEpoch, UntilIsLastEpoch, L
 ghost use Rattle.relock_laws.specs.Refuted.{EndsOpen, PayloadStands, UntilStands, PeriodRefutes};
 ghost use Rattle.relock_laws.specs.Settled.{EndsOrIsLast, OneEnd, SettlesAtPeriod, SettlesForGood, RecoversAgain, HasAgainExample};
 
+pub mod doubted;
 pub mod refuted;
 
 /// The lanes of a tap whose damage lies in pixels and packets alone have one epoch.

@@ -1,0 +1,13 @@
+//! When an alignment is doubted twice in a row. Each law is over definitions alone.
+ghost use Rattle.relock_laws.specs.Doubted.{PayloadHasNoContender, SlipHasNoContender};
+
+/// By the alignment of a tap whose damage lies in pixels and packets alone no control period ends in the midst of edges of another
+/// skew at which a guard band is received whole.
+pub fn payload_has_no_contender()
+    ensures { PayloadHasNoContender }
+{}
+
+/// Nor does one by the first alignment where a lane slips once within a line.
+pub fn slip_has_no_contender()
+    ensures { SlipHasNoContender }
+{}
