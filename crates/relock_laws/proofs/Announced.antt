@@ -18,6 +18,7 @@ use Rattle.link_laws.proofs.Guards.{lost, unlike, line_guard, is_blue}
 use Rattle.link_laws.proofs.Joining.{ArrivesPeriod, controls, pixels, packets, Arrives, nothing, more, sized}
 use Rattle.link_laws.proofs.Rows.{control_columns}
 use Rattle.relock_sink.specs.Relocks.{is_announced}
+use Rattle.relock_sink.specs.Rivals.{is_guard_band}
 
 -- The columns as sent.
 
@@ -118,6 +119,20 @@ announces _ _ g h (of_island u v lu lv) none one =
     let b = island_kept v h lv in
     last_two (nat_le 3 (video_words g)) (nat_le 2 (video_words h)) (nat_le 3 (island_words g)) (nat_le 2 (island_words h))
     (le-leb 3 (island_words g) (omega arith)) (le-leb 2 (island_words h) (omega arith))
+
+-- and each character as it was sent, they are a whole guard band
+pub whole_as_sent : (s t g h : Column) → ArePair s t → unlike s g ≡ 0 → unlike t h ≡ 0 → is_guard_band g h ≡ true
+unfolding is_guard_band
+whole_as_sent _ _ g h of_line none same =
+    let a = video_kept g in
+    let b = video_kept h in
+    first_two (nat_le 3 (video_words g)) (nat_le 3 (video_words h)) (nat_le 3 (island_words g)) (nat_le 3 (island_words h))
+    (le-leb 3 (video_words g) (omega arith)) (le-leb 3 (video_words h) (omega arith))
+whole_as_sent _ _ g h (of_island u v lu lv) none same =
+    let a = island_kept u g lu in
+    let b = island_kept v h lv in
+    last_two (nat_le 3 (video_words g)) (nat_le 3 (video_words h)) (nat_le 3 (island_words g)) (nat_le 3 (island_words h))
+    (le-leb 3 (island_words g) (omega arith)) (le-leb 3 (island_words h) (omega arith))
 
 self_unlike : (s : Column) → unlike s s ≡ 0
 unfolding unlike_words one_if

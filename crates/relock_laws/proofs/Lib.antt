@@ -22,3 +22,7 @@ pub mod WholeExample
 pub mod AccountEnds
 pub mod SkewColumns
 pub mod Uncontended
+pub mod Spared
+pub mod Upholding
+pub mod UntilEnds
+pub mod Undoubted

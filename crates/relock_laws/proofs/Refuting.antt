@@ -10,6 +10,7 @@ use Rattle.terc4.specs.Columns.{one_if, is_control_column}
 use Rattle.period_grammar.specs.Heard.{Kind, neither, video, island, opened}
 use Rattle.lane_align.specs.Lanes.{HasControl, IsEdge}
 use Rattle.lane_align.proofs.Controls.{one_lock}
+use Rattle.lane_deskew.specs.Triples.{IsTriple}
 use Rattle.lane_deskew.specs.Aligned.{aligned_column}
 use Rattle.link_sink.specs.Sinks.{Fed}
 use Rattle.relock_sink.specs.Rivals.{middle, columns_before, IsConfirmed, IsRival, IsRefuted}
@@ -100,13 +101,13 @@ two_until a b c = elim (cases_lt (middle a b c) a) [
 steps_near : (p q d e : ℕ) → AreNear p q → AreNear d e → p < d → q < e → p % 10 ≡ d % 10 → q % 10 ≡ e % 10 → (d - p) / 10 ≤ (e - q) / 10 + 14
 steps_near p q d e own there a b x y = let u = own.0 in let v = own.1 in let w = there.0 in let z = there.1 in omega arith
 
-record IsNearAll (a b c m : ℕ) : Type 0 where
-  first_over : m ≤ a + 14
-  first_under : a ≤ m + 14
-  second_over : m ≤ b + 14
-  second_under : b ≤ m + 14
-  third_over : m ≤ c + 14
-  third_under : c ≤ m + 14
+pub record IsNearAll (a b c m : ℕ) : Type 0 where
+  pub first_over : m ≤ a + 14
+  pub first_under : a ≤ m + 14
+  pub second_over : m ≤ b + 14
+  pub second_under : b ≤ m + 14
+  pub third_over : m ≤ c + 14
+  pub third_under : c ≤ m + 14
 
 near_middle : (a b c : ℕ) → a ≤ b + 14 → b ≤ a + 14 → b ≤ c + 14 → c ≤ b + 14 → a ≤ c + 14 → c ≤ a + 14 → IsNearAll a b c (middle a b c)
 near_middle a b c ab ba bc cb ac ca = record {
@@ -119,16 +120,16 @@ near_middle a b c ab ba bc cb ac ca = record {
 }
 
 -- how many columns there are between two alignments on each lane, and the second of these numbers
-record IsBetween (fed : Fed) (p q r d e f c : ℕ) : Type 0 where
-  blue_whole : p % 10 ≡ d % 10
-  green_whole : q % 10 ≡ e % 10
-  red_whole : r % 10 ≡ f % 10
-  near : IsNearAll ((d - p) / 10) ((e - q) / 10) ((f - r) / 10) c
+pub record IsBetween (fed : Fed) (p q r d e f c : ℕ) : Type 0 where
+  pub blue_whole : p % 10 ≡ d % 10
+  pub green_whole : q % 10 ≡ e % 10
+  pub red_whole : r % 10 ≡ f % 10
+  pub near : IsNearAll ((d - p) / 10) ((e - q) / 10) ((f - r) / 10) c
 
-between : (fed : Fed) (p q r d e f : ℕ) → IsConfirmed fed p q r → IsWholePeriod fed d e f → p < d → q < e → r < f → IsBetween fed p q r d e f (columns_before p q r d e f)
-between fed p q r d e f own period x y z =
+pub between : (fed : Fed) (p q r d e f : ℕ) → IsConfirmed fed p q r → IsTriple fed.blue fed.green fed.red d e f → p < d → q < e → r < f
+    → IsBetween fed p q r d e f (columns_before p q r d e f)
+between fed p q r d e f own u x y z =
     let t = own.first.triple in
-    let u = period.triple in
     let b = whole_apart fed.blue p d t.blue u.blue in
     let g = whole_apart fed.green q e t.green u.green in
     let w = whole_apart fed.red r f t.red u.red in
@@ -223,7 +224,7 @@ period_refutes fed p q r d e f own period x y z other = by (opened first second)
     c = columns_before p q r d e f
 
     n : IsBetween fed p q r d e f c
-    n = between fed p q r d e f own period x y z
+    n = between fed p q r d e f own period.triple x y z
 
     about : (m : ℕ) → m ≤ 2 → IsColumnAbout fed p q r d e f c m
     about m le = column_about fed p q r d e f c m own period x y z n le

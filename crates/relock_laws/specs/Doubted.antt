@@ -1,12 +1,13 @@
 -- When an alignment is doubted twice in a row: never a true one.
-use Rattle.std.specs.Prelude.{ℕ, List}
+use Rattle.std.specs.Prelude.{◌≡◌, ◌⊎◌, ℕ, ◌+◌, ◌<◌, ◌≤◌, List, length}
 use Rattle.tmds_word.specs.Column.{Column}
 use Rattle.tmds_word.specs.Taps.{HasSmallSkew}
 use Rattle.island_pack.specs.Periods.{Period}
-use Rattle.island_pack.specs.Sparse.{IsSparseInPayload}
+use Rattle.island_pack.specs.Sparse.{unlike_at, IsSparseInPayload}
 use Rattle.link_sink.specs.Sinks.{Fed}
+use Rattle.link_laws.specs.Laws.{EndsControl, AlignsUntil}
 use Rattle.track_laws.specs.Laws.{Received, Slipped, SlipsInVideo}
-use Rattle.relock_sink.specs.Doubts.{IsContender}
+use Rattle.relock_sink.specs.Doubts.{IsContender, IsDoubted}
 
 -- A true alignment.
 
@@ -25,3 +26,21 @@ SlipHasNoContender =
     → Received ps sent received offset skews counts x → Slipped x lane place dropped y
     → SlipsInVideo ps sent received offset skews counts lane place dropped first next
     → (p q r d e f : ℕ) → IsContender y p q r d e f → ⊥
+
+-- the fifteen columns up to the end of a control period and the three after it were received as they were sent
+abbrev pub IsSpared : List Column → List Column → ℕ → Type 0
+IsSpared sent received i = (k : ℕ) → i < k + 15 → k ≤ i + 3 → unlike_at sent received k ≡ 0
+
+-- so were they at one of any two control periods in a row that other columns follow, from the one before a column on
+abbrev pub OneOfTwoIsSpared : List Period → List Column → List Column → ℕ → Type 0
+OneOfTwoIsSpared ps sent received until =
+    (i j : ℕ) → until ≤ i + 1 → EndsControl ps i → EndsControl ps j → i < j → j + 1 < length sent → ((k : ℕ) → i < k → k < j → EndsControl ps k → ⊥)
+    → IsSpared sent received i ⊎ IsSpared sent received j
+
+-- where damage is sparse, wherever it lies, and spares control and guard words until a column that each lane has, and from there on
+-- one of any two control periods in a row, the alignment of a tap is not doubted twice in a row
+abbrev pub UntilIsUndoubted : Type 0
+UntilIsUndoubted =
+    (ps : List Period) (sent received : List Column) (offset : ℕ) (skews counts : List ℕ) (x : Fed) → Received ps sent received offset skews counts x
+    → HasSmallSkew skews → (until : ℕ) → AlignsUntil ps sent received offset skews counts until → OneOfTwoIsSpared ps sent received until
+    → (p q r d e f : ℕ) → IsDoubted x p q r d e f → ⊥

@@ -1,5 +1,5 @@
 //! When an alignment is doubted twice in a row. Each law is over definitions alone.
-ghost use Rattle.relock_laws.specs.Doubted.{PayloadHasNoContender, SlipHasNoContender};
+ghost use Rattle.relock_laws.specs.Doubted.{PayloadHasNoContender, SlipHasNoContender, UntilIsUndoubted};
 
 /// By the alignment of a tap whose damage lies in pixels and packets alone no control period ends in the midst of edges of another
 /// skew at which a guard band is received whole.
@@ -10,4 +10,10 @@ pub fn payload_has_no_contender()
 /// Nor does one by the first alignment where a lane slips once within a line.
 pub fn slip_has_no_contender()
     ensures { SlipHasNoContender }
+{}
+
+/// Where damage is sparse, wherever it lies, spares control and guard characters until a column that each lane has, and from there on
+/// the end of one of any two control periods in a row, the alignment of a tap is not doubted twice in a row.
+pub fn until_is_undoubted()
+    ensures { UntilIsUndoubted }
 {}
