@@ -22,6 +22,7 @@ pub mod WholeExample
 pub mod AccountEnds
 pub mod SkewColumns
 pub mod Uncontended
+pub mod Doubting
 pub mod Spared
 pub mod Upholding
 pub mod UntilEnds

@@ -13,7 +13,8 @@ use Rattle.lane_align.proofs.Controls.{one_lock}
 use Rattle.lane_deskew.specs.Triples.{IsTriple}
 use Rattle.lane_deskew.specs.Aligned.{aligned_column}
 use Rattle.link_sink.specs.Sinks.{Fed}
-use Rattle.relock_sink.specs.Rivals.{middle, columns_before, IsConfirmed, IsRival, IsRefuted}
+use Rattle.relock_sink.specs.Rivals.{middle, columns_before, IsConfirmed, HaveSameSkew, IsRefuted}
+use Rattle.relock_sink.specs.Doubts.{IsContender}
 use Rattle.relock_laws.specs.Settled.{EndsNineteen}
 use Rattle.relock_laws.specs.Refuted.{GoesOn, IsWholePeriod, OpensAt, PeriodRefutes}
 
@@ -217,71 +218,76 @@ no_control_first fed p q r d e f own x y z n is =
       ]
     ]))
 
-pub period_refutes : PeriodRefutes
-period_refutes fed p q r d e f own period x y z other = by (opened first second) refl
-  where
-    c : ℕ
-    c = columns_before p q r d e f
-
-    n : IsBetween fed p q r d e f c
-    n = between fed p q r d e f own period.triple x y z
-
-    about : (m : ℕ) → m ≤ 2 → IsColumnAbout fed p q r d e f c m
-    about m le = column_about fed p q r d e f c m own period x y z n le
-
-    zero_is : IsColumnAbout fed p q r d e f c 0
-    zero_is = about 0 (omega arith)
-
-    one_is : IsColumnAbout fed p q r d e f c 1
-    one_is = about 1 (omega arith)
-
-    two_is : IsColumnAbout fed p q r d e f c 2
-    two_is = about 2 (omega arith)
-
-    first : Column
-    first = column_at fed p q r d e f c 1 one_is
-
-    second : Column
-    second = column_at fed p q r d e f c 2 two_is
-
-    rival : IsRival fed p q r d e f
-    rival = record {
-      own = own;
-      triple = period.triple;
-      blue_later = x;
-      green_later = y;
-      red_later = z;
-      other_skew = other;
-      here = period.here;
-      next = period.next;
-      is_here = period.is_here;
-      is_next = period.is_next;
-      whole = period.whole;
-    }
-
-    opens : (k : Kind) → opened first second ≡ k → (k ≡ neither → ⊥) → IsRefuted fed p q r d e f ⊎ OpensAt fed p q r (12 + c)
-    opens k is apart = inr (record {
-      first = first;
-      second = second;
-      is_first = is_column fed p q r d e f c 1 (12 + c) one_is (omega arith);
-      is_second = is_column fed p q r d e f c 2 (12 + c + 1) two_is (omega arith);
-      something = λ none. apart (sym is ∙ none);
-    })
-
-    by : (k : Kind) → opened first second ≡ k → IsRefuted fed p q r d e f ⊎ OpensAt fed p q r (12 + c)
-    by video is = opens video is (λ e. cc)
-    by island is = opens island is (λ e. cc)
-    by neither is = inl (record {
-      rival = rival;
-      unopened = record {
+-- so the edges where it ends contend with the first alignment
+pub contends : (fed : Fed) (p q r d e f : ℕ) → IsConfirmed fed p q r → IsWholePeriod fed d e f → p < d → q < e → r < f → (HaveSameSkew p q r d e f → ⊥)
+    → IsContender fed p q r d e f
+contends fed p q r d e f own period x y z other =
+    let c = columns_before p q r d e f in
+    let n = between fed p q r d e f own period.triple x y z in
+    let zero_is = column_about fed p q r d e f c 0 own period x y z n (omega arith) in
+    let one_is = column_about fed p q r d e f c 1 own period x y z n (omega arith) in
+    let two_is = column_about fed p q r d e f c 2 own period x y z n (omega arith) in
+    record {
+      rival = record {
+        own = own;
+        triple = period.triple;
+        blue_later = x;
+        green_later = y;
+        red_later = z;
+        other_skew = other;
+        here = period.here;
+        next = period.next;
+        is_here = period.is_here;
+        is_next = period.is_next;
+        whole = period.whole;
+      };
+      period = record {
         last = column_at fed p q r d e f c 0 zero_is;
-        first = first;
-        second = second;
+        first = column_at fed p q r d e f c 1 one_is;
+        second = column_at fed p q r d e f c 2 two_is;
         is_last = is_column fed p q r d e f c 0 (11 + c) zero_is (omega arith);
         is_first = is_column fed p q r d e f c 1 (11 + c + 1) one_is (omega arith);
         is_second = is_column fed p q r d e f c 2 (11 + c + 2) two_is (omega arith);
         control = control_last fed p q r d e f own x y z n zero_is;
         ends = no_control_first fed p q r d e f own x y z n one_is;
-        nothing = is;
+      };
+    }
+
+pub period_refutes : PeriodRefutes
+period_refutes fed p q r d e f own period x y z other = by (opened is.period.first is.period.second) refl
+  where
+    c : ℕ
+    c = columns_before p q r d e f
+
+    is : IsContender fed p q r d e f
+    is = contends fed p q r d e f own period x y z other
+
+    moved : (i j : ℕ) (column : Column) → i ≡ j → aligned_column fed.blue fed.green fed.red p q r i ≡ Some column → aligned_column fed.blue fed.green fed.red p q r j ≡ Some column
+    moved i j column at = subst (λ n. aligned_column fed.blue fed.green fed.red p q r n ≡ Some column) at
+
+    opens : (k : Kind) → opened is.period.first is.period.second ≡ k → (k ≡ neither → ⊥) → IsRefuted fed p q r d e f ⊎ OpensAt fed p q r (12 + c)
+    opens k kind apart = inr (record {
+      first = is.period.first;
+      second = is.period.second;
+      is_first = moved (11 + c + 1) (12 + c) is.period.first (omega arith) is.period.is_first;
+      is_second = moved (11 + c + 2) (12 + c + 1) is.period.second (omega arith) is.period.is_second;
+      something = λ none. apart (sym kind ∙ none);
+    })
+
+    by : (k : Kind) → opened is.period.first is.period.second ≡ k → IsRefuted fed p q r d e f ⊎ OpensAt fed p q r (12 + c)
+    by video kind = opens video kind (λ e. cc)
+    by island kind = opens island kind (λ e. cc)
+    by neither kind = inl (record {
+      rival = is.rival;
+      unopened = record {
+        last = is.period.last;
+        first = is.period.first;
+        second = is.period.second;
+        is_last = is.period.is_last;
+        is_first = is.period.is_first;
+        is_second = is.period.is_second;
+        control = is.period.control;
+        ends = is.period.ends;
+        nothing = kind;
       };
     })

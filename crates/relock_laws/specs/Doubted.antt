@@ -1,13 +1,18 @@
--- When an alignment is doubted twice in a row: never a true one.
-use Rattle.std.specs.Prelude.{◌≡◌, ◌⊎◌, ℕ, ◌+◌, ◌<◌, ◌≤◌, List, length}
+-- When an alignment is doubted twice in a row: never a true one, and each other one at the second good control period in a row.
+use Rattle.std.specs.Prelude.{◌≡◌, ◌⊎◌, ℕ, ◌+◌, ◌-◌, ◌<◌, ◌≤◌, Bool, false, List, length, Some}
+use Rattle.tmds_word.specs.Bits.{window}
 use Rattle.tmds_word.specs.Column.{Column}
 use Rattle.tmds_word.specs.Taps.{HasSmallSkew}
+use Rattle.terc4.specs.Tables.{is_control}
+use Rattle.lane_align.specs.Lanes.{IsRun}
 use Rattle.island_pack.specs.Periods.{Period}
 use Rattle.island_pack.specs.Sparse.{unlike_at, IsSparseInPayload}
 use Rattle.link_sink.specs.Sinks.{Fed}
 use Rattle.link_laws.specs.Laws.{EndsControl, AlignsUntil}
 use Rattle.track_laws.specs.Laws.{Received, Slipped, SlipsInVideo}
+use Rattle.relock_sink.specs.Rivals.{IsConfirmed, HaveSameSkew}
 use Rattle.relock_sink.specs.Doubts.{IsContender, IsDoubted}
+use Rattle.relock_laws.specs.Refuted.{IsWholePeriod}
 
 -- A true alignment.
 
@@ -44,3 +49,33 @@ UntilIsUndoubted =
     (ps : List Period) (sent received : List Column) (offset : ℕ) (skews counts : List ℕ) (x : Fed) → Received ps sent received offset skews counts x
     → HasSmallSkew skews → (until : ℕ) → AlignsUntil ps sent received offset skews counts until → OneOfTwoIsSpared ps sent received until
     → (p q r d e f : ℕ) → IsDoubted x p q r d e f → ⊥
+
+-- Another alignment.
+
+-- twelve control words end at a place, and no other follows there
+pub record EndsRun (xs : List Bool) (e : ℕ) : Type 0 where
+  pub begins : 120 ≤ e
+  pub run : IsRun xs (e - 120)
+  pub word : ℕ
+  pub here : window xs e ≡ Some word
+  pub no_control : is_control word ≡ false
+
+-- in whatever phase, none do strictly between two places
+abbrev pub IsQuiet : List Bool → ℕ → ℕ → Type 0
+IsQuiet xs d i = (e : ℕ) → d < e → e < i → EndsRun xs e → ⊥
+
+-- two control periods of one skew whose guard bands are received whole, and no run of control words ends between them on any lane
+pub record AreTwoPeriods (fed : Fed) (d e f i j k : ℕ) : Type 0 where
+  pub first : IsWholePeriod fed d e f
+  pub second : IsWholePeriod fed i j k
+  pub later : d < i
+  pub same_skew : HaveSameSkew d e f i j k
+  pub blue_quiet : IsQuiet fed.blue d i
+  pub green_quiet : IsQuiet fed.green e j
+  pub red_quiet : IsQuiet fed.red f k
+
+-- an earlier alignment with another skew is doubted at the second of them, so it is let go there at the latest, without exception
+abbrev pub DoubtsAtSecond : Type 0
+DoubtsAtSecond =
+    (fed : Fed) (p q r d e f i j k : ℕ) → IsConfirmed fed p q r → AreTwoPeriods fed d e f i j k → p < d → q < e → r < f → (HaveSameSkew p q r d e f → ⊥)
+    → IsDoubted fed p q r i j k

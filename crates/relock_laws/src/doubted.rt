@@ -1,5 +1,5 @@
 //! When an alignment is doubted twice in a row. Each law is over definitions alone.
-ghost use Rattle.relock_laws.specs.Doubted.{PayloadHasNoContender, SlipHasNoContender, UntilIsUndoubted};
+ghost use Rattle.relock_laws.specs.Doubted.{PayloadHasNoContender, SlipHasNoContender, UntilIsUndoubted, DoubtsAtSecond};
 
 /// By the alignment of a tap whose damage lies in pixels and packets alone no control period ends in the midst of edges of another
 /// skew at which a guard band is received whole.
@@ -16,4 +16,10 @@ pub fn slip_has_no_contender()
 /// the end of one of any two control periods in a row, the alignment of a tap is not doubted twice in a row.
 pub fn until_is_undoubted()
     ensures { UntilIsUndoubted }
+{}
+
+/// Each earlier alignment with another skew is doubted at the second of two control periods in a row of nineteen characters whose
+/// guard bands are received whole, at one skew: it is let go there at the latest.
+pub fn doubts_at_second()
+    ensures { DoubtsAtSecond }
 {}
