@@ -27,3 +27,4 @@ pub mod Spared
 pub mod Upholding
 pub mod UntilEnds
 pub mod Undoubted
+pub mod UndoubtedExample

@@ -79,3 +79,20 @@ abbrev pub DoubtsAtSecond : Type 0
 DoubtsAtSecond =
     (fed : Fed) (p q r d e f i j k : ℕ) → IsConfirmed fed p q r → AreTwoPeriods fed d e f i j k → p < d → q < e → r < f → (HaveSameSkew p q r d e f → ⊥)
     → IsDoubted fed p q r i j k
+
+-- Examples.
+
+-- a tap, damage beside the end of a control period of which leaves it to the next one to be spared
+pub record IsUndoubtedExample (ps : List Period) (sent received : List Column) (offset : ℕ) (skews counts : List ℕ) (x : Fed) (until i : ℕ) : Type 0 where
+  pub reception : Received ps sent received offset skews counts x
+  pub small : HasSmallSkew skews
+  pub aligns : AlignsUntil ps sent received offset skews counts until
+  pub spared : OneOfTwoIsSpared ps sent received until
+  pub ends : EndsControl ps i
+  pub late : until ≤ i + 1
+  pub damaged : IsSpared sent received i → ⊥
+
+abbrev pub HasUndoubtedExample : Type 0
+HasUndoubtedExample =
+    (ps : List Period) × (sent received : List Column) × (offset : ℕ) × (skews counts : List ℕ) × (x : Fed) × (until i : ℕ)
+    × IsUndoubtedExample ps sent received offset skews counts x until i

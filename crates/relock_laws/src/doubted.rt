@@ -1,5 +1,5 @@
 //! When an alignment is doubted twice in a row. Each law is over definitions alone.
-ghost use Rattle.relock_laws.specs.Doubted.{PayloadHasNoContender, SlipHasNoContender, UntilIsUndoubted, DoubtsAtSecond};
+ghost use Rattle.relock_laws.specs.Doubted.{PayloadHasNoContender, SlipHasNoContender, UntilIsUndoubted, DoubtsAtSecond, HasUndoubtedExample};
 
 /// By the alignment of a tap whose damage lies in pixels and packets alone no control period ends in the midst of edges of another
 /// skew at which a guard band is received whole.
@@ -22,4 +22,9 @@ pub fn until_is_undoubted()
 /// guard bands are received whole, at one skew: it is let go there at the latest.
 pub fn doubts_at_second()
     ensures { DoubtsAtSecond }
+{}
+
+/// The premises can be met: a stream with a damaged pixel beside the end of a control period, and a tap of it.
+pub fn undoubted_example()
+    ensures { HasUndoubtedExample }
 {}
