@@ -14,8 +14,18 @@ use Rattle.relock_laws.proofs.Refuting.{whole_apart, contends}
 -- One lane.
 
 -- control words end at an edge
-run_of_edge : (xs : List Bool) (e : ℕ) → IsEdge xs e → EndsRun xs e
+pub run_of_edge : (xs : List Bool) (e : ℕ) → IsEdge xs e → EndsRun xs e
 run_of_edge xs e edge = let past = edge.past in record { begins = omega arith; run = edge.run; word = edge.word; here = edge.here; no_control = edge.no_control }
+
+-- none do shortly after it where no control words follow
+pub no_edge_after : (xs : List Bool) (i b : ℕ) → IsEdge xs i → GoesOn xs i → IsEdge xs b → i < b → b ≤ i + 140 → ⊥
+no_edge_after xs i b own on edge later near =
+    let same = whole_apart xs b i edge own in
+    let begins = edge.past in
+    let last = edge.run 11 (omega arith) in
+    let k = (b - 10 - i) / 10 in
+    let at : i + 10 * k ≡ b - 120 + 10 * 11 = omega arith in
+    true≢false (sym last.control ∙ on.payload k last.word (omega arith) (ap (window xs) at ∙ last.here))
 
 -- after the first of two ends there is no edge until the second, nor one shortly after that
 one_edge : (xs : List Bool) (d i b : ℕ) → IsQuiet xs d i → IsEdge xs i → GoesOn xs i → IsEdge xs b → d < b → b ≤ i + 140 → b ≡ i
@@ -23,13 +33,7 @@ one_edge xs d i b quiet own on edge after near = elim (cases_lt b i) [
   | inl between ↦ absurd (quiet b after between (run_of_edge xs b edge))
   | inr past ↦ elim (cases_lt i b) [
     | inr upto ↦ omega arith
-    | inl later ↦
-        let same = whole_apart xs b i edge own in
-        let begins = edge.past in
-        let last = edge.run 11 (omega arith) in
-        let k = (b - 10 - i) / 10 in
-        let at : i + 10 * k ≡ b - 120 + 10 * 11 = omega arith in
-        absurd (true≢false (sym last.control ∙ on.payload k last.word (omega arith) (ap (window xs) at ∙ last.here)))
+    | inl later ↦ absurd (no_edge_after xs i b own on edge later near)
   ]
 ]
 

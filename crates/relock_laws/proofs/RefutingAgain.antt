@@ -1,29 +1,42 @@
--- A tap after any bits: the epoch that has the skew of a good control period of it is refuted by no edges, neither earlier nor later ones.
-use Rattle.std.proofs.Common.{◌≡◌, ℕ, ◌+◌, ◌-◌, ◌*◌, ◌/◌, ◌≤◌, Bool, List, drop, ◌∙◌, arith, inl, inr, length-drop}
+-- A tap after any bits: the epoch that has the skew of a good control period of it is let go for no edges, neither earlier nor later ones.
+use Rattle.std.proofs.Common.{◌≡◌, ◌⊎◌, ℕ, ◌+◌, ◌-◌, ◌*◌, ◌/◌, ◌<◌, ◌≤◌, max, Bool, List, length, drop, get_or, ◌∙◌, subst, arith, inl, inr, Some, length-drop}
+use Rattle.std.specs.Prelude.{slice_index}
 use Rattle.std.proofs.lemmas.Bool.{cases_lt}
 use Rattle.tmds_word.specs.Bits.{window}
-use Rattle.tmds_word.specs.Column.{Column}
+use Rattle.tmds_word.specs.Column.{Column, blues, greens, reds}
+use Rattle.tmds_word.specs.Taps.{part_of}
 use Rattle.lane_align.specs.Lanes.{IsEdge}
-use Rattle.lane_deskew.specs.Triples.{IsTriple}
-use Rattle.lane_deskew.specs.Aligned.{column_from, aligned_column}
+use Rattle.lane_deskew.specs.Triples.{IsTriple, IsFirst}
+use Rattle.lane_deskew.proofs.First.{one_first}
 use Rattle.island_pack.specs.Periods.{Period}
 use Rattle.link_laws.proofs.Freely.{free_received}
+use Rattle.link_laws.proofs.Tapped.{characters}
 use Rattle.link_sink.specs.Sinks.{Fed}
 use Rattle.track_sink.specs.Epochs.{rest_of}
 use Rattle.track_sink.specs.declared.watch.Cause.TheVariants.{Slip}
-use Rattle.relock_sink.specs.Rivals.{HaveSameSkew, IsRefuted, OpensNothing, middle, columns_before}
+use Rattle.relock_sink.specs.Rivals.{HaveSameSkew, IsConfirmed, IsRefuted, OpensNothing, middle, columns_before}
+use Rattle.relock_sink.specs.Doubts.{IsContender, IsUpheld, AreInRow, IsDoubted, IsLetGo}
+use Rattle.relock_sink.specs.RefutedDecided.{rival_of}
 use Rattle.relock_sink.specs.Refuting.{refuting_rule}
 use Rattle.relock_laws.specs.Settled.{IsAgain, IsGoodPeriod}
-use Rattle.relock_laws.specs.RefutingSettled.{IsSettledBy, SameSkewIsLast, RecoversUnrefuted}
+use Rattle.relock_laws.specs.Refuted.{GoesOn, IsWholePeriod}
+use Rattle.relock_laws.specs.RefutingSettled.{IsWholeGoodPeriod, IsSettledBy, SameSkewIsLast, RecoversUnrefuted}
+use Rattle.relock_laws.specs.Doubted.{OneOfTwoIsSpared}
 use Rattle.relock_laws.proofs.Again.{accounted, accounted_there, calm_again, long_lane}
 use Rattle.relock_laws.proofs.Ending.{none_unconfirmed}
+use Rattle.relock_laws.proofs.Doubting.{no_edge_after}
 use Rattle.relock_laws.proofs.GoodPeriod.{HasLast, earlier_edge}
 use Rattle.relock_laws.proofs.Refuting.{whole_apart}
-use Rattle.relock_laws.proofs.RefutingEnding.{refuted_leaves}
-use Rattle.relock_laws.proofs.RefutingSettling.{EndsLateBy, late_by, settles_unrefuted, settled_has_skew, settled_no_stray}
+use Rattle.relock_laws.proofs.RefutingEnding.{let_go_leaves}
+use Rattle.relock_laws.proofs.RefutingSettling.{EndsLateBy, late_by, rest_period, settles_unrefuted, settled_has_skew, settled_no_stray}
 use Rattle.relock_laws.proofs.Settling.{least_of, HaveLast, have_last, triple_at}
-use Rattle.relock_laws.proofs.Standing.{columns_open, refuted_first}
+use Rattle.relock_laws.proofs.Seen.{part_word}
+use Rattle.relock_laws.proofs.Spared.{IsLaneFrom}
+use Rattle.relock_laws.proofs.Standing.{columns_open}
+use Rattle.relock_laws.proofs.Undoubted.{AreAfter, enough_before, later_undoubted}
 use Rattle.relock_laws.proofs.Unrefuted.{last_unrefuted}
+use Rattle.relock_laws.proofs.Upholding.{AreFrom}
+use Rattle.relock_laws.proofs.Windows.{column_moved, rest_window, back_window}
 
 -- Where edges lie.
 
@@ -66,15 +79,6 @@ together d e f z i j k own other (later a) (later b) (earlier c) = let x = own.r
 
 -- The columns of an alignment at the edges of another one of its skew.
 
-pub column_moved : (fed : Fed) (p q r d e f n j i : ℕ) → 120 ≤ p → 120 ≤ q → 120 ≤ r → p + 10 * n ≡ d → q + 10 * n ≡ e → r + 10 * n ≡ f → j ≡ n + i
-    → aligned_column fed.blue fed.green fed.red d e f i ≡ aligned_column fed.blue fed.green fed.red p q r j
-unfolding aligned_column
-column_moved fed p q r d e f n j i a b c x y v at =
-    let blue : d - 120 + 10 * i ≡ p - 120 + 10 * j = omega arith in
-    let green : e - 120 + 10 * i ≡ q - 120 + 10 * j = omega arith in
-    let red : f - 120 + 10 * i ≡ r - 120 + 10 * j = omega arith in
-    λ t. column_from (window fed.blue (blue t)) (window fed.green (green t)) (window fed.red (red t))
-
 nothing_moved : (fed : Fed) (p q r d e f n j i : ℕ) → 120 ≤ p → 120 ≤ q → 120 ≤ r → p + 10 * n ≡ d → q + 10 * n ≡ e → r + 10 * n ≡ f → j ≡ n + i
     → OpensNothing fed p q r j → OpensNothing fed d e f i
 nothing_moved fed p q r d e f n j i a b c x y v at o = record {
@@ -96,10 +100,10 @@ more_before a b c n x y z = omega arith
 few_columns : (p d z i n : ℕ) → p + 10 * n ≡ d - z → d ≤ z + i → n ≤ (i - p) / 10
 few_columns p d z i n at past = omega arith
 
--- Neither earlier nor later edges refute it.
+-- It is let go for no earlier edges, nor refuted by later ones.
 
 not_earlier : (fed : Fed) (d e f z p q r i j k : ℕ) → IsGoodPeriod fed d e f → HaveLast fed d e f z → EndsLateBy refuting_rule fed z (least_of d e f)
-    → z + i + 200 ≤ d → z + j + 200 ≤ e → z + k + 200 ≤ f → IsRefuted (rest_of z fed) p q r i j k → ⊥
+    → z + i + 200 ≤ d → z + j + 200 ≤ e → z + k + 200 ≤ f → IsLetGo (rest_of z fed) p q r i j k → ⊥
 not_earlier fed d e f z p q r i j k good h late x y v is =
     let b = long_lane fed.blue d good.blue in
     let g = long_lane fed.green e good.green in
@@ -110,7 +114,7 @@ not_earlier fed d e f z p q r i j k good h late x y v is =
     let b1 = h.blue.high in
     let g1 = h.green.high in
     let r1 = h.red.high in
-    elim (refuted_leaves (rest_of z fed) p q r i j k is (omega arith)) [
+    elim (let_go_leaves (rest_of z fed) p q r i j k is (omega arith)) [
       | inl ends ↦ let far = late ends.0 ends.1 in let early = ends.2 in omega arith
       | inr slip ↦ let far = late slip.1 (Slip slip.0, slip.2) in let early = slip.3 in omega arith
     ]
@@ -137,44 +141,176 @@ not_later ps sent received offset skews counts x fed before a d e f z p q r i j 
     columns_open ps sent received free (rest_of z fed) (d - z) (e - z) (f - z) a (11 + (c - n)) account
     (nothing_moved (rest_of z fed) p q r (d - z) (e - z) (f - z) n (11 + c) (11 + (c - n)) (omega arith) (omega arith) (omega arith) nb ng nr (omega arith) is.unopened)
 
-same_skew_stands : (ps : List Period) (sent received : List Column) (offset : ℕ) (skews counts : List ℕ) (x fed : Fed) (before : List ℕ) (a d e f : ℕ)
-    → IsAgain ps sent received offset skews counts x fed before a d e f
-    → (z p q r : ℕ) → IsSettledBy refuting_rule fed d e f z p q r → HaveSameSkew p q r d e f
-    → (i j k : ℕ) → IsRefuted (rest_of z fed) p q r i j k → ⊥
-same_skew_stands ps sent received offset skews counts x fed before a d e f again z p q r is same i j k u =
-    let good = again.good in
-    let h = have_last fed d e f z good is.begins (late_by fed z (least_of d e f) is.ends) in
-    let own = triple_at fed d e f z good h in
-    let other = u.rival.triple in
-    let near : AreClose d e f = record { blue_green = good.blue_green.0; green_blue = good.blue_green.1; blue_red = good.blue_red.0; red_blue = good.blue_red.1 } in
-    by h own (together d e f z i j k near (close (rest_of z fed) i j k other)
-    (placed fed.blue d (least_of d e f) z i h.blue other.blue)
-    (placed fed.green e (least_of d e f) z j h.green other.green)
-    (placed fed.red f (least_of d e f) z k h.red other.red))
+-- Nor is it doubted at later ones.
+
+-- the lanes' words are those of the tap from the good control period on
+lane_again : (words : List ℕ) (from many z b d p n a : ℕ) (xs us : List Bool) → ((k : ℕ) → k < length words → get_or words k 0 < 1024) → us ≡ part_of words from many → drop b xs ≡ us
+    → d + from ≡ 10 * (a + 12) + b → b + 190 ≤ d → 120 ≤ p → z + p + 10 * n ≡ d → IsLaneFrom words (drop z xs) p n a
+lane_again words from many z b d p n a xs us below is after begins whole past there i j w le at here =
+    let back = back_window z xs (p - 120 + 10 * j) w here in
+    let low : b ≤ z + (p - 120 + 10 * j) = omega arith in
+    let mine = rest_window b xs (z + (p - 120 + 10 * j)) w low back in
+    part_word words from many (z + (p - 120 + 10 * j) - b) i w below (subst (λ ys. window ys (z + (p - 120 + 10 * j) - b) ≡ Some w) (after ∙ is) mine) (omega arith)
+
+columns_again : (ps : List Period) (sent received : List Column) (offset : ℕ) (skews counts : List ℕ) (x fed : Fed) (before : List ℕ) (a d e f z p q r n : ℕ)
+    → IsAgain ps sent received offset skews counts x fed before a d e f → 120 ≤ p → 120 ≤ q → 120 ≤ r → z + p + 10 * n ≡ d → z + q + 10 * n ≡ e → z + r + 10 * n ≡ f
+    → AreFrom received (rest_of z fed) p q r n a
+columns_again ps sent received offset skews counts x fed before a d e f z p q r n again b g v bn gn vn =
+    let tapped = again.reception.tapped in
+    let h = again.reception.reception.sparse in
+    let at_b = again.blue in
+    let at_g = again.green in
+    let at_r = again.red in
+    record {
+      blue = lane_again (blues received) (offset + slice_index skews 0) (slice_index counts 0) z (slice_index before 0) d p n a fed.blue x.blue
+          (characters (λ l. l.blue) received (λ k lt. (h.characters k lt).blue)) tapped.blue_part.bits_are again.blue_after (omega arith) again.blue_whole b bn;
+      green = lane_again (greens received) (offset + slice_index skews 1) (slice_index counts 1) z (slice_index before 1) e q n a fed.green x.green
+          (characters (λ l. l.green) received (λ k lt. (h.characters k lt).green)) tapped.green_part.bits_are again.green_after (omega arith) again.green_whole g gn;
+      red = lane_again (reds received) (offset + slice_index skews 2) (slice_index counts 2) z (slice_index before 2) f r n a fed.red x.red
+          (characters (λ l. l.red) received (λ k lt. (h.characters k lt).red)) tapped.red_part.bits_are again.red_after (omega arith) again.red_whole v vn;
+    }
+
+-- an alignment with the skew of the good control period is upheld there
+upheld_there : (fed : Fed) (p q r d e f : ℕ) → IsConfirmed fed p q r → IsWholePeriod fed d e f → HaveSameSkew p q r d e f → p < d → q < e → r < f → IsUpheld fed p q r d e f
+upheld_there fed p q r d e f own period same b g v = record {
+  own = own;
+  triple = period.triple;
+  blue_later = b;
+  green_later = g;
+  red_later = v;
+  own_skew = same;
+  here = period.here;
+  next = period.next;
+  is_here = period.is_here;
+  is_next = period.is_next;
+  whole = period.whole;
+}
+
+-- so a contender before it is not in a row with one after it
+not_over : (fed : Fed) (p q r d e f b g v i j k : ℕ) → IsWholePeriod fed d e f → HaveSameSkew p q r d e f → IsContender fed p q r b g v → IsContender fed p q r i j k
+    → AreInRow fed p q r (max b (max g v)) (max i (max j k)) → b < d → g < e → v < f → d ≤ i → e ≤ j → f ≤ k → ⊥
+not_over fed p q r d e f b g v i j k period same early is row eb eg ev lb lg lv =
+    let own = early.rival in
+    let pb = own.blue_later in
+    let pg = own.green_later in
+    let pr = own.red_later in
+    let t = period.triple in
+    let u = is.rival.triple in
+    let near = close fed d e f t in
+    let de = near.blue_green in
+    let ed = near.green_blue in
+    let df = near.blue_red in
+    let fd = near.red_blue in
+    let upheld = upheld_there fed p q r d e f own.own period same (omega arith) (omega arith) (omega arith) in
+    elim (cases_lt (max d (max e f)) (max i (max j k))) [
+      | inl less ↦ let none = row.unupheld d e f upheld less in omega arith
+      | inr not ↦
+          let x = there fed.blue d i t.blue period.blue_on u.blue lb (omega arith) in
+          let y = there fed.green e j t.green period.green_on u.green lg (omega arith) in
+          let w = there fed.red f k t.red period.red_on u.red lv (omega arith) in
+          let same0 = same.0 in
+          let same1 = same.1 in
+          is.rival.other_skew (omega arith, omega arith)
+    ]
   where
-    before_it : (p + z ≤ d) × (q + z ≤ e) × (r + z ≤ f)
+    there : (xs : List Bool) (d i : ℕ) → IsEdge xs d → GoesOn xs d → IsEdge xs i → d ≤ i → i ≤ d + 140 → d ≡ i
+    there xs d i own on edge le near = elim (cases_lt d i) [
+      | inl past ↦ absurd (no_edge_after xs d i own on edge past near)
+      | inr upto ↦ omega arith
+    ]
+
+not_doubted_later : (ps : List Period) (sent received : List Column) (offset : ℕ) (skews counts : List ℕ) (x fed : Fed) (before : List ℕ) (a d e f z p q r : ℕ)
+    → IsAgain ps sent received offset skews counts x fed before a d e f → (z + p ≡ d) ⊎ IsWholeGoodPeriod fed d e f → OneOfTwoIsSpared ps sent received (a + 12)
+    → HaveLast fed d e f z → z + p ≤ d → z + q ≤ e → z + r ≤ f → HaveSameSkew p q r d e f
+    → (i j k : ℕ) (is : IsDoubted (rest_of z fed) p q r i j k) → d ≤ z + i → e ≤ z + j → f ≤ z + k
+    → ArePlaced d e f z is.blue is.green is.red → ⊥
+not_doubted_later ps sent received offset skews counts x fed before a d e f z p q r again good one_of_two h pb pg pr same i j k is lb lg lv (all_earlier b g v) =
+    let same0 = same.0 in
+    let same1 = same.1 in
+    let later = is.earlier.rival.blue_later in
+    elim good [
+      | inl there ↦ omega arith
+      | inr w ↦
+          let period = rest_period fed d e f z w h (omega arith) (omega arith) (omega arith) in
+          not_over (rest_of z fed) p q r (d - z) (e - z) (f - z) is.blue is.green is.red i j k period (omega arith, omega arith) is.earlier is.contender is.row
+          (omega arith) (omega arith) (omega arith) (omega arith) (omega arith) (omega arith)
+    ]
+not_doubted_later ps sent received offset skews counts x fed before a d e f z p q r again good one_of_two h pb pg pr same i j k is lb lg lv (all_later b g v) =
+    let own = triple_at fed d e f z again.good h in
+    let t = is.earlier.rival.own.first.triple in
+    let past_b = t.blue.past in
+    let past_g = t.green.past in
+    let past_r = t.red.past in
+    let after_b = own.blue.past in
+    let even = whole_apart (drop z fed.blue) p (d - z) t.blue own.blue in
+    let same0 = same.0 in
+    let same1 = same.1 in
+    let n = (d - z - p) / 10 in
+    let bn : z + p + 10 * n ≡ d = omega arith in
+    let gn : z + q + 10 * n ≡ e = omega arith in
+    let vn : z + r + 10 * n ≡ f = omega arith in
+    let are = columns_again ps sent received offset skews counts x fed before a d e f z p q r n again (omega arith) (omega arith) (omega arith) bn gn vn in
+    let after : AreAfter p q r n is.blue is.green is.red = record { blue = omega arith; green = omega arith; red = omega arith } in
+    let enough = enough_before p q r n is.blue is.green is.red after in
+    later_undoubted ps sent received (free_received ps sent received again.reception.reception) (rest_of z fed) p q r n a are (a + 12) one_of_two i j k is after (omega arith)
+
+same_skew_stands : (ps : List Period) (sent received : List Column) (offset : ℕ) (skews counts : List ℕ) (x fed : Fed) (before : List ℕ) (a d e f : ℕ)
+    → IsAgain ps sent received offset skews counts x fed before a d e f → OneOfTwoIsSpared ps sent received (a + 12)
+    → (z p q r : ℕ) → IsSettledBy refuting_rule fed d e f z p q r → HaveSameSkew p q r d e f → (z + p ≡ d) ⊎ IsWholeGoodPeriod fed d e f
+    → (i j k : ℕ) → IsLetGo (rest_of z fed) p q r i j k → ⊥
+same_skew_stands ps sent received offset skews counts x fed before a d e f again one_of_two z p q r is same whole i j k u =
+    let h = have_last fed d e f z again.good is.begins (late_by fed z (least_of d e f) is.ends) in
+    let other = (rival_of (rest_of z fed) p q r i j k u).triple in
+    by h (where_lies h i j k other)
+  where
+    before_it : (z + p ≤ d) × (z + q ≤ e) × (z + r ≤ f)
     before_it = elim is.place [
       | inl at ↦ let a = at.0 in let b = at.1 in let c = at.2 in (omega arith, omega arith, omega arith)
       | inr far ↦ let a = far.0 in let b = far.1 in let c = far.2 in (omega arith, omega arith, omega arith)
     ]
 
-    by : HaveLast fed d e f z → IsTriple (drop z fed.blue) (drop z fed.green) (drop z fed.red) (d - z) (e - z) (f - z) → ArePlaced d e f z i j k → ⊥
-    by h own (all_earlier b g v) = not_earlier fed d e f z p q r i j k again.good h is.ends b g v u
-    by h own (all_later b g v) =
-        not_later ps sent received offset skews counts x fed before a d e f z p q r i j k again is.begins own before_it.0 before_it.1 before_it.2 same b g v u
+    where_lies : HaveLast fed d e f z → (b g v : ℕ) → IsTriple (drop z fed.blue) (drop z fed.green) (drop z fed.red) b g v → ArePlaced d e f z b g v
+    where_lies h b g v t =
+        let good = again.good in
+        let near : AreClose d e f = record { blue_green = good.blue_green.0; green_blue = good.blue_green.1; blue_red = good.blue_red.0; red_blue = good.blue_red.1 } in
+        together d e f z b g v near (close (rest_of z fed) b g v t)
+        (placed fed.blue d (least_of d e f) z b h.blue t.blue)
+        (placed fed.green e (least_of d e f) z g h.green t.green)
+        (placed fed.red f (least_of d e f) z v h.red t.red)
+
+    later_stands : HaveLast fed d e f z → d ≤ z + i → e ≤ z + j → f ≤ z + k → IsLetGo (rest_of z fed) p q r i j k → ⊥
+    later_stands h b g v (inl refuted) =
+        let own = triple_at fed d e f z again.good h in
+        let pb = before_it.0 in
+        let pg = before_it.1 in
+        let pr = before_it.2 in
+        not_later ps sent received offset skews counts x fed before a d e f z p q r i j k again is.begins own (omega arith) (omega arith) (omega arith) same b g v refuted
+    later_stands h b g v (inr doubted) =
+        not_doubted_later ps sent received offset skews counts x fed before a d e f z p q r again whole one_of_two h before_it.0 before_it.1 before_it.2 same i j k doubted b g v
+        (where_lies h doubted.blue doubted.green doubted.red doubted.earlier.rival.triple)
+
+    by : HaveLast fed d e f z → ArePlaced d e f z i j k → ⊥
+    by h (all_earlier b g v) = not_earlier fed d e f z p q r i j k again.good h is.ends b g v u
+    by h (all_later b g v) = later_stands h b g v u
+
+-- the alignment in use is the first one
+let_go_first : (x : Fed) (p q r d e f s t u : ℕ) → IsFirst x.blue x.green x.red s t u → IsLetGo x p q r d e f → IsLetGo x s t u d e f
+let_go_first x p q r d e f s t u first is =
+    let same = one_first x.blue x.green x.red p q r s t u (rival_of x p q r d e f is).own.first first in
+    subst (λ n. IsLetGo x n t u d e f) same.0 (subst (λ n. IsLetGo x p n u d e f) same.1 (subst (λ n. IsLetGo x p q n d e f) same.2 is))
 
 pub same_skew_is_last : SameSkewIsLast
-same_skew_is_last ps sent received offset skews counts x fed before a d e f again z p q r is same =
+same_skew_is_last ps sent received offset skews counts x fed before a d e f again one_of_two z p q r is same whole =
     let calm = calm_again ps sent received offset skews counts x fed before a d e f again in
     let none = settled_no_stray fed d e f z p q r again.good calm.blue calm.green calm.red is in
     last_unrefuted (rest_of z fed)
     (record { no_stray = none; confirmed = none_unconfirmed (rest_of z fed) p q r is.first is.confirmed })
     (λ s t v i j k u.
-    same_skew_stands ps sent received offset skews counts x fed before a d e f again z p q r is same i j k
-    (refuted_first (rest_of z fed) s t v i j k p q r is.first u))
+    same_skew_stands ps sent received offset skews counts x fed before a d e f again one_of_two z p q r is same whole i j k
+    (let_go_first (rest_of z fed) s t v i j k p q r is.first u))
 
 pub recovers_unrefuted : RecoversUnrefuted
-recovers_unrefuted ps sent received offset skews counts x fed before a d e f again w =
+recovers_unrefuted ps sent received offset skews counts x fed before a d e f again w one_of_two =
     let calm = calm_again ps sent received offset skews counts x fed before a d e f again in
     let s = settles_unrefuted fed d e f w in
     let z = s.0 in
@@ -191,7 +327,7 @@ recovers_unrefuted ps sent received offset skews counts x fed before a d e f aga
         r,
         is,
         elim skew.1 [
-          | inl same ↦ inl (same, same_skew_is_last ps sent received offset skews counts x fed before a d e f again z p q r is same)
+          | inl same ↦ inl (same, same_skew_is_last ps sent received offset skews counts x fed before a d e f again one_of_two z p q r is same (inr w))
           | inr opens ↦ inr opens
         ],
         accounted_there ps sent received offset skews counts x fed before a d e f z p q r again is.first is.place,

@@ -1,4 +1,4 @@
--- Where an epoch ends whose first alignment is unconfirmed or refuted, or a lane of which has a stray.
+-- Where an epoch ends whose first alignment is unconfirmed or let go, or a lane of which has a stray.
 use Rattle.std.proofs.Common.{◌⊎◌, ℕ, ◌+◌, ◌≤◌, max, min, arith, inl, inr}
 use Rattle.lane_deskew.specs.Triples.{IsTriple}
 use Rattle.link_sink.specs.Sinks.{Fed}
@@ -8,8 +8,9 @@ use Rattle.track_sink.specs.declared.watch.Cause.{Cause}
 use Rattle.track_sink.specs.declared.watch.Cause.TheVariants.{Slip, Unconfirmed, Refuted}
 use Rattle.relock_sink.specs.Relocks.{IsUnconfirmed}
 use Rattle.relock_sink.specs.Ends.{one_unconfirmed}
-use Rattle.relock_sink.specs.Rivals.{IsRefuted}
+use Rattle.relock_sink.specs.Doubts.{IsLetGo}
 use Rattle.relock_sink.specs.Refuting.{refuted_at, IsSlipFirst, refuting_ends, refuting_rule}
+use Rattle.relock_sink.specs.RefutedDecided.{rival_of}
 use Rattle.relock_sink.specs.RefutingEnds.{decided, not_both}
 use Rattle.relock_laws.specs.RefutingLaws.{EndsBy}
 use Rattle.relock_laws.proofs.Settling.{not_past}
@@ -30,7 +31,9 @@ unconfirmed_leaves fed d e f u = elim (decided fed) [
         let red = same.2 in
         let at = end.forgets in
         (place, (Unconfirmed, end), omega arith)
-    by Refuted place end = absurd (not_both fed end.own_blue end.own_green end.own_red d e f end.refuted.rival.own u)
+    by Refuted place end =
+        let rival = rival_of fed end.own_blue end.own_green end.own_red end.blue end.green end.red end.refuted in
+        absurd (not_both fed end.own_blue end.own_green end.own_red d e f rival.own u)
 
 -- where a lane has a stray it ends, at or before it
 pub stray_leaves : (fed : Fed) (lane p : ℕ) → IsEnd fed lane p → (place : ℕ) × EndsBy refuting_rule fed place × (place ≤ p)
@@ -62,12 +65,12 @@ least_not_past fed p q r d e f a b le =
     let z = not_past fed.red r f a.red b.red (omega arith) in
     omega arith
 
--- where edges refute the alignment it ends, where the run before the least of them begins or before; or at a stray, whose run ends no
--- later than the bits that show it refuted
-pub refuted_leaves : (fed : Fed) (p q r d e f : ℕ) → IsRefuted fed p q r d e f → refuted_at d e f ≤ most_of fed
+-- where the alignment is let go for edges it ends, where the run before the least of them begins or before; or at a stray, whose run
+-- ends no later than the bits that show it
+pub let_go_leaves : (fed : Fed) (p q r d e f : ℕ) → IsLetGo fed p q r d e f → refuted_at d e f ≤ most_of fed
     → ((place : ℕ) × EndsBy refuting_rule fed place × (place + 120 ≤ min d (min e f)))
     ⊎ ((lane place : ℕ) × IsSlipFirst fed lane place × (place + 30 ≤ max d (max e f)))
-refuted_leaves fed p q r d e f is shown = elim (decided fed) [
+let_go_leaves fed p q r d e f is shown = elim (decided fed) [
   | inr none ↦ let late = none.unrefuted p q r d e f is in absurd (omega arith)
   | inl end ↦ by end.0 end.1 end.2
 ]
@@ -76,8 +79,9 @@ refuted_leaves fed p q r d e f is shown = elim (decided fed) [
         → ((place : ℕ) × EndsBy refuting_rule fed place × (place + 120 ≤ min d (min e f)))
         ⊎ ((lane place : ℕ) × IsSlipFirst fed lane place × (place + 30 ≤ max d (max e f)))
     by (Slip lane) place end = let before = end.before p q r d e f is in inr (lane, place, end, omega arith)
-    by Unconfirmed place end = absurd (not_both fed p q r end.blue end.green end.red is.rival.own end.unconfirmed)
+    by Unconfirmed place end = absurd (not_both fed p q r end.blue end.green end.red (rival_of fed p q r d e f is).own end.unconfirmed)
     by Refuted place end =
-        let least = least_not_past fed end.blue end.green end.red d e f end.refuted.rival.triple is.rival.triple (end.least p q r d e f is) in
+        let first = rival_of fed end.own_blue end.own_green end.own_red end.blue end.green end.red end.refuted in
+        let least = least_not_past fed end.blue end.green end.red d e f first.triple (rival_of fed p q r d e f is).triple (end.least p q r d e f is) in
         let at = end.begins in
         inl (place, (Refuted, end), omega arith)

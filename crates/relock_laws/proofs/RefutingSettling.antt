@@ -12,7 +12,8 @@ use Rattle.link_sink.specs.Sinks.{Fed}
 use Rattle.track_sink.specs.Epochs.{EpochRule, rest_of, HasNoEnd}
 use Rattle.track_sink.specs.Rules.{IsRule}
 use Rattle.relock_sink.specs.Relocks.{is_announced, IsUnconfirmed}
-use Rattle.relock_sink.specs.Rivals.{HaveSameSkew, IsConfirmed, IsRefuted}
+use Rattle.relock_sink.specs.Rivals.{HaveSameSkew, IsConfirmed}
+use Rattle.relock_sink.specs.Doubts.{IsLetGo}
 use Rattle.relock_sink.specs.Refuting.{refuting_rule}
 use Rattle.relock_sink.specs.RefuterRule.{refuting_is_rule}
 use Rattle.relock_laws.specs.Settled.{EndsNineteen, IsGoodPeriod, IsCalmFrom}
@@ -21,7 +22,7 @@ use Rattle.relock_laws.specs.RefutingLaws.{EndsBy}
 use Rattle.relock_laws.specs.RefutingSettled.{IsStartBy, first_start, next_start, IsWholeGoodPeriod, IsSettledBy, OpensThere, SlipsThere, SettlesByRefuting, SettlesUnrefuted, SettledHasSkew}
 use Rattle.relock_laws.proofs.GoodPeriod.{calm_none}
 use Rattle.relock_laws.proofs.Refuting.{column_of_windows, period_refutes}
-use Rattle.relock_laws.proofs.RefutingEnding.{unconfirmed_leaves, stray_leaves, refuted_leaves}
+use Rattle.relock_laws.proofs.RefutingEnding.{unconfirmed_leaves, stray_leaves, let_go_leaves}
 use Rattle.relock_laws.proofs.Settling.{least_of, IsLate, HaveLast, AreAt, spread, are_settled, have_last, triple_at, column_at, none_at}
 use Rattle.relock_laws.proofs.Windows.{rest_window, back_window}
 
@@ -83,7 +84,7 @@ rest_goes_on z xs d after on = record {
 }
 
 -- sixteen characters of the lane follow in the epoch
-long_after : (z : ℕ) (xs : List Bool) (d : ℕ) → z ≤ d → GoesOn xs d → d - z + 160 ≤ length (drop z xs)
+pub long_after : (z : ℕ) (xs : List Bool) (d : ℕ) → z ≤ d → GoesOn xs d → d - z + 160 ≤ length (drop z xs)
 long_after z xs d after on =
     let w = on.whole 15 (omega arith) in
     let is = window_is xs (d + 10 * 15) w.0 w.1 in
@@ -91,7 +92,7 @@ long_after z xs d after on =
     let len = length-drop z xs in
     omega arith
 
-rest_period : (fed : Fed) (d e f z : ℕ) → IsWholeGoodPeriod fed d e f → HaveLast fed d e f z → z + 190 ≤ d → z + 190 ≤ e → z + 190 ≤ f → IsWholePeriod (rest_of z fed) (d - z) (e - z) (f - z)
+pub rest_period : (fed : Fed) (d e f z : ℕ) → IsWholeGoodPeriod fed d e f → HaveLast fed d e f z → z + 190 ≤ d → z + 190 ≤ e → z + 190 ≤ f → IsWholePeriod (rest_of z fed) (d - z) (e - z) (f - z)
 rest_period fed d e f z w h blue green red =
     let good = w.good in
     record {
@@ -123,7 +124,7 @@ column fed p q r j b g w =
     (record { blue = x.0; green = y.0; red = v.0 }, column_of_windows fed p q r j x.0 y.0 v.0 x.1 y.1 v.1)
 
 -- an alignment so far before is confirmed, where it is not unconfirmed: its two columns have arrived
-confirmed_before : (fed : Fed) (p q r : ℕ) → IsFirst fed.blue fed.green fed.red p q r → (IsUnconfirmed fed p q r → ⊥)
+pub confirmed_before : (fed : Fed) (p q r : ℕ) → IsFirst fed.blue fed.green fed.red p q r → (IsUnconfirmed fed p q r → ⊥)
     → p + 20 ≤ length fed.blue → q + 20 ≤ length fed.green → r + 20 ≤ length fed.red → IsConfirmed fed p q r
 confirmed_before fed p q r first none b g w = by (is_announced here.0 next.0) refl
   where
@@ -146,7 +147,7 @@ confirmed_before fed p q r first none b g w = by (is_announced here.0 next.0) re
     by true is = record { first = first; here = here.0; next = next.0; is_here = here.1; is_next = next.1; announced = is }
     by false is = absurd (none (record { first = first; here = here.0; next = next.0; is_here = here.1; is_next = next.1; unannounced = is }))
 
-same_or_not : (p q r d e f : ℕ) → HaveSameSkew p q r d e f ⊎ (HaveSameSkew p q r d e f → ⊥)
+pub same_or_not : (p q r d e f : ℕ) → HaveSameSkew p q r d e f ⊎ (HaveSameSkew p q r d e f → ⊥)
 same_or_not p q r d e f = elim (ℕ_discrete (d + q) (e + p)) [
   | no apart ↦ inr (λ same. apart same.0)
   | yes one ↦ elim (ℕ_discrete (d + r) (f + p)) [
@@ -155,14 +156,14 @@ same_or_not p q r d e f = elim (ℕ_discrete (d + q) (e + p)) [
   ]
 ]
 
--- where it is refuted there, the epoch ends at a stray there, since it does not end before
-refuted_there : (fed : Fed) (d e f z p q r : ℕ) → IsWholeGoodPeriod fed d e f → z + 120 ≤ least_of d e f → EndsLateBy refuting_rule fed z (least_of d e f)
-    → IsRefuted (rest_of z fed) p q r (d - z) (e - z) (f - z) → SlipsThere fed d e f z
-refuted_there fed d e f z p q r w after late is =
+-- where it is let go there, the epoch ends at a stray there, since it does not end before
+pub let_go_there : (fed : Fed) (d e f z p q r : ℕ) → IsWholeGoodPeriod fed d e f → z + 120 ≤ least_of d e f → EndsLateBy refuting_rule fed z (least_of d e f)
+    → IsLetGo (rest_of z fed) p q r (d - z) (e - z) (f - z) → SlipsThere fed d e f z
+let_go_there fed d e f z p q r w after late is =
     let b = long_after z fed.blue d (omega arith) w.blue_on in
     let g = long_after z fed.green e (omega arith) w.green_on in
     let h = long_after z fed.red f (omega arith) w.red_on in
-    elim (refuted_leaves (rest_of z fed) p q r (d - z) (e - z) (f - z) is (omega arith)) [
+    elim (let_go_leaves (rest_of z fed) p q r (d - z) (e - z) (f - z) is (omega arith)) [
       | inl ends ↦ let far = late ends.0 ends.1 in let early = ends.2 in absurd (omega arith)
       | inr slip ↦ let early = slip.3 in (slip.0, slip.1, slip.2, omega arith)
     ]
@@ -185,7 +186,7 @@ earlier_skew fed d e f z p q r w after late h first none x y v apart =
     let period = rest_period fed d e f z w h (omega arith) (omega arith) (omega arith) in
     elim (period_refutes (rest_of z fed) p q r (d - z) (e - z) (f - z) own period (omega arith) (omega arith) (omega arith)
     (λ same. let s = same.0 in let t = same.1 in apart (omega arith, omega arith))) [
-      | inl refuted ↦ inr (inr (refuted_there fed d e f z p q r w after late refuted))
+      | inl refuted ↦ inr (inr (let_go_there fed d e f z p q r w after late (inl refuted)))
       | inr opens ↦ inr (inl opens)
     ]
 

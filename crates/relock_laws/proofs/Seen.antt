@@ -66,7 +66,7 @@ same_end : (kinds : List Kind) → IsAlternating kinds → (i j d e k l : ℕ) �
 same_end kinds alternates i j d e k l ends_i ends_j at_i at_j near close = grind (arith, cases_lt, ends_apart)
 
 -- a received column by its words
-column_is : (received : List Column) (i : ℕ) (c : Column) → HasWord (blues received) i c.blue → HasWord (greens received) i c.green → HasWord (reds received) i c.red
+pub column_is : (received : List Column) (i : ℕ) (c : Column) → HasWord (blues received) i c.blue → HasWord (greens received) i c.green → HasWord (reds received) i c.red
     → (i < length received) × (column_at received i ≡ c)
 column_is received i c blue green red =
     let a = length-map received (λ c. c.blue) in

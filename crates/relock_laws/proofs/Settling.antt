@@ -238,7 +238,7 @@ AreAt z d e f p q r =
     ((z + p ≡ d) × (z + q ≡ e) × (z + r ≡ f)) ⊎ ((z + p + 200 ≤ d) × (z + q + 200 ≤ e) × (z + r + 200 ≤ f))
 
 -- the first alignment is there, or it lies before
-place_of : (fed : Fed) (d e f z p q r : ℕ) → IsGoodPeriod fed d e f → HaveLast fed d e f z → IsFirst (drop z fed.blue) (drop z fed.green) (drop z fed.red) p q r → AreAt z d e f p q r
+pub place_of : (fed : Fed) (d e f z p q r : ℕ) → IsGoodPeriod fed d e f → HaveLast fed d e f z → IsFirst (drop z fed.blue) (drop z fed.green) (drop z fed.red) p q r → AreAt z d e f p q r
 place_of fed d e f z p q r good h first =
     let t = first.triple in
     let own = triple_at fed d e f z good h in

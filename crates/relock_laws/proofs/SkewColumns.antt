@@ -11,9 +11,9 @@ use Rattle.relock_laws.specs.RefutingSettled.{SameSkewIsAccounted}
 use Rattle.relock_laws.proofs.AccountEnds.{ends_accounted}
 use Rattle.relock_laws.proofs.Again.{accounted}
 use Rattle.relock_laws.proofs.Refuting.{whole_apart}
-use Rattle.relock_laws.proofs.RefutingAgain.{column_moved}
 use Rattle.relock_laws.proofs.RefutingSettling.{late_by}
 use Rattle.relock_laws.proofs.Settling.{column_at, least_of, have_last, triple_at}
+use Rattle.relock_laws.proofs.Windows.{column_moved}
 
 -- what is left of a list has its later elements
 get_left : {X : Type 0} (n : ℕ) (xs : List X) (j i : ℕ) → i ≡ n + j → slice_get (drop n xs) j ≡ slice_get xs i

@@ -35,10 +35,10 @@ pub after_slip : (offset : ℕ) (skews : List ℕ) → HasSmallSkew skews
     → AreClose (offset + slice_index skews 0) (offset + slice_index skews 1) × AreClose (offset + slice_index skews 0) (offset + slice_index skews 2)
 after_slip offset skews small = grind arith
 
-later_own : (skews : List ℕ) (lane dropped : ℕ) → lane < 3 → slice_index (later_skews skews lane dropped) lane ≡ slice_index skews lane + dropped
+pub later_own : (skews : List ℕ) (lane dropped : ℕ) → lane < 3 → slice_index (later_skews skews lane dropped) lane ≡ slice_index skews lane + dropped
 later_own skews lane dropped h = grind arith
 
-later_other : (skews : List ℕ) (lane dropped l : ℕ) → lane < 3 → l < 3 → (l ≡ lane → ⊥) → slice_index (later_skews skews lane dropped) l ≡ slice_index skews l
+pub later_other : (skews : List ℕ) (lane dropped l : ℕ) → lane < 3 → l < 3 → (l ≡ lane → ⊥) → slice_index (later_skews skews lane dropped) l ≡ slice_index skews l
 later_other skews lane dropped l h k apart = grind arith
 
 -- The lanes.

@@ -1,9 +1,9 @@
 -- About the end of a control period whose characters were received as they were sent each lane has one edge.
-use Rattle.std.proofs.Common.{◌≡◌, ℕ, ◌+◌, ◌-◌, ◌*◌, ◌/◌, ◌%◌, ◌<◌, ◌≤◌, max, Bool, true, false, not, ◌==◌, List, ◌++◌, length, map, get_or, replicate, refl, ap, ◌∙◌, sym, subst, arith, inl, inr, true≢false, eqb-true, length-append}
+use Rattle.std.proofs.Common.{◌≡◌, ℕ, ◌+◌, ◌-◌, ◌*◌, ◌/◌, ◌%◌, ◌<◌, ◌≤◌, max, Bool, true, false, not, ◌==◌, List, ◌++◌, length, map, get_or, replicate, refl, ap, ◌∙◌, sym, subst, arith, inl, inr, true≢false, eqb-true, length-append, Some}
 use Rattle.std.proofs.lemmas.Bool.{cases_lt}
 use Rattle.std.proofs.lemmas.List.{length-map, length-replicate, get_or-map, get_or_past, get_or_append_left, get_or-append_right}
 use Rattle.tmds_word.specs.Column.{Column}
-use Rattle.tmds_word.specs.Taps.{part_of}
+use Rattle.tmds_word.specs.Bits.{window}
 use Rattle.terc4.specs.Tables.{is_control}
 use Rattle.terc4.specs.Columns.{one_if}
 use Rattle.terc4.proofs.Words.{few_turns}
@@ -19,7 +19,7 @@ use Rattle.link_laws.proofs.Lanes.{fitting_at}
 use Rattle.link_laws.proofs.Shapes.{where_ends, ends_alone, ends_apart, in_rest}
 use Rattle.link_laws.proofs.Spelled.{FitsWord, FitsColumn, fitting_freely}
 use Rattle.relock_laws.specs.Doubted.{IsSpared}
-use Rattle.relock_laws.proofs.Seen.{part_word}
+use Rattle.relock_laws.proofs.Seen.{HasWord}
 
 -- The columns.
 
@@ -82,6 +82,10 @@ spared_lane g ps sent received i reception spared of =
       others = λ k low high lt apart. ap is_control (word k (omega arith)) ∙ few_turns (g (column_at received k)) ((fits k low high (omega arith)).others apart);
     }
 
+-- the characters of a lane, whole ones after a place, are its words from a column on: character j is word a + j - n, where j is n or more
+abbrev pub IsLaneFrom : List ℕ → List Bool → (p n a : ℕ) → Type 0
+IsLaneFrom words xs p n a = (i j w : ℕ) → n ≤ j → i + n ≡ a + j → window xs (p - 120 + 10 * j) ≡ Some w → HasWord words i w
+
 -- twelve control words end with a character, and none follows
 record RunEnds (words : List ℕ) (m : ℕ) : Type 0 where
   far : 11 ≤ m
@@ -89,16 +93,18 @@ record RunEnds (words : List ℕ) (m : ℕ) : Type 0 where
   controls : (k : ℕ) → k < 12 → is_control (get_or words (m - 11 + k) 0) ≡ true
   next : is_control (get_or words (m + 1) 0) ≡ false
 
-run_ends : (words : List ℕ) (from many e m : ℕ) → ((k : ℕ) → k < length words → get_or words k 0 < 1024) → IsEdge (part_of words from many) e → e + from ≡ 10 * (m + 1) → RunEnds words m
-run_ends words from many e m below edge at =
-    let past = edge.past in
-    let next = part_word words from many e (m + 1) edge.word below edge.here at in
+run_ends : (words : List ℕ) (xs : List Bool) (p n a e m : ℕ) → IsLaneFrom words xs p n a → IsEdge xs e → 120 ≤ p → p % 10 ≡ e % 10 → p + 10 * n ≤ e → m + n ≡ a + (11 + (e - p) / 10) → RunEnds words m
+run_ends words xs p n a e m lane edge past whole later at =
+    let c = (e - p) / 10 in
+    let e_at : e ≡ p - 120 + 10 * (c + 12) = omega arith in
+    let next = lane (m + 1) (c + 12) edge.word (omega arith) (omega arith) (ap (window xs) (sym e_at) ∙ edge.here) in
     record {
       far = omega arith;
       within = next.within;
       controls = λ k lt.
           let has = edge.run k lt in
-          let w = part_word words from many (e - 120 + 10 * k) (m - 11 + k) has.word below has.here (omega arith) in
+          let k_at : e - 120 + 10 * k ≡ p - 120 + 10 * (c + k) = omega arith in
+          let w = lane (m - 11 + k) (c + k) has.word (omega arith) (omega arith) (ap (window xs) (sym k_at) ∙ has.here) in
           ap is_control w.is ∙ has.control;
       next = ap is_control next.is ∙ edge.no_control;
     }
@@ -133,11 +139,11 @@ one_run kinds words alternates i m ends spared run low high =
     ]
 
 -- so an edge of the lane near it is there, as many whole characters after an earlier one
-pub edge_there : (kinds : List Kind) (words : List ℕ) → IsAlternating kinds → ((k : ℕ) → k < length words → get_or words k 0 < 1024)
-    → (from many a c p d : ℕ) → EndsAt kinds (a + (11 + c)) → IsSparedLane kinds words (a + (11 + c)) → IsEdge (part_of words from many) d
-    → p + from ≡ 10 * (a + 12) → p < d → p % 10 ≡ d % 10 → c ≤ (d - p) / 10 + 14 → (d - p) / 10 ≤ c + 14 → p + 10 * c ≡ d
-edge_there kinds words alternates below from many a c p d ends spared edge begins later whole over under =
-    let m = a + (11 + (d - p) / 10) in
-    let run = run_ends words from many d m below edge (omega arith) in
-    let same = one_run kinds words alternates (a + (11 + c)) m ends spared run (omega arith) (omega arith) in
+pub edge_there : (kinds : List Kind) (words : List ℕ) → IsAlternating kinds → (xs : List Bool) (p n a i c d : ℕ) → IsLaneFrom words xs p n a
+    → EndsAt kinds i → i + n ≡ a + (11 + c) → IsSparedLane kinds words i → IsEdge xs d
+    → 120 ≤ p → p + 10 * n ≤ d → p % 10 ≡ d % 10 → c ≤ (d - p) / 10 + 14 → (d - p) / 10 ≤ c + 14 → p + 10 * c ≡ d
+edge_there kinds words alternates xs p n a i c d lane ends at spared edge past later whole over under =
+    let m = a + (11 + (d - p) / 10) - n in
+    let run = run_ends words xs p n a d m lane edge past whole later (omega arith) in
+    let same = one_run kinds words alternates i m ends spared run (omega arith) (omega arith) in
     omega arith

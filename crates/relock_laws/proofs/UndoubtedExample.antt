@@ -61,14 +61,14 @@ aligns = record { after = after_first; spares = alone.spares 24; holds = holds }
 
 -- The ends of control periods.
 
-abbrev is_control_kind : Kind → Bool
+abbrev pub is_control_kind : Kind → Bool
 is_control_kind control_column = true
 is_control_kind first_guard = false
 is_control_kind second_guard = false
 is_control_kind pixel_column = false
 is_control_kind packet_column = false
 
-no_control : (k : Kind) → (k ≡ control_column → ⊥) → is_control_kind k ≡ false
+pub no_control : (k : Kind) → (k ≡ control_column → ⊥) → is_control_kind k ≡ false
 no_control k apart = grind arith
 
 abbrev ends_there : ℕ → Bool
@@ -103,7 +103,7 @@ long_sent : length sent ≡ 91
 unfolding sent values_of video_guard
 long_sent = refl
 
-one_of_two : OneOfTwoIsSpared stream sent received 24
+pub one_of_two : OneOfTwoIsSpared stream sent received 24
 one_of_two i j late a b lt inside none =
     let size = long_sent in
     let same = only_end j (omega arith) (omega arith) b in

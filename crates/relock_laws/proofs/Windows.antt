@@ -5,6 +5,7 @@ use Rattle.tmds_word.specs.Column.{Column}
 use Rattle.lane_align.proofs.Controls.{window_here, window_is}
 use Rattle.lane_align.proofs.Parts.{rest_piece}
 use Rattle.lane_deskew.specs.Aligned.{column_from, aligned_column}
+use Rattle.link_sink.specs.Sinks.{Fed}
 
 -- a window of what is left of a list
 pub rest_window : (z : ℕ) (ys : List Bool) (p w : ℕ) → z ≤ p → window ys p ≡ Some w → window (drop z ys) (p - z) ≡ Some w
@@ -42,3 +43,13 @@ words_of_column xs ys zs d e f j c h = column_words _ _ _ c h
 -- a place has one column
 pub same_column : (o : Option Column) (b c : Column) → o ≡ Some b → o ≡ Some c → b ≡ c
 same_column o b c h g = grind arith
+
+-- the columns of an alignment at the edges of another one of its skew
+pub column_moved : (fed : Fed) (p q r d e f n j i : ℕ) → 120 ≤ p → 120 ≤ q → 120 ≤ r → p + 10 * n ≡ d → q + 10 * n ≡ e → r + 10 * n ≡ f → j ≡ n + i
+    → aligned_column fed.blue fed.green fed.red d e f i ≡ aligned_column fed.blue fed.green fed.red p q r j
+unfolding aligned_column
+column_moved fed p q r d e f n j i a b c x y v at =
+    let blue : d - 120 + 10 * i ≡ p - 120 + 10 * j = omega arith in
+    let green : e - 120 + 10 * i ≡ q - 120 + 10 * j = omega arith in
+    let red : f - 120 + 10 * i ≡ r - 120 + 10 * j = omega arith in
+    λ t. column_from (window fed.blue (blue t)) (window fed.green (green t)) (window fed.red (red t))

@@ -1,5 +1,5 @@
 -- Whatever came before: how lanes are aligned from a good control period on whose guard band is received whole, where alignments are
--- let go where they are refuted.
+-- let go where they are refuted or doubted twice in a row.
 use Rattle.std.specs.Prelude.{◌≡◌, ◌⊎◌, ℕ, ◌+◌, ◌-◌, ◌*◌, ◌<◌, ◌≤◌, max, min, true, List, ◌++◌, length, drop}
 use Rattle.tmds_word.specs.Column.{Column}
 use Rattle.lane_deskew.specs.Triples.{IsFirst}
@@ -18,6 +18,7 @@ use Rattle.relock_sink.specs.Refuting.{IsSlipFirst, IsLastUnrefuted, refuting_ru
 use Rattle.relock_laws.specs.Settled.{IsGoodPeriod, IsCalmFrom, IsAgain}
 use Rattle.relock_laws.specs.Refuted.{GoesOn, OpensAt}
 use Rattle.relock_laws.specs.RefutingLaws.{EndsBy}
+use Rattle.relock_laws.specs.Doubted.{OneOfTwoIsSpared}
 
 -- the places of a capture at which its epochs begin, which end by a rule
 pub data IsStartBy (r : EpochRule) : Fed → ℕ → Type 0 where
@@ -74,13 +75,15 @@ SettledHasSkew =
     → (start p q r : ℕ) → IsSettledBy refuting_rule fed d e f start p q r
     → HasNoEnd (rest_of start fed) × (HaveSameSkew p q r d e f ⊎ OpensThere fed d e f start p q r)
 
--- a tap of columns received with sparse damage, wherever it lies, after any bits: each such epoch that has the skew of the good
--- control period is the last
+-- a tap of columns received with sparse damage, wherever it lies, that spares one of any two control periods in a row from there on,
+-- after any bits: each such epoch that has the skew of the good control period is the last where it is aligned there, or the guard band
+-- there is received whole
 abbrev pub SameSkewIsLast : Type 0
 SameSkewIsLast =
     (ps : List Period) (sent received : List Column) (offset : ℕ) (skews counts : List ℕ) (x fed : Fed) (before : List ℕ) (a d e f : ℕ)
-    → IsAgain ps sent received offset skews counts x fed before a d e f
-    → (start p q r : ℕ) → IsSettledBy refuting_rule fed d e f start p q r → HaveSameSkew p q r d e f → IsLastUnrefuted (rest_of start fed)
+    → IsAgain ps sent received offset skews counts x fed before a d e f → OneOfTwoIsSpared ps sent received (a + 12)
+    → (start p q r : ℕ) → IsSettledBy refuting_rule fed d e f start p q r → HaveSameSkew p q r d e f → (start + p ≡ d) ⊎ IsWholeGoodPeriod fed d e f
+    → IsLastUnrefuted (rest_of start fed)
 
 -- what is reported of columns ends with the account of the periods of a stream after a control period: it ends before column n + 12
 -- of these columns, and before column a + 12 of the stream
@@ -107,7 +110,7 @@ SameSkewIsAccounted =
 abbrev pub RecoversUnrefuted : Type 0
 RecoversUnrefuted =
     (ps : List Period) (sent received : List Column) (offset : ℕ) (skews counts : List ℕ) (x fed : Fed) (before : List ℕ) (a d e f : ℕ)
-    → IsAgain ps sent received offset skews counts x fed before a d e f → IsWholeGoodPeriod fed d e f
+    → IsAgain ps sent received offset skews counts x fed before a d e f → IsWholeGoodPeriod fed d e f → OneOfTwoIsSpared ps sent received (a + 12)
     → (start : ℕ) × IsStartBy refuting_rule fed start
     × ((p q r : ℕ) × IsSettledBy refuting_rule fed d e f start p q r
     × ((HaveSameSkew p q r d e f × IsLastUnrefuted (rest_of start fed)) ⊎ OpensThere fed d e f start p q r)
@@ -117,4 +120,5 @@ RecoversUnrefuted =
 abbrev pub HasWholeExample : Type 0
 HasWholeExample =
     (ps : List Period) × (sent received : List Column) × (offset : ℕ) × (skews counts : List ℕ) × (x fed : Fed) × (before : List ℕ) × (a d e f place : ℕ)
-    × IsAgain ps sent received offset skews counts x fed before a d e f × IsWholeGoodPeriod fed d e f × EndsBy refuting_rule fed place
+    × IsAgain ps sent received offset skews counts x fed before a d e f × IsWholeGoodPeriod fed d e f × OneOfTwoIsSpared ps sent received (a + 12)
+    × EndsBy refuting_rule fed place

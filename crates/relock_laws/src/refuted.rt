@@ -1,4 +1,4 @@
-//! Where the epochs of three lanes end whose alignment is let go too where it is refuted.
+//! Where the epochs of three lanes end whose alignment is let go too where it is refuted, or doubted twice in a row.
 ghost use Rattle.relock_laws.specs.RefutingLaws.{PayloadIsLastUnrefuted, UntilIsLastUnrefuted, EndsOrIsUnrefuted, OneRefutingEnd, SlipStands, SlipEndsAlone, HasUnrefutedExample, HasSlipFirstExample};
 ghost use Rattle.relock_laws.specs.RefutingSettled.{SettlesByRefuting, SettlesUnrefuted, SettledHasSkew, SameSkewIsLast, SameSkewIsAccounted, RecoversUnrefuted, HasWholeExample};
 
@@ -8,7 +8,7 @@ pub fn payload_is_last_unrefuted()
 {}
 
 /// So have those of a tap whose damage is sparse, wherever it lies, and spares control and guard characters until a column
-/// that each of them has.
+/// that each of them has, and from there on one of any two control periods in a row.
 pub fn until_is_last_unrefuted()
     ensures { UntilIsLastUnrefuted }
 {}
@@ -54,8 +54,8 @@ pub fn settled_has_skew()
     ensures { SettledHasSkew }
 {}
 
-/// Of a tap of columns received with sparse damage, after any bits, that epoch is the last where it has their skew; and what is
-/// reported of its columns from there on is the account.
+/// Of a tap of columns received with sparse damage that spares one of any two control periods in a row from there on, after any bits,
+/// that epoch is the last where it has their skew; and what is reported of its columns from there on is the account.
 pub fn same_skew_is_last()
     ensures last { SameSkewIsLast }
     ensures accounted { SameSkewIsAccounted }
