@@ -28,3 +28,4 @@ pub mod Upholding
 pub mod UntilEnds
 pub mod Undoubted
 pub mod UndoubtedExample
+pub mod SecondSettling

@@ -18,7 +18,7 @@ use Rattle.relock_sink.specs.Refuting.{IsSlipFirst, IsLastUnrefuted, refuting_ru
 use Rattle.relock_laws.specs.Settled.{IsGoodPeriod, IsCalmFrom, IsAgain}
 use Rattle.relock_laws.specs.Refuted.{GoesOn, OpensAt}
 use Rattle.relock_laws.specs.RefutingLaws.{EndsBy}
-use Rattle.relock_laws.specs.Doubted.{OneOfTwoIsSpared}
+use Rattle.relock_laws.specs.Doubted.{OneOfTwoIsSpared, IsQuiet}
 
 -- the places of a capture at which its epochs begin, which end by a rule
 pub data IsStartBy (r : EpochRule) : Fed → ℕ → Type 0 where
@@ -122,3 +122,38 @@ HasWholeExample =
     (ps : List Period) × (sent received : List Column) × (offset : ℕ) × (skews counts : List ℕ) × (x fed : Fed) × (before : List ℕ) × (a d e f place : ℕ)
     × IsAgain ps sent received offset skews counts x fed before a d e f × IsWholeGoodPeriod fed d e f × OneOfTwoIsSpared ps sent received (a + 12)
     × EndsBy refuting_rule fed place
+
+-- Two good control periods in a row.
+
+-- they have one skew, their guard bands are received whole, and no run of control words ends between them on any lane; what else the
+-- lanes have is free
+pub record AreTwoGood (fed : Fed) (d e f i j k : ℕ) : Type 0 where
+  pub first : IsWholeGoodPeriod fed d e f
+  pub second : IsWholeGoodPeriod fed i j k
+  pub later : d < i
+  pub same_skew : HaveSameSkew d e f i j k
+  pub blue_quiet : IsQuiet fed.blue d i
+  pub green_quiet : IsQuiet fed.green e j
+  pub red_quiet : IsQuiet fed.red f k
+
+-- an epoch has the last twelve characters of the second, and its alignment has their skew, whatever opens by another one; or it ends
+-- there at a stray
+abbrev pub SettlesAtSecond : Type 0
+SettlesAtSecond =
+    (fed : Fed) (d e f i j k : ℕ) → AreTwoGood fed d e f i j k
+    → (start : ℕ) × IsStartBy refuting_rule fed start
+    × ((p q r : ℕ) × IsSettledBy refuting_rule fed i j k start p q r × (HaveSameSkew p q r i j k ⊎ SlipsThere fed i j k start))
+
+-- where the lanes have few damaged characters from the second on, each such epoch has no stray: it has their skew
+abbrev pub SecondHasSkew : Type 0
+SecondHasSkew =
+    (fed : Fed) (d e f i j k : ℕ) → AreTwoGood fed d e f i j k → IsCalmFrom fed.blue i → IsCalmFrom fed.green j → IsCalmFrom fed.red k
+    → (start p q r : ℕ) → IsSettledBy refuting_rule fed i j k start p q r → HasNoEnd (rest_of start fed) × HaveSameSkew p q r i j k
+
+-- so of a tap of columns received with sparse damage, after any bits, there is such an epoch that is the last and has their skew
+abbrev pub RecoversAtSecond : Type 0
+RecoversAtSecond =
+    (ps : List Period) (sent received : List Column) (offset : ℕ) (skews counts : List ℕ) (x fed : Fed) (before : List ℕ) (a d e f i j k : ℕ)
+    → IsAgain ps sent received offset skews counts x fed before a i j k → AreTwoGood fed d e f i j k → OneOfTwoIsSpared ps sent received (a + 12)
+    → (start : ℕ) × IsStartBy refuting_rule fed start
+    × ((p q r : ℕ) × IsSettledBy refuting_rule fed i j k start p q r × HaveSameSkew p q r i j k × IsLastUnrefuted (rest_of start fed))

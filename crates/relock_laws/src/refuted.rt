@@ -1,6 +1,6 @@
 //! Where the epochs of three lanes end whose alignment is let go too where it is refuted, or doubted twice in a row.
 ghost use Rattle.relock_laws.specs.RefutingLaws.{PayloadIsLastUnrefuted, UntilIsLastUnrefuted, EndsOrIsUnrefuted, OneRefutingEnd, SlipStands, SlipEndsAlone, HasUnrefutedExample, HasSlipFirstExample};
-ghost use Rattle.relock_laws.specs.RefutingSettled.{SettlesByRefuting, SettlesUnrefuted, SettledHasSkew, SameSkewIsLast, SameSkewIsAccounted, RecoversUnrefuted, HasWholeExample};
+ghost use Rattle.relock_laws.specs.RefutingSettled.{SettlesByRefuting, SettlesUnrefuted, SettledHasSkew, SameSkewIsLast, SameSkewIsAccounted, RecoversUnrefuted, HasWholeExample, SettlesAtSecond, SecondHasSkew, RecoversAtSecond};
 
 /// The lanes of a tap whose damage lies in pixels and packets alone have one epoch.
 pub fn payload_is_last_unrefuted()
@@ -71,4 +71,16 @@ pub fn recovers_unrefuted()
 /// received whole.
 pub fn whole_example()
     ensures { HasWholeExample }
+{}
+
+/// At the second of two such control periods in a row, of one skew, the alignment of that epoch has their skew, whatever opens by
+/// another one, or the epoch ends there at a stray; and it has none where few characters are damaged from there on.
+pub fn settles_at_second()
+    ensures some { SettlesAtSecond }
+    ensures skew { SecondHasSkew }
+{}
+
+/// So from there on the lanes of a tap of columns received with sparse damage have one epoch, and it has their skew.
+pub fn recovers_at_second()
+    ensures { RecoversAtSecond }
 {}
