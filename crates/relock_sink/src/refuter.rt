@@ -13,7 +13,8 @@ use crate::rivals::RivalSearch;
 use lane_align::RUN_BITS;
 use track_sink::{Cause, End, LentLanes, Watch};
 
-/// How many bits are looked through before the next: an epoch that ends early costs no more.
+/// How many bits of an epoch are looked through at first; then as many again as were: an epoch that ends early costs at most
+/// twice what it has.
 const STRETCH: u64 = 2560;
 
 /// From the greatest edge of a rival to the end of the bits that show what it says of an alignment.
@@ -65,7 +66,7 @@ impl Watch for Refuter {
         let longest = lanes.blue.count.max(lanes.green.count.max(lanes.red.count));
         let all = lanes.base + u64::from(longest);
         'stretches: while self.shown < all {
-            let shown = all.min(self.shown + STRETCH);
+            let shown = all.min(self.shown + self.shown.max(STRETCH));
             if let Some(end) = self.look(lanes, shown) {
                 return Some(end);
             }
