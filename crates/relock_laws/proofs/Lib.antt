@@ -29,3 +29,4 @@ pub mod UntilEnds
 pub mod Undoubted
 pub mod UndoubtedExample
 pub mod SecondSettling
+pub mod SecondExample

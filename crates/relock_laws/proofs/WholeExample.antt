@@ -100,7 +100,7 @@ next_test : aligned_column blue green red 363 353 343 13 ≡ Some (column_of vid
 unfolding aligned_column blue green red ahead received values_of control_words video_guard window row_bits word_bits bits_of number
 next_test = refl
 
-whole_test : is_guard_band (column_of video_guard) (column_of video_guard) ≡ true
+pub whole_test : is_guard_band (column_of video_guard) (column_of video_guard) ≡ true
 unfolding is_guard_band video_words island_words closing_words one_if video_guard island_guard is_twelve_or_more value_in terc_words
 whole_test = refl
 
@@ -121,7 +121,7 @@ good = record {
 
 -- Sixteen other characters follow.
 
-unfoldable other : Option ℕ → Bool
+unfoldable pub other : Option ℕ → Bool
 other None = false
 other (Some w) = not (is_control w)
 
@@ -135,13 +135,13 @@ unfolding other
 from_other None h = cc
 from_other (Some w) h = record { word = w; here = refl; no_control = grind arith }
 
-others_at : List Bool → ℕ → Bool
+unfoldable pub others_at : List Bool → ℕ → Bool
 others_at xs e = passes_below 16 (λ k. other (window xs (e + 10 * k)))
 
 no_control_at : (o : Option ℕ) (w : ℕ) → IsOther o → o ≡ Some w → is_control w ≡ false
 no_control_at o w is here = let a = is.here in let b = is.no_control in cc
 
-goes_on : (xs : List Bool) (e : ℕ) → others_at xs e ≡ true → GoesOn xs e
+pub goes_on : (xs : List Bool) (e : ℕ) → others_at xs e ≡ true → GoesOn xs e
 unfolding others_at
 goes_on xs e test = record {
   whole = λ k lt. let is = from_other (window xs (e + 10 * k)) (passes_at 16 (λ j. other (window xs (e + 10 * j))) k test lt) in (is.word, is.here);

@@ -13,7 +13,7 @@ use Rattle.link_laws.specs.Local.{twelve_before}
 use Rattle.link_sink.specs.Sinks.{Fed}
 use Rattle.track_sink.specs.Epochs.{EpochRule, rest_of, HasNoEnd}
 use Rattle.relock_sink.specs.Relocks.{IsUnconfirmed}
-use Rattle.relock_sink.specs.Rivals.{HaveSameSkew, columns_before, is_guard_band}
+use Rattle.relock_sink.specs.Rivals.{IsConfirmed, HaveSameSkew, columns_before, is_guard_band}
 use Rattle.relock_sink.specs.Refuting.{IsSlipFirst, IsLastUnrefuted, refuting_rule}
 use Rattle.relock_laws.specs.Settled.{IsGoodPeriod, IsCalmFrom, IsAgain}
 use Rattle.relock_laws.specs.Refuted.{GoesOn, OpensAt}
@@ -157,3 +157,9 @@ RecoversAtSecond =
     → IsAgain ps sent received offset skews counts x fed before a i j k → AreTwoGood fed d e f i j k → OneOfTwoIsSpared ps sent received (a + 12)
     → (start : ℕ) × IsStartBy refuting_rule fed start
     × ((p q r : ℕ) × IsSettledBy refuting_rule fed i j k start p q r × HaveSameSkew p q r i j k × IsLastUnrefuted (rest_of start fed))
+
+-- there are lanes with two such control periods in a row, and before them an alignment of another skew that is confirmed
+abbrev pub HasSecondExample : Type 0
+HasSecondExample =
+    (fed : Fed) × (p q r d e f i j k : ℕ) × IsConfirmed fed p q r × AreTwoGood fed d e f i j k
+    × (p < d) × (q < e) × (r < f) × (HaveSameSkew p q r d e f → ⊥)

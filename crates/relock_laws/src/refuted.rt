@@ -1,6 +1,6 @@
 //! Where the epochs of three lanes end whose alignment is let go too where it is refuted, or doubted twice in a row.
 ghost use Rattle.relock_laws.specs.RefutingLaws.{PayloadIsLastUnrefuted, UntilIsLastUnrefuted, EndsOrIsUnrefuted, OneRefutingEnd, SlipStands, SlipEndsAlone, HasUnrefutedExample, HasSlipFirstExample};
-ghost use Rattle.relock_laws.specs.RefutingSettled.{SettlesByRefuting, SettlesUnrefuted, SettledHasSkew, SameSkewIsLast, SameSkewIsAccounted, RecoversUnrefuted, HasWholeExample, SettlesAtSecond, SecondHasSkew, RecoversAtSecond};
+ghost use Rattle.relock_laws.specs.RefutingSettled.{SettlesByRefuting, SettlesUnrefuted, SettledHasSkew, SameSkewIsLast, SameSkewIsAccounted, RecoversUnrefuted, HasWholeExample, SettlesAtSecond, SecondHasSkew, RecoversAtSecond, HasSecondExample};
 
 /// The lanes of a tap whose damage lies in pixels and packets alone have one epoch.
 pub fn payload_is_last_unrefuted()
@@ -83,4 +83,10 @@ pub fn settles_at_second()
 /// So from there on the lanes of a tap of columns received with sparse damage have one epoch, and it has their skew.
 pub fn recovers_at_second()
     ensures { RecoversAtSecond }
+{}
+
+/// The premise can be met: lanes with two such control periods in a row, one of which gains a character before them, so that an
+/// earlier alignment, at which a period opens, has another skew.
+pub fn second_example()
+    ensures { HasSecondExample }
 {}
