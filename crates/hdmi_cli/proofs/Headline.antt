@@ -154,14 +154,16 @@ pub unless_so : (P Q : ℕ → Option (List ℕ) → Option (List ℕ) → Type 
     → Unless P status before after → Unless Q status before after
 unless_so P Q status before after h k = grind arith
 
--- what is recovered of a stream that aligns
-pub recovered : (listing : ListingOf) (this : Command) → ((t : TappedStream) → IsTapped t → Aligns t → (o : RunOutcome) → Does this t.bytes o → ListsCapture link_grammar listing t.bytes o) → (words : List (List ℕ)) (ending : Ending) (before after : Devices) (status : ℕ) → RunEnds words ending before after → status ≡ status_of ending → IsCommand words this
-    → (t : TappedStream) → IsTapped t → Aligns t → before.left ≡ Some t.bytes
+-- what is recovered of a stream that aligns, by a premise from which that follows
+pub recovered : (Known : TappedStream → Type 0) → ((t : TappedStream) → Known t → Aligns t) → (listing : ListingOf) (this : Command)
+    → ((t : TappedStream) → IsTapped t → Known t → (o : RunOutcome) → Does this t.bytes o → ListsCapture link_grammar listing t.bytes o)
+    → (words : List (List ℕ)) (ending : Ending) (before after : Devices) (status : ℕ) → RunEnds words ending before after → status ≡ status_of ending → IsCommand words this
+    → (t : TappedStream) → IsTapped t → Known t → before.left ≡ Some t.bytes
     → Unless (λ s old new. FromFirst t (λ d e f a. IsRecovered listing t d e f a s old new)) status before after
-recovered listing this lists words ending before after status ends is named t tapped aligns left =
-    let law = first_accounted t tapped aligns in
+recovered Known aligns listing this lists words ending before after status ends is named t tapped known left =
+    let law = first_accounted t tapped (aligns t known) in
     run_ended (λ s old new. FromFirst t (λ d e f a. IsRecovered listing t d e f a s old new)) this words ending before after status ends is named
-    (λ answers. (law.0, law.1, law.2, law.3, (law.4.0, law.4.1, answered listing this t law.4.0 law.0 law.1 law.2 ending before after (lists t tapped aligns) tapped law.3 law.4.2.0 law.4.2.1 left answers)))
+    (λ answers. (law.0, law.1, law.2, law.3, (law.4.0, law.4.1, answered listing this t law.4.0 law.0 law.1 law.2 ending before after (lists t tapped known) tapped law.3 law.4.2.0 law.4.2.1 left answers)))
 
 -- sparse damage of payload alone
 pub headlined : (words : List (List ℕ)) (ending : Ending) (before after : Devices) (status : ℕ) → RunEnds words ending before after → status ≡ status_of ending → IsCommand words RecoverLink
@@ -173,7 +175,7 @@ headlined words ending before after status ends is named t tapped alone d e f fi
     (λ s old new. (a : ℕ) × IsRecovered link_listing t d e f a s old new)
     status before after
     (λ h. at_first t (λ p q r a. IsRecovered link_listing t p q r a status before.held after.held) h d e f first)
-    (recovered link_listing RecoverLink (λ t tapped aligns o does. does) words ending before after status ends is named t tapped (inl (alone, (d, e, f, first))) left)
+    (recovered Aligns (λ t aligns. aligns) link_listing RecoverLink (λ t tapped aligns o does. does) words ending before after status ends is named t tapped (inl (alone, (d, e, f, first))) left)
 
 -- and damage anywhere that spares control and guard words until a column
 pub headlined_anywhere : (words : List (List ℕ)) (ending : Ending) (before after : Devices) (status : ℕ) → RunEnds words ending before after → status ≡ status_of ending → IsCommand words RecoverLink
@@ -185,7 +187,7 @@ headlined_anywhere words ending before after status ends is named t tapped until
     (IsRecoveredBy link_listing t until)
     status before after
     (λ h. (h.0, h.1, h.2, h.3, (h.4.0, h.4.1 until aligns, h.4.2)))
-    (recovered link_listing RecoverLink (λ t tapped aligns o does. does) words ending before after status ends is named t tapped (inr (until, aligns)) left)
+    (recovered Aligns (λ t aligns. aligns) link_listing RecoverLink (λ t tapped aligns o does. does) words ending before after status ends is named t tapped (inr (until, aligns)) left)
 
 -- a stream without guard columns
 pub dvi_headlined : (words : List (List ℕ)) (ending : Ending) (before after : Devices) (status : ℕ) → RunEnds words ending before after → status ≡ status_of ending → IsCommand words RecoverDvi

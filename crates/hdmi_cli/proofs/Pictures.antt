@@ -45,17 +45,18 @@ pub pictures_are : (mode : Mode) (frames : List Frame) → raster_fault mode fra
 unfolding content_text
 pictures_are mode frames none t is d e f a status old new reception h = grind (arith, frame_lines_come_back, within_received)
 
-pub pictured : (this : Command) → ((t : TappedStream) → IsTapped t → Aligns t → (o : RunOutcome) → Does this t.bytes o → ListsCapture link_grammar content_listing t.bytes o)
+pub pictured : (Known : TappedStream → Type 0) → ((t : TappedStream) → Known t → Aligns t) → (this : Command)
+    → ((t : TappedStream) → IsTapped t → Known t → (o : RunOutcome) → Does this t.bytes o → ListsCapture link_grammar content_listing t.bytes o)
     → (words : List (List ℕ)) (ending : Ending) (before after : Devices) (status : ℕ) → RunEnds words ending before after → status ≡ status_of ending → IsCommand words this
-    → (mode : Mode) (frames : List Frame) → raster_fault mode frames ≡ None → (t : TappedStream) → t.periods ≡ raster_of mode frames → IsTapped t → Aligns t → before.left ≡ Some t.bytes
+    → (mode : Mode) (frames : List Frame) → raster_fault mode frames ≡ None → (t : TappedStream) → t.periods ≡ raster_of mode frames → IsTapped t → Known t → before.left ≡ Some t.bytes
     → Unless (λ s old new. FromFirst t (λ d e f a. ArePictures mode frames t d e f a old new)) status before after
-pictured this lists words ending before after status ends is named mode frames none t raster tapped aligns left =
+pictured Known aligns this lists words ending before after status ends is named mode frames none t raster tapped known left =
     unless_so
     (λ s old new. FromFirst t (λ d e f a. IsRecovered content_listing t d e f a s old new))
     (λ s old new. FromFirst t (λ d e f a. ArePictures mode frames t d e f a old new))
     status before after
     (λ h. (h.0, h.1, h.2, h.3, (h.4.0, h.4.1, pictures_are mode frames none t raster h.0 h.1 h.2 h.4.0 status before.held after.held tapped.reception h.4.2)))
-    (recovered content_listing this lists words ending before after status ends is named t tapped aligns left)
+    (recovered Known aligns content_listing this lists words ending before after status ends is named t tapped known left)
 
 -- the packets of a raster are those of its content
 packets_of_content : (t : TappedStream) (mode : Mode) (frames : List Frame) → raster_fault mode frames ≡ None → t.periods ≡ raster_of mode frames
@@ -78,14 +79,15 @@ packets_are t d e f a status old new reception h =
       content = packets_of_content t;
     }
 
-pub packeted : (this : Command) → ((t : TappedStream) → IsTapped t → Aligns t → (o : RunOutcome) → Does this t.bytes o → ListsCapture link_grammar content_listing t.bytes o)
+pub packeted : (Known : TappedStream → Type 0) → ((t : TappedStream) → Known t → Aligns t) → (this : Command)
+    → ((t : TappedStream) → IsTapped t → Known t → (o : RunOutcome) → Does this t.bytes o → ListsCapture link_grammar content_listing t.bytes o)
     → (words : List (List ℕ)) (ending : Ending) (before after : Devices) (status : ℕ) → RunEnds words ending before after → status ≡ status_of ending → IsCommand words this
-    → (t : TappedStream) → IsTapped t → Aligns t → before.left ≡ Some t.bytes
+    → (t : TappedStream) → IsTapped t → Known t → before.left ≡ Some t.bytes
     → Unless (λ s old new. FromFirst t (λ d e f a. ArePackets t d e f a old new)) status before after
-packeted this lists words ending before after status ends is named t tapped aligns left =
+packeted Known aligns this lists words ending before after status ends is named t tapped known left =
     unless_so
     (λ s old new. FromFirst t (λ d e f a. IsRecovered content_listing t d e f a s old new))
     (λ s old new. FromFirst t (λ d e f a. ArePackets t d e f a old new))
     status before after
     (λ h. (h.0, h.1, h.2, h.3, (h.4.0, h.4.1, packets_are t h.0 h.1 h.2 h.4.0 status before.held after.held tapped.reception h.4.2)))
-    (recovered content_listing this lists words ending before after status ends is named t tapped aligns left)
+    (recovered Known aligns content_listing this lists words ending before after status ends is named t tapped known left)

@@ -29,11 +29,12 @@ use Rattle.relock_laws.specs.RefutingSettled.{IsStartBy, first_start, next_start
 use Rattle.relock_laws.proofs.Again.{accounted_there, calm_again}
 use Rattle.relock_laws.proofs.RefutingAgain.{same_skew_is_last}
 use Rattle.relock_laws.proofs.RefutingSettling.{settles_by_refuting, settled_has_skew}
+use Rattle.relock_laws.proofs.SecondSettling.{second_has_skew}
 use Rattle.relock_laws.proofs.SkewColumns.{same_skew_is_accounted}
 use Rattle.capture_commands.specs.Endings.{Devices, RunEnds, Unless, status_of}
 use Rattle.capture_commands.specs.Notes.{alignment_note}
 use Rattle.capture_commands.specs.Outcome.{Does, RunOutcome, TracksLanes, TracksCapture, status_with}
-use Rattle.hdmi_cli.specs.RelockAgain.{AgainStream, ComesAgain, columns_from, EndsWithAll, EndsWithLater, IsRelockedAgain}
+use Rattle.hdmi_cli.specs.RelockAgain.{AgainStream, ComesAgain, columns_from, EndsWithAll, EndsWithLater, IsKept, IsRelockedAgain}
 use Rattle.capture_commands.specs.TrackListings.{TrackListing, content_track_listing, link_track_listing}
 use Rattle.capture_commands.specs.declared.ending.Ending.{Ending}
 use Rattle.hdmi_cli.proofs.Headline.{run_ended}
@@ -188,10 +189,10 @@ again listing t comes o old new tracks written =
     let r = law.2.2 in
     let settled = law.2.3 in
     let calm = calm_again t.periods t.sent t.received t.offset t.skews t.counts t.tapped t.lanes t.before t.a t.blue t.green t.red comes.again in
-    let last : HaveSameSkew p q r t.blue t.green t.red → IsLastUnrefuted (rest_of start t.lanes) =
-    λ same. same_skew_is_last t.periods t.sent t.received t.offset t.skews t.counts t.tapped t.lanes t.before t.a t.blue t.green t.red comes.again start p q r settled same in
-    let text : HaveSameSkew p q r t.blue t.green t.red → IsListed listing (columns_from t start p q r) old new =
-    λ same. listed listing t.lanes start p q r law.1 settled.first (last same) o old new tracks written in
+    let last : HaveSameSkew p q r t.blue t.green t.red → IsKept t start p → IsLastUnrefuted (rest_of start t.lanes) =
+    λ same kept. same_skew_is_last t.periods t.sent t.received t.offset t.skews t.counts t.tapped t.lanes t.before t.a t.blue t.green t.red comes.again kept.0 start p q r settled same kept.1 in
+    let text : HaveSameSkew p q r t.blue t.green t.red → IsKept t start p → IsListed listing (columns_from t start p q r) old new =
+    λ same kept. listed listing t.lanes start p q r law.1 settled.first (last same kept) o old new tracks written in
     record {
       start = start;
       begins = law.1;
@@ -200,9 +201,11 @@ again listing t comes o old new tracks written =
       edge_red = r;
       settled = settled;
       last = last;
-      written = λ same. later_written listing t comes start p q r settled same old new (text same);
-      written_there = λ there. there_written listing t comes start p q r settled there old new (text (skew_there t.lanes t.blue t.green t.red start p q r settled there));
+      written = λ same kept. later_written listing t comes start p q r settled same old new (text same kept);
+      written_there = λ there spared.
+          there_written listing t comes start p q r settled there old new (text (skew_there t.lanes t.blue t.green t.red start p q r settled there) (spared, inl there));
       skew = λ whole. (settled_has_skew t.lanes t.blue t.green t.red whole calm.blue calm.green calm.red start p q r settled).1;
+      second = λ d e f two. (second_has_skew t.lanes d e f t.blue t.green t.red two calm.blue calm.green calm.red start p q r settled).1;
     }
 
 of_bytes : (listing : TrackListing) (t : AgainStream) → ComesAgain t → (o : RunOutcome) (old new : Option (List ℕ)) → TracksCapture refuting_rule listing t.bytes o → Appends old new o.output → IsRelockedAgain listing t old new

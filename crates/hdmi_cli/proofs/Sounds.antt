@@ -71,4 +71,4 @@ sounded words ending before after status ends is pair named t tapped aligns left
     (λ s old new. FromFirst t (λ d e f a. AreSamples pair t d e f a s old new))
     status before after
     (λ h. (h.0, h.1, h.2, h.3, (h.4.0, h.4.1, samples_are pair t h.0 h.1 h.2 h.4.0 status before.held after.held tapped.reception h.4.2)))
-    (recovered (biphase_listing pair) (RecoverBiphase pair) (λ t tapped aligns o does. does) words ending before after status ends is named t tapped aligns left)
+    (recovered Aligns (λ t aligns. aligns) (biphase_listing pair) (RecoverBiphase pair) (λ t tapped aligns o does. does) words ending before after status ends is named t tapped aligns left)

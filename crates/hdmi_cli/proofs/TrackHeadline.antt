@@ -21,7 +21,7 @@ use Rattle.relock_laws.proofs.Unrefuted.{payload_is_last_unrefuted, until_is_las
 use Rattle.track_sink.specs.TrackEvents.{TrackEvent, track_events_of}
 use Rattle.track_sink.specs.Feds.{same_fed}
 use Rattle.track_laws.proofs.Calm.{one_epoch}
-use Rattle.hdmi_cli.specs.Headline.{TappedStream, IsTapped, Aligns}
+use Rattle.hdmi_cli.specs.Headline.{TappedStream, IsTapped, Aligns, StaysAligned}
 use Rattle.capture_commands.specs.Listings.{Listing, content_listing, link_listing}
 use Rattle.capture_commands.specs.Outcome.{RunOutcome, ListsLanes, ListsCapture, TracksLanes, TracksCapture, status_with}
 use Rattle.capture_commands.specs.TrackText.{event_faults, event_lines, track_text}
@@ -90,19 +90,24 @@ tracks_as_link t tapped aligns o tracks =
     let none = one_epoch t.periods t.sent t.received t.offset t.skews t.counts x (record { reception = tapped.reception; tapped = tapped.tap }) in
     lists_as_one stray_rule stray_is_rule link_track_listing link_listing link_events t.bytes x tapped.captured none o tracks
 
-last_of : (t : TappedStream) → IsTapped t → Aligns t → IsLastUnrefuted (record { blue = t.blue; green = t.green; red = t.red })
+-- a stream that stays aligned aligns
+pub stays_aligns : (t : TappedStream) → StaysAligned t → Aligns t
+stays_aligns t (inl alone) = inl alone
+stays_aligns t (inr (until, aligns, spared)) = inr (until, aligns)
+
+last_of : (t : TappedStream) → IsTapped t → StaysAligned t → IsLastUnrefuted (record { blue = t.blue; green = t.green; red = t.red })
 last_of t tapped (inl (alone, first)) =
     payload_is_last_unrefuted t.periods t.sent t.received t.offset t.skews t.counts (record { blue = t.blue; green = t.green; red = t.red }) (record { reception = tapped.reception; tapped = tapped.tap }) alone tapped.small
-last_of t tapped (inr (until, aligns)) =
-    until_is_last_unrefuted t.periods t.sent t.received t.offset t.skews t.counts (record { blue = t.blue; green = t.green; red = t.red }) (record { reception = tapped.reception; tapped = tapped.tap }) tapped.small until aligns
+last_of t tapped (inr (until, aligns, spared)) =
+    until_is_last_unrefuted t.periods t.sent t.received t.offset t.skews t.counts (record { blue = t.blue; green = t.green; red = t.red }) (record { reception = tapped.reception; tapped = tapped.tap }) tapped.small until aligns spared
 
-relocks_as_one : (tracks : TrackListing) (listing : Listing) → ListsEvents tracks listing → (t : TappedStream) → IsTapped t → Aligns t → (o : RunOutcome) → TracksCapture refuting_rule tracks t.bytes o
+relocks_as_one : (tracks : TrackListing) (listing : Listing) → ListsEvents tracks listing → (t : TappedStream) → IsTapped t → StaysAligned t → (o : RunOutcome) → TracksCapture refuting_rule tracks t.bytes o
     → ListsCapture link_grammar listing t.bytes o
-relocks_as_one tracks listing alike t tapped aligns o done =
-    lists_as_one refuting_rule refuting_is_rule tracks listing alike t.bytes (record { blue = t.blue; green = t.green; red = t.red }) tapped.captured (last_of t tapped aligns) o done
+relocks_as_one tracks listing alike t tapped stays o done =
+    lists_as_one refuting_rule refuting_is_rule tracks listing alike t.bytes (record { blue = t.blue; green = t.green; red = t.red }) tapped.captured (last_of t tapped stays) o done
 
-pub relocks_as_link : (t : TappedStream) → IsTapped t → Aligns t → (o : RunOutcome) → TracksCapture refuting_rule link_track_listing t.bytes o → ListsCapture link_grammar link_listing t.bytes o
-relocks_as_link t tapped aligns o done = relocks_as_one link_track_listing link_listing link_events t tapped aligns o done
+pub relocks_as_link : (t : TappedStream) → IsTapped t → StaysAligned t → (o : RunOutcome) → TracksCapture refuting_rule link_track_listing t.bytes o → ListsCapture link_grammar link_listing t.bytes o
+relocks_as_link t tapped stays o done = relocks_as_one link_track_listing link_listing link_events t tapped stays o done
 
-pub relocks_as_content : (t : TappedStream) → IsTapped t → Aligns t → (o : RunOutcome) → TracksCapture refuting_rule content_track_listing t.bytes o → ListsCapture link_grammar content_listing t.bytes o
-relocks_as_content t tapped aligns o done = relocks_as_one content_track_listing content_listing content_events t tapped aligns o done
+pub relocks_as_content : (t : TappedStream) → IsTapped t → StaysAligned t → (o : RunOutcome) → TracksCapture refuting_rule content_track_listing t.bytes o → ListsCapture link_grammar content_listing t.bytes o
+relocks_as_content t tapped stays o done = relocks_as_one content_track_listing content_listing content_events t tapped stays o done

@@ -12,7 +12,8 @@ use Rattle.track_sink.specs.Epochs.{rest_of}
 use Rattle.track_sink.specs.TrackEvents.{TrackEvent, track_events_of}
 use Rattle.relock_sink.specs.Refuting.{IsLastUnrefuted, refuting_rule}
 use Rattle.relock_sink.specs.Rivals.{HaveSameSkew}
-use Rattle.relock_laws.specs.RefutingSettled.{IsStartBy, IsSettledBy, IsWholeGoodPeriod, OpensThere}
+use Rattle.relock_laws.specs.Doubted.{OneOfTwoIsSpared}
+use Rattle.relock_laws.specs.RefutingSettled.{IsStartBy, IsSettledBy, IsWholeGoodPeriod, AreTwoGood, OpensThere}
 use Rattle.relock_laws.specs.Settled.{IsAgain}
 use Rattle.capture_commands.specs.TrackListings.{TrackListing}
 
@@ -61,10 +62,16 @@ pub record EndsWithLater (listing : TrackListing) (t : AgainStream) (columns : L
       Appends old new (listing.text (first ++ track_events_of (account_from (n + 12) (length columns - (n + 12)) (twelve_before (t.a + 12) t.received) later
       (drop (t.a + 12) t.sent) (drop (t.a + 12) t.received))))
 
+-- damage spares one of any two control periods in a row from that one on; and an epoch is aligned there, or the guard band there was
+-- received whole
+abbrev pub IsKept : AgainStream → (start edge_blue : ℕ) → Type 0
+IsKept t start edge_blue =
+    OneOfTwoIsSpared t.periods t.sent t.received (t.a + 12) × ((start + edge_blue ≡ t.blue) ⊎ IsWholeGoodPeriod t.lanes t.blue t.green t.red)
+
 -- An epoch has the last twelve of these characters, and does not end before them; it is aligned at that control period, or before it
--- where a guard band confirmed it. Where it has the skew of that control period it is the last, and the output grew by a text that
--- ends with the account from there on. It has it where the guard band there was received whole, or by its own skew too something
--- opens there.
+-- where a guard band confirmed it. Where it has the skew of that control period and is kept it is the last, and the output grew by a text
+-- that ends with the account from there on. It has it where the guard band there was received whole, or by its own skew too something
+-- opens there; and at the second of two such control periods in a row it has it, whatever opens by another one.
 pub record IsRelockedAgain (listing : TrackListing) (t : AgainStream) (old new : Option (List ℕ)) : Type 0 where
   pub start : ℕ
   pub begins : IsStartBy refuting_rule t.lanes start
@@ -72,11 +79,14 @@ pub record IsRelockedAgain (listing : TrackListing) (t : AgainStream) (old new :
   pub edge_green : ℕ
   pub edge_red : ℕ
   pub settled : IsSettledBy refuting_rule t.lanes t.blue t.green t.red start edge_blue edge_green edge_red
-  pub last : HaveSameSkew edge_blue edge_green edge_red t.blue t.green t.red → IsLastUnrefuted (rest_of start t.lanes)
+  pub last : HaveSameSkew edge_blue edge_green edge_red t.blue t.green t.red → IsKept t start edge_blue → IsLastUnrefuted (rest_of start t.lanes)
   pub written :
-      HaveSameSkew edge_blue edge_green edge_red t.blue t.green t.red
+      HaveSameSkew edge_blue edge_green edge_red t.blue t.green t.red → IsKept t start edge_blue
       → (n : ℕ) × (start + edge_blue + 10 * n ≡ t.blue) × EndsWithLater listing t (columns_from t start edge_blue edge_green edge_red) n old new
-  pub written_there : start + edge_blue ≡ t.blue → EndsWithAll listing t (columns_from t start edge_blue edge_green edge_red) old new
+  pub written_there :
+      start + edge_blue ≡ t.blue → OneOfTwoIsSpared t.periods t.sent t.received (t.a + 12)
+      → EndsWithAll listing t (columns_from t start edge_blue edge_green edge_red) old new
   pub skew :
       IsWholeGoodPeriod t.lanes t.blue t.green t.red
       → HaveSameSkew edge_blue edge_green edge_red t.blue t.green t.red ⊎ OpensThere t.lanes t.blue t.green t.red start edge_blue edge_green edge_red
+  pub second : (d e f : ℕ) → AreTwoGood t.lanes d e f t.blue t.green t.red → HaveSameSkew edge_blue edge_green edge_red t.blue t.green t.red

@@ -7,7 +7,7 @@ use Rattle.source_end.specs.declared.mode.Mode.{Mode}
 use Rattle.source_end.specs.Content.{Frame}
 use Rattle.source_end.specs.Raster.{raster_of}
 use Rattle.source_end.specs.RasterRefusals.{raster_fault}
-use Rattle.hdmi_cli.specs.Headline.{TappedStream, IsTapped, AlignsBy, IsFirstOf, IsRecovered, IsRecoveredBy, Aligns, FromFirst, IsDviTapped, IsDviRecovered}
+use Rattle.hdmi_cli.specs.Headline.{TappedStream, IsTapped, AlignsBy, IsFirstOf, IsRecovered, IsRecoveredBy, Aligns, StaysAligned, FromFirst, IsDviTapped, IsDviRecovered}
 use Rattle.hdmi_cli.specs.Local.{IsTappedUntil, IsHeardBy, HasNoStrays, ArePacketsBy}
 use Rattle.hdmi_cli.specs.Beside.{ArePacketsBesideBy}
 use Rattle.hdmi_cli.specs.DviLocal.{IsDviTappedUntil, DviAlignsBy, IsDviHeardBy}
@@ -32,7 +32,8 @@ use Rattle.command_line.specs.Commands.{IsCommand}
 use Rattle.command_line.specs.declared.command.Command.TheVariants.{RecoverLink, RecoverContent, RecoverTrack, RecoverRelock, RecoverContentRelock, RecoverBiphase, RecoverDvi, Check, Relay}
 
 -- Each theorem holds but where a device failed or memory was wanting (`Unless`). Where it begins with `Aligns t`, it holds of damage of
--- pixels and packets alone and of damage anywhere after an alignment.
+-- pixels and packets alone and of damage anywhere after an alignment; with `StaysAligned t`, of damage that spares one of any two
+-- control periods in a row after it.
 pub record Promises (words : List (List ℕ)) (status : ℕ) (before after : Devices) : Type 0 where
   -- `recover link` writes exactly what was sent: for all columns that conforming periods spell, every sparse damage of their
   -- payload, every tap of them with skews of at most 70 bits, from their first full alignment on.
@@ -126,26 +127,29 @@ pub record Promises (words : List (List ℕ)) (status : ℕ) (before after : Dev
   pub track_slip_passes : IsCommand words RecoverTrack → (t : TappedStream) → (s : LineSlip) → (y : Fed) → IsSlippedTap t s y → IsUnnoticed t s
       → before.left ≡ Some t.bytes → Unless (IsTrackedAsOne RecoverLink link_listing t s y) status before after
   -- `recover relock` writes the text of `recover link`, and across a slip what `recover track` writes: the alignment of a stream that was
-  -- received with sparse damage is confirmed by the guard band after it, and refuted by no other edges.
-  pub relock_headline : IsCommand words RecoverRelock → (t : TappedStream) → IsTapped t → Aligns t → before.left ≡ Some t.bytes
+  -- received with sparse damage is confirmed by the guard band after it, refuted by no other edges, and not doubted twice in a row where
+  -- damage after it spares one of any two control periods in a row.
+  pub relock_headline : IsCommand words RecoverRelock → (t : TappedStream) → IsTapped t → StaysAligned t → before.left ≡ Some t.bytes
       → Unless (λ status held holds. FromFirst t (λ d e f a. IsRecovered link_listing t d e f a status held holds)) status before after
   pub relock_slip : IsCommand words RecoverRelock → (t : TappedStream) → (s : LineSlip) → (y : Fed) → IsSlippedTap t s y → IsNoticed t s
       → before.left ≡ Some t.bytes → Unless (IsTrackedAcross link_track_listing t s y) status before after
   pub relock_slip_passes : IsCommand words RecoverRelock → (t : TappedStream) → (s : LineSlip) → (y : Fed) → IsSlippedTap t s y → IsUnnoticed t s
       → before.left ≡ Some t.bytes → Unless (IsTrackedAsOne RecoverLink link_listing t s y) status before after
   -- Whatever bits came before: from a control period on of which nineteen characters were received on each lane, and a guard band
-  -- after it, the stream is listed as it was sent, where the alignment has the skew of that control period. It is at that one, or at one
-  -- before that a guard band confirmed. It has that skew where the guard band was received whole, or by another skew too something opens.
+  -- after it, the stream is listed as it was sent, where the alignment has the skew of that control period and damage spares one of any two
+  -- control periods in a row from there on. It is at that one, or at one before that a guard band confirmed. It has that skew where the
+  -- guard band was received whole, or by another skew too something opens. At the second of two such control periods in a row it has their
+  -- skew too, whatever opens by another one.
   pub relock_again : IsCommand words RecoverRelock → (t : AgainStream) → ComesAgain t → before.left ≡ Some t.bytes
       → Unless (λ _ held holds. IsRelockedAgain link_track_listing t held holds) status before after
   -- `recover content relock` writes the text of `recover content`, and so the rows, frames and packets that were received.
-  pub content_relock_headline : IsCommand words RecoverContentRelock → (t : TappedStream) → IsTapped t → Aligns t → before.left ≡ Some t.bytes
+  pub content_relock_headline : IsCommand words RecoverContentRelock → (t : TappedStream) → IsTapped t → StaysAligned t → before.left ≡ Some t.bytes
       → Unless (λ status held holds. FromFirst t (λ d e f a. IsRecovered content_listing t d e f a status held holds)) status before after
   pub content_relock_pictures : IsCommand words RecoverContentRelock
-      → (mode : Mode) (frames : List Frame) → raster_fault mode frames ≡ None → (t : TappedStream) → t.periods ≡ raster_of mode frames → IsTapped t → Aligns t
+      → (mode : Mode) (frames : List Frame) → raster_fault mode frames ≡ None → (t : TappedStream) → t.periods ≡ raster_of mode frames → IsTapped t → StaysAligned t
       → before.left ≡ Some t.bytes
       → Unless (λ status held holds. FromFirst t (λ d e f a. ArePictures mode frames t d e f a held holds)) status before after
-  pub content_relock_packets : IsCommand words RecoverContentRelock → (t : TappedStream) → IsTapped t → Aligns t → before.left ≡ Some t.bytes
+  pub content_relock_packets : IsCommand words RecoverContentRelock → (t : TappedStream) → IsTapped t → StaysAligned t → before.left ≡ Some t.bytes
       → Unless (λ status held holds. FromFirst t (λ d e f a. ArePackets t d e f a held holds)) status before after
   -- Across a slip and after any bits it writes the content of the events and slips that `recover relock` writes.
   pub content_relock_slip : IsCommand words RecoverContentRelock → (t : TappedStream) → (s : LineSlip) → (y : Fed) → IsSlippedTap t s y → IsNoticed t s

@@ -3,6 +3,7 @@ use Rattle.capture_commands.specs.Endings.{note_of, seen}
 use Rattle.command_line.specs.declared.command.Command.TheVariants.{RecoverLink, RecoverContent, RecoverTrack, RecoverRelock, RecoverContentRelock, Check}
 use Rattle.capture_commands.specs.Listings.{link_listing, content_listing, check_listing}
 use Rattle.capture_commands.specs.Listers.{after_link, last_link, link_is_text, after_content, content_is_text, after_check, last_check, check_is_text}
+use Rattle.hdmi_cli.specs.Headline.{Aligns, StaysAligned}
 use Rattle.hdmi_cli.proofs.Ends.{says}
 use Rattle.hdmi_cli.proofs.Exact.{check_is_exact}
 use Rattle.hdmi_cli.proofs.Headline.{headlined, headlined_anywhere, dvi_headlined, recovered}
@@ -17,7 +18,7 @@ use Rattle.hdmi_cli.proofs.RelayHeadline.{relay_headlined}
 use Rattle.hdmi_cli.proofs.RelayLocal.{relayed_locally}
 use Rattle.hdmi_cli.proofs.RelaySettles.{relay_agrees, relay_settles}
 use Rattle.capture_commands.proofs.Taken.{run_refused, run_wants}
-use Rattle.hdmi_cli.proofs.TrackHeadline.{tracks_as_link, relocks_as_link, relocks_as_content}
+use Rattle.hdmi_cli.proofs.TrackHeadline.{stays_aligns, tracks_as_link, relocks_as_link, relocks_as_content}
 use Rattle.hdmi_cli.proofs.TrackLocal.{tracked_locally}
 use Rattle.hdmi_cli.proofs.TrackSlip.{tracked_across, relocked_across, content_relocked_across}
 use Rattle.hdmi_cli.proofs.TrackPasses.{tracked_as_one, relocked_as_one, content_relocked_as_one}
@@ -64,9 +65,9 @@ returns g c =
         headline_anywhere = headlined_anywhere words ending before after status ends known;
         headline_local = headlined_locally link_listing after_link last_link link_is_text RecoverLink (λ bytes o does. does) words ending before after status ends known;
         check_exact = check_is_exact words before after status (note_of ending) s;
-        content_headline = recovered content_listing RecoverContent (λ t tapped aligns o does. does) words ending before after status ends known;
-        pictures = pictured RecoverContent (λ t tapped aligns o does. does) words ending before after status ends known;
-        packets = packeted RecoverContent (λ t tapped aligns o does. does) words ending before after status ends known;
+        content_headline = recovered Aligns (λ t aligns. aligns) content_listing RecoverContent (λ t tapped aligns o does. does) words ending before after status ends known;
+        pictures = pictured Aligns (λ t aligns. aligns) RecoverContent (λ t tapped aligns o does. does) words ending before after status ends known;
+        packets = packeted Aligns (λ t aligns. aligns) RecoverContent (λ t tapped aligns o does. does) words ending before after status ends known;
         content_local = headlined_locally content_listing after_content last_link content_is_text RecoverContent (λ bytes o does. does) words ending before after status ends known;
         check_local = headlined_locally check_listing after_check last_check check_is_text Check (λ bytes o does. does) words ending before after status ends known;
         pictures_local = pictured_locally words ending before after status ends known;
@@ -75,17 +76,17 @@ returns g c =
         biphase_headline = sounded words ending before after status ends known;
         dvi_headline = dvi_headlined words ending before after status ends known;
         dvi_local = dvi_headlined_locally words ending before after status ends known;
-        track_headline = recovered link_listing RecoverTrack tracks_as_link words ending before after status ends known;
+        track_headline = recovered Aligns (λ t aligns. aligns) link_listing RecoverTrack tracks_as_link words ending before after status ends known;
         track_local = tracked_locally words ending before after status ends known;
         track_slip = tracked_across words ending before after status ends known;
         track_slip_passes = tracked_as_one words ending before after status ends known;
-        relock_headline = recovered link_listing RecoverRelock relocks_as_link words ending before after status ends known;
+        relock_headline = recovered StaysAligned stays_aligns link_listing RecoverRelock relocks_as_link words ending before after status ends known;
         relock_slip = relocked_across words ending before after status ends known;
         relock_slip_passes = relocked_as_one words ending before after status ends known;
         relock_again = relocked_again words ending before after status ends known;
-        content_relock_headline = recovered content_listing RecoverContentRelock relocks_as_content words ending before after status ends known;
-        content_relock_pictures = pictured RecoverContentRelock relocks_as_content words ending before after status ends known;
-        content_relock_packets = packeted RecoverContentRelock relocks_as_content words ending before after status ends known;
+        content_relock_headline = recovered StaysAligned stays_aligns content_listing RecoverContentRelock relocks_as_content words ending before after status ends known;
+        content_relock_pictures = pictured StaysAligned stays_aligns RecoverContentRelock relocks_as_content words ending before after status ends known;
+        content_relock_packets = packeted StaysAligned stays_aligns RecoverContentRelock relocks_as_content words ending before after status ends known;
         content_relock_slip = content_relocked_across words ending before after status ends known;
         content_relock_slip_passes = content_relocked_as_one words ending before after status ends known;
         content_relock_again = content_relocked_again words ending before after status ends known;
