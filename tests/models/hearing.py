@@ -309,8 +309,8 @@ class Frames:
 
 
 def contents(events):
-    """The lines of the content of what is told, each with its first column; the line of a slip or of a refuted alignment stands where it
-    is, and changes nothing."""
+    """The lines of the content of what is told, each with its first column; the line of a slip or of an alignment let go stands where
+    it is, and changes nothing."""
     frames, packet = Frames(), 0
     for at, (first, line) in enumerate(events):
         if line.startswith((b"! slip ", b"! relock ")):

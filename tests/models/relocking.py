@@ -1,5 +1,5 @@
 """A small model of `recover relock` and `recover content relock`: the epochs of lanes whose first alignment is used only where a period
-opens at its edges, and until other edges refute it."""
+opens at its edges, and until other edges refute it or doubt it twice in a row."""
 import bisect
 import itertools
 
@@ -26,14 +26,14 @@ def edges(bits, places, start):
 
 
 def triples(rows):
-    """The edges of three lanes, any two near each other, in the order of the greatest of them."""
+    """The edges of three lanes, any two near each other, once each and in the order of the greatest of them."""
     for last, lane in sorted((edge, lane) for lane, row in enumerate(rows) for edge in row):
         near = [
             row[bisect.bisect_left(row, last - NEAR) : bisect.bisect_right(row, last)] if at != lane else [last]
             for at, row in enumerate(rows)
         ]
         for triple in itertools.product(*near):
-            if max(triple) - min(triple) <= NEAR:
+            if max(triple) - min(triple) <= NEAR and triple.index(last) == lane:
                 yield triple
 
 
@@ -53,37 +53,59 @@ def is_announced(lanes, triple):
     return counts and any(here == 3 and after >= 2 for here, after in counts)
 
 
-def is_rival(lanes, own, triple):
-    """Whether a guard band is received whole at edges that are later than the alignment's, at another skew."""
-    apart = [edge - place for edge, place in zip(triple, own)]
-    return min(apart) > 0 and len({*apart}) > 1 and [3, 3] in (columns_at(lanes, triple) or [])
+def skew_of(triple):
+    """How far the edges of the other lanes are from that of the first."""
+    return [edge - triple[0] for edge in triple]
 
 
-def opens_nothing(lanes, own, triple):
-    """Whether by the alignment a control period ends where the others' does, and the two columns after it open no period."""
+def opened_between(lanes, own, triple):
+    """Where by an alignment a control period ends in the midst of other edges, whether a period opens after it; none where none ends
+    there, or the two columns after it have not all arrived."""
     before = sorted((edge - place) // 10 for edge, place in zip(triple, own))[1]
     places = [place + 10 * before for place in own]
     controls = [
         sum(bits[place + past : place + past + 10] in model.SENT_CONTROL for bits, place in zip(lanes, places)) for past in (-10, 0)
     ]
     counts = columns_at(lanes, places)
-    return counts is not None and controls[0] >= 2 > controls[1] and all(here + after < 5 for here, after in counts)
+    if counts is None or not controls[0] >= 2 > controls[1]:
+        return None
+    return any(here + after >= 5 for here, after in counts)
+
+
+def verdicts(lanes, own, later):
+    """What edges after those of an alignment say of it where a guard band is received whole at them: those of its skew uphold it; those of
+    another doubt it where by it a control period ends in their midst, and refute it where nothing opens after that."""
+    for triple in triples(later):
+        if [3, 3] not in (columns_at(lanes, triple) or []):
+            continue
+        if skew_of(triple) == skew_of(own):
+            yield triple, "upheld"
+        elif (is_opened := opened_between(lanes, own, triple)) is not None:
+            yield triple, "doubted" if is_opened else "refuted"
+
+
+def let_go(lanes, own, later):
+    """The first edges that refute an alignment, or doubt it as those before them did, at the same skew; none where none do."""
+    last = None
+    for triple, said in verdicts(lanes, own, later):
+        if said == "refuted" or (said == "doubted" and last == (said, skew_of(triple))):
+            return triple
+        last = said, skew_of(triple)
+    return None
 
 
 def end_of_alignment(lanes, rows):
-    """Where what shows the alignment unconfirmed or refuted ends, where the epoch ends then, and the fault line of that; none where
-    nothing does."""
+    """Where what shows the alignment unconfirmed, refuted or doubted twice in a row ends, where the epoch ends then, and the fault line of
+    that; none where nothing does."""
     own = next(triples(rows), None)
     if not own or is_announced(lanes, own) is None:
         return None
     if not is_announced(lanes, own):
         return max(own) + 20, min(own) - 119, b""
-    later = [row[bisect.bisect_right(row, edge) :] for row, edge in zip(rows, own)]
-    for triple in triples(later):
-        if is_rival(lanes, own, triple) and opens_nothing(lanes, own, triple):
-            shown = max(triple) + 90, min(triple) - 120, b"! relock %d\n" % (min(triple) - 120)
-            return shown if shown[0] <= max(map(len, lanes)) else None
-    return None
+    triple = let_go(lanes, own, [row[bisect.bisect_right(row, edge) :] for row, edge in zip(rows, own)])
+    if not triple or max(triple) + 90 > max(map(len, lanes)):
+        return None
+    return max(triple) + 90, min(triple) - 120, b"! relock %d\n" % (min(triple) - 120)
 
 
 def epochs(lanes):

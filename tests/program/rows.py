@@ -59,6 +59,21 @@ def refuted(program):
     yield "recover content relock of them", run(program, FURTHER[5], hurt), (1, b"! code 2 30\n! relock 620\nend\n", b"")
 
 
+def doubted(program):
+    """Lane 2 loses one whole character, so that lines open by the alignment in use too: the first guard band at the other skew leaves it,
+    and the second lets it go; where it was kept all lines from there on were wrong, as `recover track` has them."""
+    head, rest = b"c 00 4\nc 04 8\nv " + b"000000" * 29, b"c 04 8\nv 102030\nc 00 12\nend\n"
+    made = run(program, ["make", "link"], head + b"000000\nc 00 16\nc 04 8\nv 00ff00ff0000\nc 00 28\n" + rest)[1]
+    hurt = run(program, ["slip", "2:300:1"], run(program, ["slip", "2:300:9"], made)[1])[1]
+    faults = b"! code 2 30\n", b"! word 2 67\n", b"! guard 69\n", b"! code 2 70\n"
+    head += b"fd0000\n%bc 00 16\n%bc 04 8\n%bv ffff00fd0000\n%b" % faults
+    wanted = head + b"c 00 23\n! relock 950\nc 00 4\n" + rest
+    yield "recover relock of a lost character", run(program, ["recover", "relock"], hurt), (1, wanted, b"")
+    yield "recover content relock of it", run(program, FURTHER[5], hurt), (1, b"".join(faults) + b"! relock 950\nend\n", b"")
+    wanted = head + b"c 00 28\n! word 2 107\nc 04 8\n! guard 109\nv fd2030\n! code 2 110\nc 00 11\nend\n"
+    yield "recover track of it", run(program, ["recover", "track"], hurt), (1, wanted, b"")
+
+
 def marginal(program):
     """A damaged control character ends the first control period too early on one lane: the alignment there is not confirmed."""
     listing = b"c 00 22\nc 04 8\nv ff0000\nc 00 12\nc 04 8\nv ff0000\nc 00 12\nend\n"
@@ -219,4 +234,4 @@ def usual(program):
     yield "no alignment", run(program, ["recover", "link"], b"TMC1\0\0\0\0"), (7, b"", b"no alignment\n")
 
 
-TABLES = (usual, wide, slipped, refuted, marginal, torn, sound, relayed, dvi)
+TABLES = (usual, wide, slipped, refuted, doubted, marginal, torn, sound, relayed, dvi)
