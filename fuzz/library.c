@@ -2,7 +2,7 @@
 ** A fuzzer of the C library for libFuzzer. The input is a row of calls: a byte says which, and for a feed three more bytes say how many
 ** bits each lane has, whose bytes follow. Room is as large as the second byte of the input says. What no input may break: each call
 ** answers a status that its state allows; what it says that it wrote lies within the room; events come in the order of their columns, of
-** lanes that may lose bits between two slips or refuted alignments, and one after another in the buffer; a feed takes no more bits than it
+** lanes that may lose bits between two slips or alignments let go, and one after another in the buffer; a feed takes no more bits than it
 ** is given.
 **
 **     clang -g -O1 -fsanitize=fuzzer,address,undefined -I library fuzz/library.c DIR/libvabgrot.a -o fuzzer && ./fuzzer -max_total_time=60

@@ -69,13 +69,14 @@ enum vabgrot_status {
 ** searched anew one epoch ends, with what is left of it (a run or VABGROT_CUT), and the next begins. Once an epoch was aligned its end
 ** is an event, VABGROT_SLIP or VABGROT_RELOCKED, but the end of an epoch of VABGROT_RELOCK whose alignment no guard band confirmed: of
 ** such a one nothing is reported at all. So events do not number the epochs; vabgrot_finish counts them. A lane that loses whole characters
-** does not slip: its bits are faults from there on, or VABGROT_RELOCKED where the alignment is refuted.
+** does not slip: its bits are faults from there on, or VABGROT_RELOCKED where the alignment is let go: a later guard band at another skew
+** refuted it, or two in a row doubted it.
 */
 enum vabgrot_kind {
   VABGROT_LINK = 0,  /* a link with guard bands and preambles (HDMI 1.4, chapter 5) */
   VABGROT_DVI = 1,   /* one without them: a line begins with its first pixel (DVI 1.0) */
   VABGROT_TRACK = 2, /* a link whose lanes may lose bits: where one does the lanes are searched anew */
-  VABGROT_RELOCK = 3 /* the same, from an alignment that a guard band confirms, as long as no later one refutes it */
+  VABGROT_RELOCK = 3 /* the same, from an alignment that a guard band confirms, until a later one refutes it or two in a row doubt it */
 };
 
 /*
@@ -151,7 +152,7 @@ enum vabgrot_event_kind {
   ** not told. From that bit of each lane on the lanes are searched anew; bits are counted from 0 at the first that was fed. Of several
   ** lanes that lost some by then it is the one that shows it first, of equals the least. Its `column` is 0, and it has no bytes. */
   VABGROT_SLIP = 19,
-  /* The alignment was refuted by a later one: from bit `named` of each lane on they are searched anew. As VABGROT_SLIP. */
+  /* The alignment was let go for another skew: from bit `named` of each lane on they are searched anew. As VABGROT_SLIP. */
   VABGROT_RELOCKED = 20
 };
 

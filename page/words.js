@@ -1222,7 +1222,7 @@ export const FAULTS = {
   },
   "relock": {
     "row": "slip",
-    "says": "a later guard band refuted the alignment; from here on the lanes were searched anew",
+    "says": "the alignment was let go, since later guard bands came at another skew; from here on the lanes were searched anew",
     "isDense": false,
     "isOfSkew": false
   }

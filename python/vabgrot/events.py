@@ -169,7 +169,7 @@ class Slip:
 
 @dataclass(frozen=True, slots=True)
 class Relocked:
-    """The alignment was refuted by a later one: from bit `place` of each lane on the lanes are searched anew. As Slip."""
+    """The alignment was let go for another skew: from bit `place` of each lane on the lanes are searched anew. As Slip."""
 
     kind: ClassVar[Kind] = Kind.RELOCKED
     column: int

@@ -32,7 +32,7 @@ Fields = tuple[str | int | bytes, ...]
 
 
 class Thing(NamedTuple):
-    """A line of a link listing: `kind` is control, video, open, packet, close, fault, slip (of a lane, or an alignment that was refuted)
+    """A line of a link listing: `kind` is control, video, open, packet, close, fault, slip (of a lane, or an alignment that was let go)
     or cut. `column` is counted from the first column of its epoch on, `at` from the first of all; `is_exact` says whether both are
     certain, and `is_guess` whether they are likely though not certain. The pixels of a line are digits, or bytes where no text was read."""
 

@@ -72,7 +72,7 @@ class Receiver:
     """A receiver of a link, or of one without guard bands and preambles (`kind="dvi"`). It is fed the raw bits of three lanes, of any
     offset and up to 70 bits of skew between them, the first bit of a byte lowest; what each call answers is proved to be the events of
     all bits that were fed (docs/proof/PROVED.md). With `kind="track"` the lanes may lose bits, and are searched anew where one did, which
-    is a Slip; with `kind="relock"` they are so too where their alignment is refuted, which is a Relocked. Calls of several threads wait
+    is a Slip; with `kind="relock"` they are so too where their alignment is let go, which is a Relocked. Calls of several threads wait
     for one another. Raises ValueError where there is no such kind or too little room, NoLibrary where the C library is missing or has no
     such kind, MemoryError, and of each call Misuse where it does not fit the calls before it: then it did nothing.
 

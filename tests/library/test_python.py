@@ -189,7 +189,7 @@ def packed(rows):
 
 
 def test_a_slip():
-    """Of the guide's listing: columns are counted anew behind it; and what is a refuted alignment there."""
+    """Of the guide's listing: columns are counted anew behind it; and what is an alignment let go there."""
     lanes, bits = packed(slipped((2, 300, 3)))
     wanted = [Run(4, 0, 4), Run(12, 4, 8), Cut(43, 14), Slip(0, 2, 437), Run(4, 0, 4), Run(12, 4, 8), Line(15, b"\xff\0\0"), Run(27, 0, 12)]
     for kind in EPOCHS:

@@ -78,7 +78,8 @@ def test_slips():
     assert (slip, relocked) == (Slip(0, 2, 437), Relocked(0, 620)) and (slip.kind, relocked.kind) == (Kind.SLIP, Kind.RELOCKED)
     assert (slip.line, relocked.line) == ("! slip 2 437", "! relock 620")
     assert str(slip) == "bit 437 on lane 2 (red): slip, a lane lost bits; from here on the lanes were searched anew"
-    assert str(relocked) == "bit 620: relock, a later guard band refuted the alignment; from here on the lanes were searched anew"
+    said = "relock, the alignment was let go, since later guard bands came at another skew; from here on the lanes were searched anew"
+    assert str(relocked) == f"bit 620: {said}"
     assert not isinstance(slip, Fault) and [*Arrays(np.array(LEFT, RECORD), b"").events()] == EVENTS
 
 

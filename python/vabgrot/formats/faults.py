@@ -82,7 +82,11 @@ LINK = _by_kind(
         hurts_picture=True,
     ),
     Fault("slip", "slip", "a lane lost bits; from here on the lanes were searched anew", has_lane=True),
-    Fault("relock", "slip", "a later guard band refuted the alignment; from here on the lanes were searched anew"),
+    Fault(
+        "relock",
+        "slip",
+        "the alignment was let go, since later guard bands came at another skew; from here on the lanes were searched anew",
+    ),
 )
 CONTENT = {
     fault.kind: fault

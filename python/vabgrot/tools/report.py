@@ -45,7 +45,7 @@ PAGE = Path(bursts.__file__).resolve().parent / "page"
 SCRIPTS = ("tables.js", "sound.js", "report.js", "start.js")
 PLACES = ("on lane 0 (blue)", "on lane 1 (green)", "on lane 2 (red)", "of no lane")
 BLOCKS = ("body 0", "body 1", "body 2", "body 3", "header")
-ENDS = {"vsync": "whole", "slip": "broken off by a slip", "relock": "broken off where the alignment was refuted"}
+ENDS = {"vsync": "whole", "slip": "broken off by a slip", "relock": "broken off where the alignment was let go"}
 ENDS |= {"end": "broken off by the end of the capture"}
 EXAMPLES = """./vabgrot make content < examples/bars.content > bars.tmc
 tools/report bars.tmc -o bars.html"""
@@ -177,23 +177,23 @@ def bits_of(bits: list[int]) -> str:
 
 
 class Slips(NamedTuple):
-    """What became of the slips and the refuted alignments, in words: how many times the lanes were aligned anew, and from which place on
+    """What became of the slips and the alignments that were let go, in words: how many times the lanes were aligned anew, and from which place on
     not; and what is not shown."""
 
     number: int
-    refuted: int
+    let_go: int
     aligned: str
     hidden: str
 
     def __str__(self) -> str:
-        both = ("slip", self.number), ("refuted alignment", self.refuted)
-        told = " and ".join(f"{many:,} {name}{'s' * (many > 1)}" for name, many in both if many)
+        both = (self.number, "slip", ""), (self.let_go, "alignment", " let go")
+        told = " and ".join(f"{many:,} {name}{'s' * (many > 1)}{more}" for many, name, more in both if many)
         says = f"{told}, {self.aligned}"
         return f"{says}: {self.hidden} not shown" if self.hidden else says
 
 
 def slips_of(found: Found, bits: list[int]) -> Slips | None:
-    """What became of the slips and of the refuted alignments; None where there are none."""
+    """What became of the slips and of the alignments that were let go; None where there are none."""
     epochs = found.epochs[1:]
     if not epochs:
         return None
@@ -208,8 +208,8 @@ def slips_of(found: Found, bits: list[int]) -> Slips | None:
         start = epochs[last].place
         aligned.append(f"none from place {start:,} on")
         hidden.append(bits_of([max(0, count - start) for count in bits]))
-    refuted = found.counts["relock", None]
-    return Slips(len(epochs) - refuted, refuted, ", ".join(aligned), f"{' and '.join(hidden)} are" if hidden else "")
+    let_go = found.counts["relock", None]
+    return Slips(len(epochs) - let_go, let_go, ", ".join(aligned), f"{' and '.join(hidden)} are" if hidden else "")
 
 
 def is_faulty(found: Found, run: Reading) -> bool:
@@ -334,7 +334,7 @@ def counts_of(found: Found, bits: list[int], size: int, slips: Slips | None, cha
         ("capture", f"{size / 1e6:,.1f} MB" if size >= 1e6 else f"{size:,} bytes", bits_of(bits)),
     ]
     if slips:
-        both = ("slips", slips.number), ("refuted alignments", slips.refuted)
+        both = ("slips", slips.number), ("alignments let go", slips.let_go)
         counts[1:1] = [(name, f"{many:,}", slips.aligned) for name, many in both if many]
     if found.content_counts.total():
         counts.insert(1, ("contents", f"{found.content_counts.total():,}", "faults of what was carried"))

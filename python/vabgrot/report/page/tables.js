@@ -108,7 +108,7 @@ function faultText(fault) {
   const [kind, lane, more] = [data.faults.kind[fault], data.faults.lane[fault], data.faults.more[fault]];
   if (kind === "slip" || kind === "relock") {
     const isAligned = data.alignments[data.faults.epoch[fault] + 1];
-    const what = kind === "slip" ? `slip of ${LANES[lane]}, found` : "alignment refuted, and searched anew";
+    const what = kind === "slip" ? `slip of ${LANES[lane]}, found` : "alignment let go, and searched anew";
     return `${what} at bit ${count(more[0])}${kind === "slip" ? " of it" : ""}, ${isAligned ? "aligned anew" : "not aligned anew"}`;
   }
   if (kind === "symbols") return `symbols: ${more[0]} of 96 characters`;
