@@ -177,8 +177,8 @@ def bits_of(bits: list[int]) -> str:
 
 
 class Slips(NamedTuple):
-    """What became of the slips and the alignments that were let go, in words: how many times the lanes were aligned anew, and from which place on
-    not; and what is not shown."""
+    """What became of the slips and the alignments that were let go, in words: how many times the lanes were aligned anew, and from which
+    place on not; and what is not shown."""
 
     number: int
     let_go: int
