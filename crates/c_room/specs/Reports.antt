@@ -1,4 +1,4 @@
--- What a receiver of each kind reports: a link's events, and of lanes that may lose bits slips and refuted alignments between them.
+-- What a receiver of each kind reports: a link's events, and of lanes that may lose bits slips and alignments that were let go between them.
 use Rattle.std.specs.Prelude.{◌≡◌, ℕ, List, ◌++◌, cond}
 use Rattle.period_grammar.specs.Events.{Event, EventAt, all_at}
 use Rattle.link_sink.specs.Grammar.{Grammar, link_grammar}

@@ -1,17 +1,17 @@
--- Events of lanes that may lose bits as C sees them: a record of each, of each slip and of each refuted alignment.
+-- Events of lanes that may lose bits as C sees them: a record of each, of each slip and of each alignment that was let go.
 use Rattle.std.specs.Prelude.{◌≡◌, ◌⊎◌, ℕ, ◌+◌, ◌<◌, ◌≤◌, List, [], ◌∷◌, ◌++◌, length, take, map}
 use Rattle.track_sink.specs.TrackEvents.{TrackEvent, TrackEventAt, event, slip, relock, track_event_of}
 use Rattle.c_room.specs.declared.record.Record.{Record}
 use Rattle.c_room.specs.declared.room.EventRoom.{EventRoom}
 use Rattle.c_room.specs.Written.{says, event_bytes, event_row, row, Wrote}
 
--- a slip and a refuted alignment have no bytes
+-- a slip and an alignment that was let go have no bytes
 abbrev pub track_event_bytes : TrackEvent → List ℕ
 track_event_bytes (event t) = event_bytes t
 track_event_bytes (slip lane place) = []
 track_event_bytes (relock place) = []
 
--- the record of an event whose bytes begin at an offset; a slip names its place and its lane, a refuted alignment its place
+-- the record of an event whose bytes begin at an offset; a slip names its place and its lane, an alignment that was let go its place
 abbrev pub track_row : ℕ → TrackEventAt → Record
 track_row offset (event t) = event_row offset t
 track_row offset (slip lane place) = row 0 offset 0 (says 19 place 0 lane 0)

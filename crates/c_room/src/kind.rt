@@ -11,7 +11,7 @@ pub enum Kind {
     Dvi,
     /// A link whose lanes may lose bits: where one does they are searched anew.
     Track,
-    /// The same, from an alignment that a guard band confirms, and as long as none refutes it.
+    /// The same, from an alignment that a guard band confirms, until another one refutes it or two in a row doubt it.
     Relock,
 }
 

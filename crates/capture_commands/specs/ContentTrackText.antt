@@ -1,5 +1,5 @@
 -- The text of the content of what is reported of lanes that may lose bits: the lines of its events as of one stream, whatever slips
--- and refuted alignments lie between, and a line for each of these where it stands.
+-- and alignments that were let go lie between, and a line for each of these where it stands.
 use Rattle.std.proofs.Common.{◌≡◌, ◌∙◌, ℕ, suc, ◌+◌, List, [], ◌∷◌, ◌++◌, refl, ap, sym, append-nil, append_assoc, arith}
 use Rattle.std.specs.Prelude.{codes}
 use Rattle.period_grammar.specs.Events.{Event}
@@ -25,7 +25,7 @@ content_track_lines past (relock place ∷ track_events) = relock_text place ++ 
 unfoldable pub content_track_text : List TrackEvent → List ℕ
 content_track_text track_events = content_track_lines [] track_events ++ codes "end\n"
 
--- how many of these lines are fault lines: each slip's and each refuted alignment's is one
+-- how many of these lines are fault lines: that of each slip and that of each alignment that was let go is one
 unfoldable pub content_track_faults : List Event → List TrackEvent → ℕ
 content_track_faults past [] = 0
 content_track_faults past (event t ∷ track_events) = fault_line_count (lines_at past t) + content_track_faults (past ++ t ∷ []) track_events

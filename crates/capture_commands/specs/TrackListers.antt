@@ -1,4 +1,4 @@
--- What is reported to a lister of lanes that may lose bits and what it writes: the lines of the events, slips and refuted alignments,
+-- What is reported to a lister of lanes that may lose bits and what it writes: the lines of the events, slips and alignments that were let go,
 -- each after those before, and a last line.
 use Rattle.std.proofs.Common.{◌≡◌, ◌∙◌, ℕ, ◌<◌, List, [], ◌∷◌, ◌++◌, length, take, refl, ap, sym, subst, append_assoc, append-nil, arith}
 use Rattle.std.specs.Prelude.{Option, Result, Ok, Err, OnOk, OnErr, codes}

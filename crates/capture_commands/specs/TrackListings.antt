@@ -5,7 +5,7 @@ use Rattle.capture_commands.specs.TrackText.{track_faults, track_lines, track_te
 use Rattle.capture_commands.specs.ContentTrackText.{content_track_faults, content_track_lines, content_track_text}
 
 -- how it is listed: the lines of what is reported so far, the whole text of all that is reported, and how many of the lines are
--- of faults, slips and refuted alignments
+-- of faults, slips and alignments that were let go
 pub record TrackListing : Type 0 where
   pub lines : List TrackEvent → List ℕ
   pub text : List TrackEvent → List ℕ

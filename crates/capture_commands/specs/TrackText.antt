@@ -1,5 +1,5 @@
 -- The text of what is reported of lanes that may lose bits: the lines of a link listing, and a line for each slip and each
--- alignment that was refuted.
+-- alignment that was let go.
 use Rattle.std.proofs.Common.{◌≡◌, ◌∙◌, ℕ, ◌+◌, Bool, true, List, [], ◌∷◌, ◌++◌, refl, ap, sym, subst, append-nil, arith}
 use Rattle.std.specs.Prelude.{codes, count_by, Option, Result, Ok, Err, OnOk}
 use Rattle.std.specs.List.{flat_map}
@@ -118,7 +118,7 @@ counted_events x y h is = is ∙ sym (ap (λ (n : ℕ). counted x n) (event_faul
 pub events_counted : (x y : ℕ) (h : List Event) → y ≡ counted x (track_faults (track_events_of h)) → y ≡ counted x (fault_lines h)
 events_counted x y h is = is ∙ ap (λ (n : ℕ). counted x n) (event_faults h)
 
--- the line of a slip or of a refuted alignment that was written and counted is an event that was
+-- the line of a slip or of an alignment that was let go, written and counted, is an event that was
 
 pub line_tracked : {E N : Type 0} (r : Result (Unit {0}) E) (e : TrackEvent) (x y : ℕ) (a b : Option (List ℕ)) → track_faults (e ∷ []) ≡ 1 → N → OnOk r (y ≡ counted x 1) → OnOk r (Appends a b (track_event_text e))
     → OnOk r (N × (y ≡ counted x (track_faults (e ∷ []))) × Appends a b (track_lines (e ∷ [])))

@@ -34,7 +34,7 @@ use Rattle.relock_laws.proofs.SkewColumns.{same_skew_is_accounted}
 use Rattle.capture_commands.specs.Endings.{Devices, RunEnds, Unless, status_of}
 use Rattle.capture_commands.specs.Notes.{alignment_note}
 use Rattle.capture_commands.specs.Outcome.{Does, RunOutcome, TracksLanes, TracksCapture, status_with}
-use Rattle.hdmi_cli.specs.RelockAgain.{AgainStream, ComesAgain, columns_from, EndsWithAll, EndsWithLater, IsKept, IsRelockedAgain}
+use Rattle.hdmi_cli.specs.RelockAgain.{AgainStream, ComesAgain, columns_from, EndsWithAll, EndsWithLater, IsKeptThere, IsRelockedAgain}
 use Rattle.capture_commands.specs.TrackListings.{TrackListing, content_track_listing, link_track_listing}
 use Rattle.capture_commands.specs.declared.ending.Ending.{Ending}
 use Rattle.hdmi_cli.proofs.Headline.{run_ended}
@@ -189,9 +189,9 @@ again listing t comes o old new tracks written =
     let r = law.2.2 in
     let settled = law.2.3 in
     let calm = calm_again t.periods t.sent t.received t.offset t.skews t.counts t.tapped t.lanes t.before t.a t.blue t.green t.red comes.again in
-    let last : HaveSameSkew p q r t.blue t.green t.red → IsKept t start p → IsLastUnrefuted (rest_of start t.lanes) =
+    let last : HaveSameSkew p q r t.blue t.green t.red → IsKeptThere t start p → IsLastUnrefuted (rest_of start t.lanes) =
     λ same kept. same_skew_is_last t.periods t.sent t.received t.offset t.skews t.counts t.tapped t.lanes t.before t.a t.blue t.green t.red comes.again kept.0 start p q r settled same kept.1 in
-    let text : HaveSameSkew p q r t.blue t.green t.red → IsKept t start p → IsListed listing (columns_from t start p q r) old new =
+    let text : HaveSameSkew p q r t.blue t.green t.red → IsKeptThere t start p → IsListed listing (columns_from t start p q r) old new =
     λ same kept. listed listing t.lanes start p q r law.1 settled.first (last same kept) o old new tracks written in
     record {
       start = start;

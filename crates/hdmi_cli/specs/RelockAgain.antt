@@ -64,8 +64,8 @@ pub record EndsWithLater (listing : TrackListing) (t : AgainStream) (columns : L
 
 -- damage spares one of any two control periods in a row from that one on; and an epoch is aligned there, or the guard band there was
 -- received whole
-abbrev pub IsKept : AgainStream → (start edge_blue : ℕ) → Type 0
-IsKept t start edge_blue =
+abbrev pub IsKeptThere : AgainStream → (start edge_blue : ℕ) → Type 0
+IsKeptThere t start edge_blue =
     OneOfTwoIsSpared t.periods t.sent t.received (t.a + 12) × ((start + edge_blue ≡ t.blue) ⊎ IsWholeGoodPeriod t.lanes t.blue t.green t.red)
 
 -- An epoch has the last twelve of these characters, and does not end before them; it is aligned at that control period, or before it
@@ -79,9 +79,9 @@ pub record IsRelockedAgain (listing : TrackListing) (t : AgainStream) (old new :
   pub edge_green : ℕ
   pub edge_red : ℕ
   pub settled : IsSettledBy refuting_rule t.lanes t.blue t.green t.red start edge_blue edge_green edge_red
-  pub last : HaveSameSkew edge_blue edge_green edge_red t.blue t.green t.red → IsKept t start edge_blue → IsLastUnrefuted (rest_of start t.lanes)
+  pub last : HaveSameSkew edge_blue edge_green edge_red t.blue t.green t.red → IsKeptThere t start edge_blue → IsLastUnrefuted (rest_of start t.lanes)
   pub written :
-      HaveSameSkew edge_blue edge_green edge_red t.blue t.green t.red → IsKept t start edge_blue
+      HaveSameSkew edge_blue edge_green edge_red t.blue t.green t.red → IsKeptThere t start edge_blue
       → (n : ℕ) × (start + edge_blue + 10 * n ≡ t.blue) × EndsWithLater listing t (columns_from t start edge_blue edge_green edge_red) n old new
   pub written_there :
       start + edge_blue ≡ t.blue → OneOfTwoIsSpared t.periods t.sent t.received (t.a + 12)

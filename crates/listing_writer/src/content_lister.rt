@@ -67,7 +67,7 @@ impl<'a, K: Sink> ContentLister<'a, K> {
         Ok(())
     }
 
-    /// Writes the line of an alignment that was refuted, which is a fault line: the place of the capture from which on the lanes
+    /// Writes the line of an alignment that was let go, which is a fault line: the place of the capture from which on the lanes
     /// are searched anew. What is kept of events stays. Where the sink fails, a part of the line is written, and nothing is counted.
     pub fn relock(&mut self, place: u64) -> Result<(), Failed>
         ensures same { self.new.sink.ghost_name ≡ self.old.sink.ghost_name }

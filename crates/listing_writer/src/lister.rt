@@ -42,7 +42,7 @@ impl<'a, K: Sink> LinkLister<'a, K> {
     }
 
     /// How many fault lines were written whole: one for each fault that was reported to it, and one for each slip
-    /// and each alignment that was refuted. The count stands still at the greatest u64.
+    /// and each alignment that was let go. The count stands still at the greatest u64.
     pub fn faults(&self) -> u64
         ensures { result ≡ self.now.faults }
     {
@@ -64,7 +64,7 @@ impl<'a, K: Sink> LinkLister<'a, K> {
         Ok(())
     }
 
-    /// Writes the line of an alignment that was refuted, which is a fault line: the place of the capture from which on the lanes
+    /// Writes the line of an alignment that was let go, which is a fault line: the place of the capture from which on the lanes
     /// are searched anew. Where the sink fails, a part of the line is written, and nothing is counted.
     pub fn relock(&mut self, place: u64) -> Result<(), Failed>
         ensures same { self.new.sink.ghost_name ≡ self.old.sink.ghost_name }

@@ -9,7 +9,7 @@ pub data TrackEventOf (T : Type 0) : Type 0 where
   event : T → TrackEventOf T
   -- a lane lost its characters' places: the lane, and the place of the capture at which the search begins anew
   slip : ℕ → ℕ → TrackEventOf T
-  -- an alignment was refuted: the place of the capture at which the search begins anew
+  -- an alignment was let go: the place of the capture at which the search begins anew
   relock : ℕ → TrackEventOf T
 
 abbrev pub TrackEvent : Type 0
@@ -32,7 +32,7 @@ abbrev pub slip_if : {T : Type 0} → Bool → ℕ → ℕ → List (TrackEventO
 slip_if true lane place = slip lane place ∷ []
 slip_if false lane place = []
 
--- so is a refuted alignment, and an epoch that ends for one has had it
+-- so is an alignment that was let go, and an epoch that ends for one has had it
 abbrev pub relock_if : {T : Type 0} → Bool → ℕ → List (TrackEventOf T)
 relock_if true place = relock place ∷ []
 relock_if false place = []

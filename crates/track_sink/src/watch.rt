@@ -12,7 +12,7 @@ pub enum Cause {
     Slip(u8),
     /// The alignment was not confirmed.
     Unconfirmed,
-    /// The alignment was refuted by a later one.
+    /// The alignment was let go: a later one refuted it, or two in a row doubted it.
     Refuted,
 }
 
