@@ -1,5 +1,5 @@
 -- Control words have seven transitions in a row after their first bit, and no run begins in steps where none are.
-use Rattle.std.proofs.Common.{◌≡◌, ℕ, ◌+◌, ◌-◌, ◌*◌, ◌/◌, ◌%◌, ◌^◌, ◌<◌, ◌≤◌, min, Bool, true, false, not, List, take, drop, nat_eq, slice_index, refl, ap, ap₂, ◌∙◌, sym, subst, arith, inl, inr, ◌==◌, ◌||◌, bit_and, bit_xor, eqb-true}
+use Rattle.std.proofs.Common.{◌≡◌, ℕ, ◌+◌, ◌-◌, ◌*◌, ◌/◌, ◌%◌, ◌^◌, ◌<◌, ◌≤◌, min, Bool, true, false, not, List, take, drop, nat_eq, nat_lt, slice_index, refl, ap, ap₂, ◌∙◌, sym, subst, arith, inl, inr, ◌==◌, ◌||◌, bit_and, bit_xor, eqb-true}
 use Rattle.std.specs.Int.{bit_at}
 use Rattle.std.proofs.lemmas.Bool.{cases_Bool, cases_lt}
 use Rattle.std.proofs.lemmas.Nat.{field_of, shr-shr}
@@ -13,7 +13,7 @@ use Rattle.lane_align.specs.Search.{control_at, IsOther}
 use Rattle.lane_align.specs.Lanes.{IsRun}
 use Rattle.lane_align.proofs.Calm.{control_is}
 use Rattle.lane_align.proofs.Quick.{quick_none, window_within}
-use Rattle.lane_track.specs.Pairless.{HasNoPair}
+use Rattle.lane_track.specs.Pairless.{HasNoPair, both_halves}
 use Rattle.lane_track.specs.declared.ahead.TheConstants.{BESIDE}
 
 -- what the code computes of eight bits
@@ -138,6 +138,55 @@ unfolding has_bits has_bit
 beside_bit phase k le lt apart =
     or_right (k == phase) (bit (slice_index BESIDE phase) (k + 1)) (λ h. apart (eqb-true k phase h))
     (passes_at 10 (has_bit phase) k (passes_at 11 has_bits phase all_bits (omega arith)) lt)
+
+unfoldable is_few : ℕ → Bool
+is_few phase = nat_lt (slice_index BESIDE phase) (2 ^ 32)
+
+all_few : passes_below 11 is_few ≡ true
+unfolding passes_below is_few
+all_few = refl
+
+pub beside_few : (phase : ℕ) → phase ≤ 10 → slice_index BESIDE phase < 2 ^ 32
+unfolding is_few
+beside_few phase le = grind (arith, passes_at 11 is_few phase all_few (omega arith))
+
+-- Two steps at a time.
+
+-- the lower half of a number decides what stands in it
+low_at : (n w k : ℕ) → w + k ≤ 32 → n % 2 ^ 32 / 2 ^ k % 2 ^ w ≡ n / 2 ^ k % 2 ^ w
+low_at n w k le =
+    let j = 32 - k - w in
+    let sum : (j + w) + k ≡ 32 = omega arith in
+    ap (λ e. n % 2 ^ e / 2 ^ k % 2 ^ w) (sym sum) ∙ ap (λ m. m % 2 ^ w) (field_of n (j + w) k) ∙ mod-mod-pow (n / 2 ^ k) j w
+
+low_same : (n x w k : ℕ) → n % 2 ^ 32 ≡ x % 2 ^ 32 → w + k ≤ 32 → n / 2 ^ k % 2 ^ w ≡ x / 2 ^ k % 2 ^ w
+low_same n x w k e le = sym (low_at n w k le) ∙ ap (λ m. m / 2 ^ k % 2 ^ w) e ∙ low_at x w k le
+
+-- so does the upper one
+high_same : (n y w k : ℕ) → n / 2 ^ 32 ≡ y % 2 ^ 32 → w + k ≤ 32 → n / 2 ^ (32 + k) % 2 ^ w ≡ y / 2 ^ k % 2 ^ w
+high_same n y w k e le = ap (λ m. m % 2 ^ w) (sym (shr-shr n 32 k)) ∙ ap (λ m. m / 2 ^ k % 2 ^ w) e ∙ low_at y w k le
+
+-- what is not seen of two halves is seen of neither number
+pub neither_seen : (x y mask : ℕ) → mask < 2 ^ 32
+    → ((k : ℕ) → bit (mask + mask * 2 ^ 32) (k + 1) ≡ true → control_at (both_halves x y) k ≡ true → control_at (both_halves x y) (k + 10) ≡ true → ⊥)
+    → ((k : ℕ) → k < 10 → bit mask (k + 1) ≡ true → control_at x k ≡ true → control_at x (k + 10) ≡ true → ⊥)
+    × ((k : ℕ) → k < 10 → bit mask (k + 1) ≡ true → control_at y k ≡ true → control_at y (k + 10) ≡ true → ⊥)
+neither_seen x y mask small none =
+    let n = both_halves x y in
+    let twice = mask + mask * 2 ^ 32 in
+    let nx : n % 2 ^ 32 ≡ x % 2 ^ 32 = omega arith in
+    let ny : n / 2 ^ 32 ≡ y % 2 ^ 32 = omega arith in
+    let tx : twice % 2 ^ 32 ≡ mask % 2 ^ 32 = omega (arith, small) in
+    let ty : twice / 2 ^ 32 ≡ mask % 2 ^ 32 = omega (arith, small) in (
+      (λ k few masked one ten.
+          none k (ap (λ b. b == 1) (low_same twice mask 1 (k + 1) tx (omega arith)) ∙ masked) (ap is_control (low_same n x 10 k nx (omega arith)) ∙ one)
+          (ap is_control (low_same n x 10 (k + 10) nx (omega arith)) ∙ ten)),
+      (λ k few masked one ten.
+          let one_on : 32 + k + 1 ≡ 32 + (k + 1) = omega arith in
+          let ten_on : 32 + k + 10 ≡ 32 + (k + 10) = omega arith in
+          none (32 + k) (ap (bit twice) one_on ∙ ap (λ b. b == 1) (high_same twice mask 1 (k + 1) ty (omega arith)) ∙ masked) (ap is_control (high_same n y 10 k ny (omega arith)) ∙ one)
+          (ap (control_at n) ten_on ∙ ap is_control (high_same n y 10 (k + 10) ny (omega arith)) ∙ ten)),
+    )
 
 -- Ten places at a time.
 

@@ -2,7 +2,7 @@
 ghost use Rattle.std.specs.Prelude.{◌≡◌, ◌<◌, ◌≤◌, ◌+◌, ◌*◌, ◌/◌, ◌%◌, ◌^◌, ◌↔◌, ℕ, true, false, length, drop, MatchOption, slice_index};
 ghost use Rattle.tmds_word.specs.Bits.{bit, bytes_bits, number};
 ghost use Rattle.lane_align.specs.Search.{control_at, IsOther, IsFirstOther};
-ghost use Rattle.lane_track.specs.Pairless.{HasNoPair};
+ghost use Rattle.lane_track.specs.Pairless.{HasNoPair, both_halves};
 
 use lane_align::first_run;
 
@@ -129,22 +129,50 @@ fn phase_from(phase: u32, place: u32) -> u32
 fn first_paired(bytes: &[u8], first: usize, last: usize, mask: u64) -> usize
     requires order { first ≤ last }
     requires room { 10 * last ≤ length bytes.now + 2 }
+    requires mask { mask < 2 ^ 32 }
     ensures after { first ≤ result }
     ensures within { result ≤ last }
     ensures pairless { (at : ℕ) → first ≤ at → at < result → HasNoPair bytes.now mask at }
 {
-    let mut at = first;
+    let mut at = twos_until(bytes, first, last, mask);
     while at < last && !has_turns(eight_bytes(bytes, 10 * at), mask) {
         at += 1;
     }
     at
 }
 
+/// A step from one on before which none has a pair of control characters, looked for two steps at a time.
+#[inline(always)]
+fn twos_until(bytes: &[u8], first: usize, last: usize, mask: u64) -> usize
+    requires order { first ≤ last }
+    requires room { 10 * last ≤ length bytes.now + 2 }
+    requires mask { mask < 2 ^ 32 }
+    ensures after { first ≤ result }
+    ensures within { result ≤ last }
+    ensures pairless { (at : ℕ) → first ≤ at → at < result → HasNoPair bytes.now mask at }
+{
+    let twice = mask + (mask << 32);
+    let mut at = first;
+    while at + 1 < last && !has_turns(two_steps(bytes, at), twice) {
+        at += 2;
+    }
+    at
+}
+
+/// The lower halves of the eight bytes of a step, and of those of the next one, which are all that is looked at of them.
+#[inline(always)]
+fn two_steps(bytes: &[u8], at: usize) -> u64
+    requires { 10 * at + 18 ≤ length bytes.now }
+    ensures { result ≡ both_halves (number (bytes_bits bytes.now) / 2 ^ (8 * (10 * at)) % 2 ^ 64) (number (bytes_bits bytes.now) / 2 ^ (8 * (10 * (at + 1))) % 2 ^ 64) }
+{
+    eight_bytes(bytes, 10 * at) % (1 << 32) + (eight_bytes(bytes, 10 * (at + 1)) << 32)
+}
+
 /// Whether at a place of the mask, and ten places after it, seven transitions in a row begin. After the first bit of
 /// a control word they do.
 #[inline(always)]
 fn has_turns(bits: u64, mask: u64) -> bool
-    ensures { result ≡ false → (k : ℕ) → k < 10 → bit mask (k + 1) ≡ true → control_at bits k ≡ true → control_at bits (k + 10) ≡ true → ⊥ }
+    ensures { result ≡ false → (k : ℕ) → bit mask (k + 1) ≡ true → control_at bits k ≡ true → control_at bits (k + 10) ≡ true → ⊥ }
 {
     let turns = bits ^ (bits >> 1);
     let twos = turns & (turns >> 1);
@@ -156,7 +184,8 @@ fn has_turns(bits: u64, mask: u64) -> bool
 /// The places after those of a step that lie no whole characters from a phase.
 fn beside(phase: u32) -> u64
     requires { phase ≤ 10 }
-    ensures { (k : ℕ) → k < 10 → (k ≡ phase → ⊥) → bit result (k + 1) ≡ true }
+    ensures masked { (k : ℕ) → k < 10 → (k ≡ phase → ⊥) → bit result (k + 1) ≡ true }
+    ensures few { result < 2 ^ 32 }
 {
     BESIDE[phase as usize]
 }

@@ -3,4 +3,4 @@ use Rattle.lane_track.proofs.ahead.has_turns.Goals as goal
 
 pub returns : goal.returns
 unfolding sevens
-returns c = λ nothing k lt mask one ten. none_seen c.args.bits c.args.mask k nothing mask one ten
+returns c = λ nothing k mask one ten. none_seen c.args.bits c.args.mask k nothing mask one ten

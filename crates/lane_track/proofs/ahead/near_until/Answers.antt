@@ -14,6 +14,6 @@ loop-p-preserved c =
       within = omega (arith, c.min-p.ensures);
       whole = λ lt. omega (arith, c.min-p.ensures, lt, whole);
       none =
-          none_near c.args.bytes.now c.eight_bytes.result c.beside-mask.result c.args.from c.loop-p.p c.min-p.result c.args.phase c.eight_bytes.ensures (c.has_turns.ensures c.if-has_turns.false)
-          c.phase_from.result c.beside-mask.ensures same (omega (arith, c.min-p.ensures)) was.none;
+          none_near c.args.bytes.now c.eight_bytes.result c.beside-mask.result c.args.from c.loop-p.p c.min-p.result c.args.phase c.eight_bytes.ensures (λ k few. c.has_turns.ensures c.if-has_turns.false k)
+          c.phase_from.result c.beside-mask.ensures.masked same (omega (arith, c.min-p.ensures)) was.none;
     }
