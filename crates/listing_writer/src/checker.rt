@@ -7,8 +7,7 @@ ghost use Rattle.link_sink.specs.Ears.{both_alone};
 ghost use Rattle.listing_writer.specs.Texts.{lines_of, fault_lines, counted};
 ghost use Rattle.listing_writer.specs.Checks.{is_checked, check_lines, verdict_line};
 
-use crate::line::{fault_line, long_line};
-use crate::lister::{write_line, write_short};
+use crate::lister::{write_cut, write_fault, write_line};
 use link_sink::Ear;
 use outside_io::{Failed, Sink};
 use period_grammar::EventRef;
@@ -87,9 +86,9 @@ impl<'a, K: Sink> Ear for CheckLister<'a, K> {
                 column: _,
             }
             | EventRef::Close { sync: _ } => Ok(()),
-            EventRef::Cut { column } => write_short(self.sink, long_line(b"cut", &[column])),
+            EventRef::Cut { column } => write_cut(self.sink, column),
             EventRef::Fault(fault) => {
-                write_short(self.sink, fault_line(fault))?;
+                write_fault(self.sink, fault)?;
                 self.faults = self.faults().saturating_add(1);
                 Ok(())
             }

@@ -2,17 +2,18 @@
 ghost use Rattle.std.specs.Prelude.{◌≡◌, ℕ, ◌+◌, ◌*◌, ◌≤◌, ◌<◌, List, [], ◌∷◌, ◌++◌, length, take, codes, OnOk, OnErr, map};
 ghost use Rattle.std.specs.Io.KnownBytes.{Appends};
 ghost use Rattle.outside_io.specs.Causes.{HasCause};
-ghost use Rattle.period_grammar.specs.Events.{event_of};
+ghost use Rattle.period_grammar.specs.Events.{event_of, run as run_event, cut as cut_event};
+ghost use Rattle.period_grammar.specs.Lending.{fault_event};
 ghost use Rattle.link_sink.specs.Ears.{both_alone};
 ghost use Rattle.hex.specs.Hex.{encode_lower};
-ghost use Rattle.listing_writer.specs.Texts.{lines_of, fault_lines, counted, slip_text, relock_text};
+ghost use Rattle.listing_writer.specs.Texts.{line_words, lines_of, fault_lines, counted, slip_text, relock_text, sync_digits};
 
 use crate::digit_pairs::DigitPairs;
 use crate::line::{TextLine, fault_line, guard_line, long_line, relock_line, run_line, slip_line};
 use crate::packet_line::packet_line;
 use link_sink::Ear;
 use outside_io::{Failed, Sink, write_all};
-use period_grammar::EventRef;
+use period_grammar::{EventRef, Fault};
 
 /// Room for the line of 4,096 pixels.
 const PIXEL_LINE: usize = 24_579;
@@ -117,19 +118,19 @@ impl<'a, K: Sink> Ear for LinkLister<'a, K> {
 
     fn hear(&mut self, _: u64, event: EventRef<'_>) -> Result<(), Failed> {
         match event {
-            EventRef::Run { value, count } => write_short(self.sink, run_line(value, count)),
+            EventRef::Run { value, count } => write_run(self.sink, value, count),
             EventRef::Line { pixels } => {
                 let size = encode_pixels(&self.digits, b"v ", pixels, &mut self.pixel_line);
                 write_line(self.sink, &self.pixel_line[..size])
             }
-            EventRef::Open { sync } => write_short(self.sink, guard_line(b"i ", sync[0], sync[1])),
+            EventRef::Open { sync } => write_guard(self.sink, b"i ", sync[0], sync[1]),
             EventRef::Packet { packet, column: _ } => {
                 write_line(self.sink, &packet_line(&self.digits, packet)[..])
             }
-            EventRef::Close { sync } => write_short(self.sink, guard_line(b"e ", sync[0], sync[1])),
-            EventRef::Cut { column } => write_short(self.sink, long_line(b"cut", &[column])),
+            EventRef::Close { sync } => write_guard(self.sink, b"e ", sync[0], sync[1]),
+            EventRef::Cut { column } => write_cut(self.sink, column),
             EventRef::Fault(fault) => {
-                write_short(self.sink, fault_line(fault))?;
+                write_fault(self.sink, fault)?;
                 self.faults = self.faults().saturating_add(1);
                 Ok(())
             }
@@ -194,4 +195,55 @@ pub(crate) fn write_short<K: Sink>(sink: &mut K, line: TextLine) -> Result<(), F
     ensures cause { HasCause (K.faults sink.old) (K.faults sink.new) result }
 {
     write_line(sink, line.as_slice())
+}
+
+// What writes the lines of seldom events stands apart, so that room for such a line is made where there is one.
+
+/// Writes the line of a run of control columns.
+#[inline(never)]
+pub(crate) fn write_run<K: Sink>(sink: &mut K, value: u8, count: u64) -> Result<(), Failed>
+    ensures whole { OnOk result (Appends (K.held sink.old) (K.held sink.new) (line_words (run_event value count) ++ codes "\n")) }
+    ensures part { OnErr result ((n : ℕ) × (n < length (line_words (run_event value count) ++ codes "\n")) × Appends (K.held sink.old) (K.held sink.new) (take n (line_words (run_event value count) ++ codes "\n"))) }
+    ensures cause { HasCause (K.faults sink.old) (K.faults sink.new) result }
+{
+    write_short(sink, run_line(value, count))
+}
+
+/// Writes the line of an island's guard.
+#[inline(never)]
+pub(crate) fn write_guard<K: Sink>(
+    sink: &mut K,
+    name: &[u8],
+    first: u8,
+    second: u8,
+) -> Result<(), Failed>
+    requires named { length name.now ≤ 2 }
+    requires first { first < 4 }
+    requires second { second < 4 }
+    ensures whole { OnOk result (Appends (K.held sink.old) (K.held sink.new) (name.now ++ sync_digits (first ∷ second ∷ []) ++ codes "\n")) }
+    ensures part { OnErr result ((n : ℕ) × (n < length (name.now ++ sync_digits (first ∷ second ∷ []) ++ codes "\n")) × Appends (K.held sink.old) (K.held sink.new) (take n (name.now ++ sync_digits (first ∷ second ∷ []) ++ codes "\n"))) }
+    ensures cause { HasCause (K.faults sink.old) (K.faults sink.new) result }
+{
+    write_short(sink, guard_line(name, first, second))
+}
+
+/// Writes the line of the cut.
+#[inline(never)]
+#[tactic(auto, unfolding(crate::specs::Texts::line_words))]
+pub(crate) fn write_cut<K: Sink>(sink: &mut K, column: u64) -> Result<(), Failed>
+    ensures whole { OnOk result (Appends (K.held sink.old) (K.held sink.new) (line_words (cut_event column) ++ codes "\n")) }
+    ensures part { OnErr result ((n : ℕ) × (n < length (line_words (cut_event column) ++ codes "\n")) × Appends (K.held sink.old) (K.held sink.new) (take n (line_words (cut_event column) ++ codes "\n"))) }
+    ensures cause { HasCause (K.faults sink.old) (K.faults sink.new) result }
+{
+    write_short(sink, long_line(b"cut", &[column]))
+}
+
+/// Writes the line of a fault.
+#[inline(never)]
+pub(crate) fn write_fault<K: Sink>(sink: &mut K, fault: Fault) -> Result<(), Failed>
+    ensures whole { OnOk result (Appends (K.held sink.old) (K.held sink.new) (line_words (fault_event fault) ++ codes "\n")) }
+    ensures part { OnErr result ((n : ℕ) × (n < length (line_words (fault_event fault) ++ codes "\n")) × Appends (K.held sink.old) (K.held sink.new) (take n (line_words (fault_event fault) ++ codes "\n"))) }
+    ensures cause { HasCause (K.faults sink.old) (K.faults sink.new) result }
+{
+    write_short(sink, fault_line(fault))
 }

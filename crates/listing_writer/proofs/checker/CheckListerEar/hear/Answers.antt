@@ -1,4 +1,4 @@
-use Rattle.std.proofs.Common.{ap, arith}
+use Rattle.std.proofs.Common.{refl, ap, arith}
 use Rattle.std.specs.Prelude.{Err}
 use Rattle.period_grammar.specs.Lending.{lent_event, fault_event}
 use Rattle.listing_writer.specs.Texts.{line_words}
@@ -22,15 +22,15 @@ pub returns-in-Cut-clause-err : goal.returns-in-Cut-clause-err
 unfolding line_words is_checked is_cut
 returns-in-Cut-clause-err g c = grind (arith, check_broke, line_broke)
 
-pub returns-in_err-write_short-in-Fault-clause-err : goal.returns-in_err-write_short-in-Fault-clause-err
-returns-in_err-write_short-in-Fault-clause-err g c =
+pub returns-in_err-write_fault-in-Fault-clause-err : goal.returns-in_err-write_fault-in-Fault-clause-err
+returns-in_err-write_fault-in-Fault-clause-err g c =
     always _
-    (check_broke {T = Unit {0}} _ _ (Err c.in_err-write_short-in-Fault.field-0.0) _ _ (lent_event c.args.event) (fault_event c.in-Fault.fault) (ap lent_event c.in-Fault.is) (fault_checked c.in-Fault.fault)
-    (line_broke {T = Unit {0}} (Err c.in_err-write_short-in-Fault.field-0.0) _ _ _ _ (lent_event c.args.event) (fault_event c.in-Fault.fault) _ (ap lent_event c.in-Fault.is)
-    c.fault_line.ensures c.in_err-write_short-in-Fault.ensures.part))
+    (check_broke {T = Unit {0}} _ _ (Err c.in_err-write_fault-in-Fault.field-0.0) _ _ (lent_event c.args.event) (fault_event c.in-Fault.fault) (ap lent_event c.in-Fault.is) (fault_checked c.in-Fault.fault)
+    (line_broke {T = Unit {0}} (Err c.in_err-write_fault-in-Fault.field-0.0) _ _ _ _ (lent_event c.args.event) (fault_event c.in-Fault.fault) _ (ap lent_event c.in-Fault.is)
+    refl c.in_err-write_fault-in-Fault.ensures.part))
 
-pub returns-in_ok-write_short-in-Fault-clause-ok : goal.returns-in_ok-write_short-in-Fault-clause-ok
-returns-in_ok-write_short-in-Fault-clause-ok g c =
+pub returns-in_ok-write_fault-in-Fault-clause-ok : goal.returns-in_ok-write_fault-in-Fault-clause-ok
+returns-in_ok-write_fault-in-Fault-clause-ok g c =
     check_took _ _ _ _ (lent_event c.args.event) (fault_event c.in-Fault.fault) (ap lent_event c.in-Fault.is) (fault_checked c.in-Fault.fault)
     (fault_took _ _ _ _ _ (lent_event c.args.event) (fault_event c.in-Fault.fault) _ (ap lent_event c.in-Fault.is) (is_fault c.in-Fault.fault)
-    c.fault_line.ensures (omega arith) c.in_ok-write_short-in-Fault.ensures.whole)
+    refl (omega arith) c.in_ok-write_fault-in-Fault.ensures.whole)

@@ -10,13 +10,13 @@ pub returns-in-Run-clause-ok : goal.returns-in-Run-clause-ok
 unfolding line_words
 returns-in-Run-clause-ok g c =
     line_took _ _ _ _ _ (lent_event c.args.event) (run c.in-Run.value c.in-Run.count) _ (ap lent_event c.in-Run.is) refl
-    c.run_line.ensures c.write_short.ensures.whole
+    refl c.write_run.ensures.whole
 
 pub returns-in-Run-clause-err : goal.returns-in-Run-clause-err
 unfolding line_words
 returns-in-Run-clause-err g c =
     line_broke _ _ _ _ _ (lent_event c.args.event) (run c.in-Run.value c.in-Run.count) _ (ap lent_event c.in-Run.is)
-    c.run_line.ensures c.write_short.ensures.part
+    refl c.write_run.ensures.part
 
 pub returns-in-Line-clause-ok : goal.returns-in-Line-clause-ok
 unfolding line_words
@@ -34,13 +34,13 @@ pub returns-in-Open-clause-ok : goal.returns-in-Open-clause-ok
 unfolding line_words
 returns-in-Open-clause-ok g c =
     line_took _ _ _ _ _ (lent_event c.args.event) (open_island (slice_index c.in-Open.sync 0) (slice_index c.in-Open.sync 1)) _ (ap lent_event c.in-Open.is) refl
-    c.guard_line.ensures c.write_short-in-Open.ensures.whole
+    refl c.write_guard.ensures.whole
 
 pub returns-in-Open-clause-err : goal.returns-in-Open-clause-err
 unfolding line_words
 returns-in-Open-clause-err g c =
     line_broke _ _ _ _ _ (lent_event c.args.event) (open_island (slice_index c.in-Open.sync 0) (slice_index c.in-Open.sync 1)) _ (ap lent_event c.in-Open.is)
-    c.guard_line.ensures c.write_short-in-Open.ensures.part
+    refl c.write_guard.ensures.part
 
 pub returns-in-Packet-clause-ok : goal.returns-in-Packet-clause-ok
 unfolding line_words
@@ -58,30 +58,30 @@ pub returns-in-Close-clause-ok : goal.returns-in-Close-clause-ok
 unfolding line_words
 returns-in-Close-clause-ok g c =
     line_took _ _ _ _ _ (lent_event c.args.event) (close_island (slice_index c.in-Close.sync 0) (slice_index c.in-Close.sync 1)) _ (ap lent_event c.in-Close.is) refl
-    c.guard_line-in-Close.ensures c.write_short-in-Close.ensures.whole
+    refl c.write_guard-in-Close.ensures.whole
 
 pub returns-in-Close-clause-err : goal.returns-in-Close-clause-err
 unfolding line_words
 returns-in-Close-clause-err g c =
     line_broke _ _ _ _ _ (lent_event c.args.event) (close_island (slice_index c.in-Close.sync 0) (slice_index c.in-Close.sync 1)) _ (ap lent_event c.in-Close.is)
-    c.guard_line-in-Close.ensures c.write_short-in-Close.ensures.part
+    refl c.write_guard-in-Close.ensures.part
 
 pub returns-in-Cut-clause-ok : goal.returns-in-Cut-clause-ok
 unfolding line_words
 returns-in-Cut-clause-ok g c =
     line_took _ _ _ _ _ (lent_event c.args.event) (cut c.in-Cut.column) _ (ap lent_event c.in-Cut.is) refl
-    c.long_line.ensures c.write_short-in-Cut.ensures.whole
+    refl c.write_cut.ensures.whole
 
 pub returns-in-Cut-clause-err : goal.returns-in-Cut-clause-err
 unfolding line_words
 returns-in-Cut-clause-err g c =
     line_broke _ _ _ _ _ (lent_event c.args.event) (cut c.in-Cut.column) _ (ap lent_event c.in-Cut.is)
-    c.long_line.ensures c.write_short-in-Cut.ensures.part
+    refl c.write_cut.ensures.part
 
-pub returns-in_err-write_short-in-Fault-clause-err : goal.returns-in_err-write_short-in-Fault-clause-err
-returns-in_err-write_short-in-Fault-clause-err g c = grind (arith, always, line_broke)
+pub returns-in_err-write_fault-in-Fault-clause-err : goal.returns-in_err-write_fault-in-Fault-clause-err
+returns-in_err-write_fault-in-Fault-clause-err g c = grind (arith, always, line_broke)
 
-pub returns-in_ok-write_short-in-Fault-clause-ok : goal.returns-in_ok-write_short-in-Fault-clause-ok
-returns-in_ok-write_short-in-Fault-clause-ok g c =
+pub returns-in_ok-write_fault-in-Fault-clause-ok : goal.returns-in_ok-write_fault-in-Fault-clause-ok
+returns-in_ok-write_fault-in-Fault-clause-ok g c =
     fault_took _ _ _ _ _ (lent_event c.args.event) (fault_event c.in-Fault.fault) _ (ap lent_event c.in-Fault.is) (is_fault c.in-Fault.fault)
-    c.fault_line.ensures (omega arith) c.in_ok-write_short-in-Fault.ensures.whole
+    refl (omega arith) c.in_ok-write_fault-in-Fault.ensures.whole
