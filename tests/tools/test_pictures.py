@@ -190,3 +190,11 @@ def test_a_capture_has_the_frames_of_its_listing(tool, program, tmp_path):
     assert came[0] == came[1] and came[0].endswith(b"\n1 frames, 1 faults in them, 0 others\n")
     assert (tmp_path / "capture" / "frame0000.png").read_bytes() == (tmp_path / "link" / "frame0000.png").read_bytes()
     assert b"no whole capture" in tool("pictures", tmp_path / "none", source=capture[:-1], status=3).stderr
+
+
+@pytest.mark.parametrize("line", [b"! slip 1 900\n", b"! relock 900\n"])
+def test_a_frame_of_a_content_listing_goes_on_over_a_slip(tool, tmp_path, line):
+    """As `recover content relock` lists it."""
+    came = tool("pictures", tmp_path, source=TWO.replace(b"row ff", line + b"row ff"))
+    assert came.stderr == b"2 frames, 0 faults in them, 1 others\n"
+    assert pixels(tmp_path / "frame0000.png")[1][2:] == [(255, 0, 0), (0, 0, 0)]

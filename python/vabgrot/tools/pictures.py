@@ -161,9 +161,10 @@ class Pictures:
         self.signals.take_info(head[0], head[1], listing.digits(payload[0], 1, line) if payload else b"")
 
     def fault(self, line: int, fields: list[str]) -> None:
-        """Counts a fault; one that comes before the frame's first row touches no row that is listed."""
+        """Counts a fault; one that comes before the frame's first row touches no row that is listed. The frame of a link listing ends at
+        a slip, that of a content listing goes on over it."""
         kind = fields[0]
-        if kind in ANEW:
+        if kind in ANEW and self.listed.is_link:
             self.leave()
         if kind not in OF_PICTURE or not self.frame.rows:
             self.others += 1

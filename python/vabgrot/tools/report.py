@@ -56,7 +56,8 @@ At the skew that was found ({found}) no opening has its preamble and its guard b
 FAR = """At the skew {best} {openings} openings have their preamble and their guard bands, but lanes more than 70 bits apart are
 not aligned."""
 LATER = """A lane likely lost or repeated whole characters between the places {last} and {first} of lane 0, which “recover track”
-cannot see: openings fit at the skew {found} before, and at {later} behind."""
+cannot see: openings fit at the skew {found} before, and at {later} behind. “recover relock” lists what is behind, too, where the
+lanes are within 70 bits of each other."""
 FROM = "From the first alignment that a guard band confirms on"
 READ_ANEW = f"""Read anew: the first alignment was wrong, which a damaged control character before it brings about. {FROM}"""
 LEFT_OUT = f"""{FROM} the listing is that of “recover relock”; what came before it has no lines, and is not shown."""
