@@ -179,16 +179,14 @@ class Heard:
         return clock and clock * self.depth // 24
 
     def rates(self, clock: int | None) -> dict[str, int]:
-        """What tells a sampling rate, and which; the rate by the clock packet (HDMI 1.4, section 7.2) first."""
-        clock = clock or self.usual_clock()
-        found = {}
-        if self.clock and all(self.clock) and clock:
-            found["the clock packets"] = pcm.rate_of(*self.clock, clock)
-        if self.status.rate:
-            found["the channel status"] = self.status.rate
-        if self.frequency:
-            found["the audio InfoFrame"] = self.frequency
-        return found
+        """What tells a sampling rate, and which; the rate by the clock packet (HDMI 1.4, section 7.2) first. The pixel clock of a mode
+        of one's own is a guess, by which a rate is told only where nothing else tells one."""
+        is_guess, clock = clock is None and self.vic == 0, clock or self.usual_clock()
+        told = {"the channel status": self.status.rate or 0, "the audio InfoFrame": self.frequency or 0}
+        told = {who: rate for who, rate in told.items() if rate}
+        if not (self.clock and all(self.clock) and clock) or is_guess and told:
+            return told
+        return {"the clock packets": pcm.rate_of(*self.clock, clock)} | told
 
     def rate(self, clock: int | None) -> int:
         """The sampling rate, by the first that tells one."""

@@ -33,7 +33,9 @@ SIZE = BLOCKS * capture.BLOCK  # bytes of a lane in a piece
 KINDS = np.array([CONTROL, VIDEO, OPEN, ISLAND_PACKET, CLOSE, CUT] + [FAULT] * len(FAULTS) + [SLIP] * 2, np.uint8)  # of the library's
 HEARD = frozenset(("link", "track"))  # what the library hears; of lanes that slip the program
 RELOCK = ["recover", "relock"]
-ANEW = "read anew: the first alignment was wrong"
+ANEW = "read anew: an alignment was wrong"
+IN_A_ROW = 3  # so many openings without a whole guard band, one after another, are seldom but at a wrong alignment
+SUSPECT = frozenset(("noise", "guard"))  # faults of openings
 GUARDS = 2  # columns before the pixels of a row
 ALONE = {"noise": 1, "empty": 2}  # columns of faults
 NOT_ALIGNED = "no alignment"  # as the program says it
@@ -344,37 +346,52 @@ def capture_in(source: BinaryIO) -> Iterator[Path | None]:
         yield Path(file.name)
 
 
+def is_suspect(batch: Batch) -> bool:
+    """Whether something opens in a batch without a whole guard band, or not where it should."""
+    return any(thing.fault in SUSPECT for _, thing in batch.special)
+
+
 def openings_of(batch: Batch) -> tuple[Ints, Bools]:
-    """The lines and islands that open in a batch, by their place among its lines, and whether each one's first guard column is whole."""
-    places = np.flatnonzero((batch.kinds == VIDEO) | (batch.kinds == OPEN))
+    """Where lines and islands of a batch open, or noise stands in their place, by place among its lines; and whether each has a whole
+    guard band."""
+    opened = np.flatnonzero((batch.kinds == VIDEO) | (batch.kinds == OPEN))
+    if not is_suspect(batch):
+        return opened, np.ones(len(opened), np.bool_)
     damaged = [thing.at for _, thing in batch.special if thing.fault == "guard"]
-    return places, ~np.isin(batch.at[places], damaged)
+    are_whole = ~np.isin(batch.at[opened], damaged) & ~np.isin(batch.at[opened] + 1, damaged)
+    noise = np.array([place for place, thing in batch.special if thing.fault == "noise"], np.int64)
+    noise = noise[np.diff(noise, prepend=-2) > 1]
+    places = np.concatenate((opened, noise))
+    order = np.argsort(places)
+    return places[order], np.concatenate((are_whole, np.zeros(len(noise), np.bool_)))[order]
 
 
 def is_astray(batches: Iterable[Batch]) -> bool:
-    """Whether the first alignment of a reading is likely wrong: where something should open first is noise, or no whole guard column."""
+    """Whether an alignment of a reading is likely wrong: the first opening has no whole guard band, or some one after another have none."""
+    row = IN_A_ROW - 1
     for batch in batches:
         places, are_whole = openings_of(batch)
-        noise = min((place for place, thing in batch.special if thing.fault == "noise"), default=len(batch))
-        if len(places) and places[0] < noise:
-            return not are_whole[0]
-        if noise < len(batch):
+        whole = np.flatnonzero(are_whole)
+        if not len(whole):
+            row += len(places)
+        elif row + whole[0] >= IN_A_ROW or np.diff(whole).max(initial=0) > IN_A_ROW:
+            return True
+        else:
+            row = len(places) - 1 - int(whole[-1])
+        if row >= IN_A_ROW:
             return True
     return False
 
 
 def whole_openings(batches: Iterable[Batch]) -> int:
-    """How many lines and islands of a reading begin with a whole guard column: few or none where its lanes are aligned wrongly."""
+    """How many lines and islands of a reading begin with a whole guard band: few or none where its lanes are aligned wrongly."""
     return sum(int(openings_of(batch)[1].sum()) for batch in batches)
 
 
 def is_to_be_read_anew(usual: Words, hear: Callable[[Words, Taker], int]) -> bool:
-    """Whether the usual reading of a capture goes astray at its first alignment, and `recover relock` has more of it; a program without
-    that command writes nothing. `hear` gives the batches of a command to what takes them. Where nothing aligns neither has anything."""
-    if not hear(usual, is_astray):
-        return False
-    again = hear(RELOCK, whole_openings)
-    return again > 0 and again > hear(usual, whole_openings)
+    """Whether the usual reading of a capture goes astray, and `recover relock` has more of it; a program without that command writes
+    nothing. `hear` gives the batches of a command to what takes them. Where nothing aligns neither has anything."""
+    return bool(hear(usual, is_astray)) and hear(RELOCK, whole_openings) > hear(usual, whole_openings)
 
 
 def is_misaligned(path: Path) -> bool:
@@ -391,7 +408,7 @@ def is_misaligned(path: Path) -> bool:
 
 
 def words_for(path: Path, is_dvi: bool) -> list[str]:
-    """The command of the program that hears a capture: the usual one, or `recover relock` where its first alignment was wrong."""
+    """The command of the program that hears a capture: the usual one, or `recover relock` where an alignment of that is wrong."""
     usual = words_of(is_dvi)
     return RELOCK if not is_dvi and is_misaligned(path) else usual
 

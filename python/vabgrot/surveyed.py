@@ -71,7 +71,7 @@ def judged(path: Path, timing: bool) -> Row | None:
 
 
 def relocked(path: Path, timing: bool) -> Row:
-    """The row of a capture that is read anew. What came before the alignment that is used had a fault, whatever is counted behind it."""
+    """The row of a capture that is read anew. What came before the alignments that are used had a fault, whatever is counted behind it."""
     it, tally, meter = reading.ByProgram(reading.RELOCK, path, shows=False), Tally(), Meter()
     for batch in it.batches():
         tally.take(batch)

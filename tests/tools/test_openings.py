@@ -1,11 +1,13 @@
 """vabgrot.lanes.openings and what tools/report advises by it, and what `recover track` sees of lanes that lose bits."""
 
+import json
 import re
 import shlex
 from html import unescape
 
 import pytest
 
+from tests.models import hearing, model, relocking
 
 ACROSS, LINES, FIRST, PIXELS = 80, 12, 48, 30  # columns of a line, lines, the column of the first guard, pixels of a row
 
@@ -135,21 +137,53 @@ def slips(track):
     return [line for line in track.decode().splitlines() if line.startswith("! slip ")]
 
 
-def test_whole_characters_that_are_lost_or_repeated_are_no_slip(tool, program, sent, advice, tmp_path):
-    """Ten bits at once, or in parts within a row. The report sees them by the openings behind."""
-    capture = sent()
+@pytest.fixture
+def off(tool, program, sent, tmp_path):
+    """Captures of which lane 1 lost a character in the sixth row, had one twice, or lost it in parts; and the skew behind."""
+    capture, at = sent(), place(5, 9)
     (blue, green, red), paths = bits_of(tool, capture, tmp_path)
-    at = place(5, 9)
     lost, again = (packed(tool, [blue, lane, red], paths) for lane in (green[:at] + green[at + 10 :], green[: at + 10] + green[at:]))
     parts = program("slip", f"1:{place(5, 19)}:7", source=program("slip", f"1:{at}:3", source=capture))
-    for hurt, skew in ((lost, "0,10,0"), (again, "10,0,10"), (parts, "0,10,0")):
+    return (lost, "0,10,0"), (again, "10,0,10"), (parts, "0,10,0")
+
+
+def test_whole_characters_that_are_lost_or_repeated_are_no_slip(tool, program, sent, off, advice, old, tmp_path):
+    """Ten bits at once, or in parts within a row. The report sees them by the openings behind; the program here has no `recover relock`."""
+    for hurt, skew in off:
         assert slips(program("recover", "track", source=hurt, status=1)) == []
         lines, verdict = advice(hurt)
         assert verdict == "Faulty" and len(lines) == 1
         assert f"openings fit at the skew 0,0,0 before, and at {skew} behind" in lines[0]
         assert advice(cut(tool, hurt, lines[0], tmp_path), status=0) == ([], "Clean")
-    rows = program("slip", f"1:{place(6, 9)}:7", source=program("slip", f"1:{at}:3", source=capture))
+    rows = program("slip", f"1:{place(6, 9)}:7", source=program("slip", f"1:{place(5, 9)}:3", source=sent()))
     assert len(slips(program("recover", "track", source=rows, status=1))) == 2
+
+
+def test_they_are_read_anew(tool, off, advice, tmp_path):
+    """What the report shows is what `recover relock` writes, by its model."""
+    for hurt, _ in off:
+        assert advice(hurt) == ([], "Faulty")
+        said = json.loads(tool("report", tmp_path / "a.tmc", "--json", status=1).stdout)
+        _, listing = relocking.relocked(model.lanes_in(hurt), hearing.link_of)
+        assert said["relocked"] and said["rows"] == listing.count(b"\nv ") and LINES - 1 <= said["rows"]
+        assert said["says"].startswith("Read anew: an alignment was wrong") and "1 alignment let go" in said["says"]
+
+
+@pytest.mark.parametrize("lost", [5, 10])
+def test_lanes_that_go_too_far_apart(tool, program, sent, advice, tmp_path, lost):
+    """A lane that is 70 bits late loses some more, or a whole character, which is no slip."""
+    hurt = program("slip", f"1:{place(5, 9)}:{lost}", source=sent("--skew", "0,70,0"))
+    lines, verdict = advice(hurt)
+    assert verdict == "Faulty" and len(lines) == 1
+    far, begin = f"the skew 0,{70 + lost},0", f"rom the place {place(6, 0):,} of lane 0 on openings fit at "
+    told = f"{begin}{far}, but lanes more than 70 bits apart are not aligned"
+    looked = tool("lanes", "look", tmp_path / "a.tmc").stdout.decode()
+    if lost == 10:
+        assert told in lines[0] and f"right as it is: {LINES} of {LINES} openings\nf{told}\n" in looked
+    else:
+        slip = slips(program("recover", "track", source=hurt, status=1))[0].split()[-1]
+        assert f"Behind the place {int(slip):,}, at {far} {LINES - 6} openings have " in lines[0]
+    assert advice(cut(tool, hurt, lines[0], tmp_path), status=0) == ([], "Clean")
 
 
 @pytest.mark.parametrize("lost, rows", [(7, LINES - 7), (8, 0)])

@@ -1,4 +1,4 @@
-"""Captures that report, pictures, sound, timing and survey read anew by `recover relock`, since their first alignment was wrong."""
+"""Captures that report, pictures, sound, timing and survey read anew by `recover relock`, since an alignment of them was wrong."""
 
 import csv
 import io
@@ -12,7 +12,7 @@ from tests.models import model
 pytest.importorskip("numpy", reason="Debian's package python3-numpy is missing")
 
 ROWS, ACROSS, FIRST = 12, 80, 48  # rows, columns of each line, and the column of the first guard
-ANEW = b"read anew: the first alignment was wrong"
+ANEW = b"read anew: an alignment was wrong"
 
 
 @pytest.fixture
@@ -79,10 +79,10 @@ def test_the_report_of_a_wrong_first_alignment(tool, astray, tmp_path, back):
     said = json.loads(came.stdout)
     assert said["relocked"] and said["faulty"] and said["verdict"] == "Faulty" and said["advice"] == []
     assert (said["rows"], said["faults"]) == (ROWS - 1, [])
-    assert said["says"].startswith("Read anew: the first alignment was wrong") and said["says"].endswith("no fault was found.")
+    assert said["says"].startswith("Read anew: an alignment was wrong") and said["says"].endswith("no fault was found.")
     assert ANEW in came.stderr
     page = (tmp_path / "a.html").read_text()
-    assert "Read anew: the first alignment was wrong" in page and "recover relock" in page and 'id="advice"' not in page
+    assert "Read anew: an alignment was wrong" in page and "recover relock" in page and 'id="advice"' not in page
 
 
 def test_the_report_where_nothing_helps(tool, sent, tmp_path):

@@ -73,6 +73,9 @@ def test_biphase_streams(tool, path):
     ]
     tool("sound", path, source=SAMPLES + told.replace(b"1002", b"1001") + told + b"end\n")  # code 1 names no rate
     assert heard(path) == (48000, 2, DATA)
+    own = b"mode 32 8 16 64 24 2 2 2 1\nacr 6272 28000\n"  # the pixel clock of such a mode is not told, so nothing disagrees
+    tool("sound", path, source=own + SAMPLES + told + b"end\n")
+    assert heard(path) == (48000, 2, DATA)
 
 
 def test_faults_are_counted(tool, path):

@@ -17,6 +17,7 @@ Places = npt.NDArray[np.int64]  # in a lane, in bits
 MOST_BITS = 1 << 24  # of each lane
 FARTHEST = 4095  # bits by which lanes are tried to be apart
 TRIED = 6  # the differences of two lanes of which all pairs are tried
+FAR = """From the place {first} of lane 0 on openings fit at the skew {later}, but lanes more than 70 bits apart are not aligned."""
 
 
 class Fit(NamedTuple):
@@ -59,19 +60,27 @@ class Fits(NamedTuple):
         """Whether openings fit, but none at the skew that was found."""
         return self.best.openings > 0 and (self.found is None or self.found.openings == 0)
 
+    @property
+    def far(self) -> str | None:
+        """What is to be said where they fit later on at a skew at which no lanes are aligned."""
+        if self.is_wrong or not self.later or not self.later.first or self.later.spread <= MOST_SKEW:
+            return None
+        return FAR.format(first=f"{self.later.first[0]:,}", later=self.later.made_words)
 
-def beginnings(path: str | Path, most: int = MOST_BITS) -> list[Bits]:
-    """The bits of the three lanes of a capture, at most so many of each: arrays of 0 and 1. They end where the file does.
-    Refused where its header is none."""
+
+def beginnings(path: str | Path, most: int = MOST_BITS, place: int = 0) -> list[Bits]:
+    """The bits of the three lanes of a capture from a place on, at most so many of each: arrays of 0 and 1. They end where the file
+    does. Refused where its header is none."""
+    begin = place // 8 // capture.BLOCK * capture.BLOCK
     with open(path, "rb") as file:
         counts, start = capture.header_of(file.read(16))
-        file.seek(start)
         lengths, lanes = [(count + 7) // 8 for count in counts], [bytearray() for _ in counts]
-        for first in range(0, min(max(lengths), most // 8), capture.BLOCK):
+        file.seek(capture.place_of(start, lengths, 0, begin))
+        for first in range(begin, min(max(lengths), (place + most) // 8), capture.BLOCK):
             for lane, length in zip(lanes, lengths):
                 lane += file.read(min(capture.BLOCK, max(length - first, 0)))
     return [
-        np.unpackbits(np.frombuffer(lane, np.uint8), bitorder="little")[: min(count, most)]
+        np.unpackbits(np.frombuffer(lane, np.uint8), bitorder="little")[place - 8 * begin : min(count, place + most) - 8 * begin]
         for lane, count in zip(lanes, counts)
     ]
 
@@ -120,9 +129,10 @@ def fit_at(ends: Sequence[Ends], skew: tuple[int, int]) -> Fit:
     return Fit(skew, len(right), guards, first, last)
 
 
-def fits(lanes: Sequence[Bits]) -> Fits | None:
-    """How the openings of three lanes fit, as Fits; None where a lane has no control period that ends."""
-    ends = [its for lane in lanes if (its := ends_of(lane)) and len(its.places)]
+def fits(lanes: Sequence[Bits], place: int = 0) -> Fits | None:
+    """How the openings of three lanes fit, as Fits; None where a lane has no control period that ends. `place` is that of the capture
+    at which these lanes begin."""
+    ends = [its._replace(places=its.places + place) for lane in lanes if (its := ends_of(lane)) and len(its.places)]
     if len(ends) < len(lanes):
         return None
     edges = first_alignment([lane.places for lane in ends])

@@ -187,6 +187,10 @@ def look(args: Namespace) -> int:
     with open(args.capture, "rb") as file:
         lanes, counts = capture.lanes_of(file.read())
     lines, is_right = looking.judged(sys.argv[0], args.capture, lanes, counts)
+    if is_right:
+        openings = with_numpy("openings")
+        fits = openings.fits(openings.beginnings(args.capture))
+        lines += [f"{fits.far[0].lower()}{fits.far[1:-1]}"] if fits and fits.far else []
     if args.json:
         paste = next((line.removeprefix("to be pasted: ") for line in lines if line.startswith("to be pasted: ")), None)
         said = {"capture": args.capture, "faulty": not is_right, "bits": counts, "lanes": lines[:3], "says": lines[3:], "paste": paste}

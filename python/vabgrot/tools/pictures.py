@@ -26,7 +26,7 @@ from vabgrot.video.weaving import Pair, Weaver, lines_down
 
 TEXT = """Reads a capture, a content listing or a link listing (of HDMI or of DVI) from standard input and writes each of its
 frames as DIR/frame0000.png and so on. The frames of a capture and of a link listing are the lines between two changes of VSYNC.
-Faults that touch a frame are counted on standard error. A capture of which the first alignment was wrong is read anew, where the
+Faults that touch a frame are counted on standard error. A capture of which an alignment was wrong is read anew, where the
 program has `recover relock`, which is said.
 
 Pixels are shown in the colours that the AVI InfoFrame and the general control packets tell: YCbCr 4:4:4 and 4:2:2 of BT.601,

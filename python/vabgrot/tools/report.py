@@ -18,6 +18,7 @@ from markupsafe import Markup
 
 from vabgrot import command, packets, place, program, reading
 from vabgrot.errors import Refused
+from vabgrot.formats.characters import MOST_SKEW
 from vabgrot.formats.faults import BY_ROW, CONTENT, OF_SKEW
 from vabgrot.formats.modes import of_vic
 from vabgrot.infoframes import Row, mode_name
@@ -39,7 +40,7 @@ TEXT = """Writes a page that shows what a capture carried: the verdict, the vide
 frame with its damaged pixels marked, a timeline, the packets in words, the sound, each fault (those of a burst in one
 row) and the listing. The verdict is clean, faulty, or that the link is clean and its contents are not (a checksum or a
 parity is wrong, or a frame has another size than its InfoFrame says). It is one file that needs no network. Bit slips
-are followed where the program has `recover track`; where the first alignment was wrong the capture is read anew, where it has
+are followed where the program has `recover track`; where an alignment was wrong the capture is read anew, where it has
 `recover relock`."""
 PAGE = Path(bursts.__file__).resolve().parent / "page"
 SCRIPTS = ("tables.js", "sound.js", "report.js", "start.js")
@@ -53,13 +54,14 @@ DVI_ADVICE = """No control period ends in the guard bands of HDMI, at any skew o
 “tools/report --dvi” reads it, where the program has “recover dvi”."""
 WRONG = """The first alignment was likely wrong: a damaged control character before it sets a wrong skew for all that follows.
 At the skew that was found ({found}) no opening has its preamble and its guard bands, at {best} {openings} have."""
-FAR = """At the skew {best} {openings} openings have their preamble and their guard bands, but lanes more than 70 bits apart are
+FAR = """{begin} the skew {best} {openings} openings have their preamble and their guard bands, but lanes more than 70 bits apart are
 not aligned."""
 LATER = """A lane likely lost or repeated whole characters between the places {last} and {first} of lane 0, which “recover track”
-cannot see: openings fit at the skew {found} before, and at {later} behind. “recover relock” lists what is behind, too, where the
-lanes are within 70 bits of each other."""
+cannot see: openings fit at the skew {found} before, and at {later} behind. A program with “recover relock” lists what is behind,
+too."""
 FROM = "From the first alignment that a guard band confirms on"
-READ_ANEW = f"""Read anew: the first alignment was wrong, which a damaged control character before it brings about. {FROM}"""
+READ_ANEW = f"""Read anew: an alignment was wrong, which a damaged control character before it brings about, or a lane that loses or
+repeats whole characters. {FROM}"""
 LEFT_OUT = f"""{FROM} the listing is that of “recover relock”; what came before it has no lines, and is not shown."""
 CUT = "“tools/lanes cut {name} --from {cut} > cut.tmc” begins where they fit; make the report of that."
 
@@ -379,23 +381,30 @@ def notes_of(found: Found, words: list[str], album: Album, measured: list[Timing
     return notes
 
 
-def fits_of(path: Path, words: list[str], found: Found, run: Reading) -> openings.Fits | None:
-    """At which skews openings of HDMI fit; None where nothing speaks against the one that was found, or a lane has no control
-    period among the bits that are looked at."""
-    is_suspect = run.status == program.NO_ALIGNMENT or any(kind in OF_SKEW for kind, _ in found.counts)
-    return openings.fits(openings.beginnings(path)) if is_suspect and words[1] != "dvi" else None
+def fits_of(path: Path, words: list[str], found: Found) -> openings.Fits | None:
+    """At which skews openings of HDMI fit, behind the last slip if there is one; None where nothing speaks against the one that was
+    found, or a lane has no control period among the bits that are looked at."""
+    last = found.epochs[-1]
+    if words[1] == "dvi" or last.is_aligned and (words == RELOCK or not any(kind in OF_SKEW for kind, _ in found.counts)):
+        return None
+    return openings.fits(openings.beginnings(path, place=last.place), last.place)
 
 
 def opening_advice(path: Path, found: Found, fits: openings.Fits) -> str | None:
     """What to do where openings fit at another skew than that of the first alignment; None where they do not."""
-    best, fit = fits.best, fits.best if fits.is_wrong else fits.later
+    best, fit, epoch = fits.best, fits.best if fits.is_wrong else fits.later, found.epochs[-1]
     if fit is None:
         return None
-    if fits.is_wrong and fits.found:
+    if not epoch.is_aligned and fits.is_wrong and best.spread > MOST_SKEW:
+        begin = f"Behind the place {epoch.place:,}, at" if epoch.place else "At"
+        says = FAR.format(begin=begin, best=best.made_words, openings=f"{best.openings:,}")
+    elif len(found.epochs) > 1:
+        return None
+    elif fits.is_wrong and fits.found:
         says = WRONG.format(found=fits.found.made_words, best=best.made_words, openings=f"{best.openings:,}")
-    elif fits.is_wrong:
-        says = FAR.format(best=best.made_words, openings=f"{best.openings:,}")
-    elif fit.first and fits.found and fits.found.last and len(found.epochs) == 1:
+    elif fits.far:
+        says = fits.far
+    elif fit.first and fits.found and fits.found.last:
         last, first = f"{fits.found.last[0]:,}", f"{fit.first[0]:,}"
         says = LATER.format(last=last, first=first, found=fits.found.made_words, later=fit.made_words)
     else:
@@ -408,7 +417,7 @@ def advice_of(
 ) -> tuple[str, ...]:
     """What to look at: that alone where the lanes were likely aligned at a wrong skew, and were not read anew; else whether the source is
     one of DVI, and why faults are alike."""
-    fits = fits_of(path, words, found, run) if words != RELOCK else None
+    fits = fits_of(path, words, found)
     wrong = opening_advice(path, found, fits) if fits else None
     if wrong:
         return (wrong,)
@@ -536,8 +545,11 @@ def work(argv: Sequence[str] | None) -> int:
     if args.clock is not None and args.clock < 1:
         parser.error("--clock is at least 1")
     bits = header_of(args.capture)
-    words = reading.words_for(args.capture, args.dvi)
+    words = reading.words_of(args.dvi)
     found, album, run = gather(words, args.capture, max(bits))
+    if not args.dvi and any(kind in reading.SUSPECT for kind, _ in found.counts) and reading.is_misaligned(args.capture):
+        words = RELOCK
+        found, album, run = gather(words, args.capture, max(bits))
     if run.status == program.NO_CAPTURE and not found.columns:
         raise Refused(f"{args.capture}: {program.explained(run.note)}")
     if args.json:

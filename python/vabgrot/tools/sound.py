@@ -20,13 +20,13 @@ from vabgrot.replacing import replacing
 TEXT = f"""Reads a capture, a content listing, a link listing, or what `vabgrot read biphase` writes, from standard input and
 writes its samples as a WAV file. Of a capture and of a link listing these are also sounds of more than two channels (layout 1),
 whose speakers the channel allocation of the audio InfoFrame tells; --pairs makes one of up to four pairs of channels that were
-read by `read biphase`. A capture of which the first alignment was wrong is read anew, where the program has `recover relock`,
+read by `read biphase`. A capture of which an alignment was wrong is read anew, where the program has `recover relock`,
 which is said.
 
 The rate is that of the first clock packet and the mode's pixel clock (one within 0.2 percent of a usual rate is that rate, since a
-listing cannot tell 59.94 from 60 frames a second); that of a mode without a code is {CUSTOM_CLOCK} Hz. Without a clock packet it is the
-one that the channel status names, or the audio InfoFrame; where two of these disagree that is a fault. Faults that touch the sound are
-counted on standard error."""
+listing cannot tell 59.94 from 60 frames a second). Without a clock packet, or of a mode without a code, it is the one that the channel
+status names, or the audio InfoFrame; where two of these disagree that is a fault. Where only the clock packets of a mode without a code
+tell it, its pixel clock is taken to be {CUSTOM_CLOCK} Hz. Faults that touch the sound are counted on standard error."""
 EXAMPLES = """tools/sound tone.wav < examples/bars.content
 ./vabgrot make content < examples/bars.content > bars.tmc
 tools/sound same.wav < bars.tmc"""

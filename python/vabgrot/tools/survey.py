@@ -32,7 +32,7 @@ TEXT = """Runs `vabgrot check`, `vabgrot recover link` and `vabgrot recover cont
 verdict (clean, contents where the link is clean and its contents are not, faulty, unaligned, refused or failed), the
 lines that were told, and how many faults of each kind the link and its contents have. The table is written line by line,
 and a survey that was stopped goes on where it stood: what is in the table and has not changed since is kept.
-A capture of which the first alignment was wrong is read anew by `recover relock`, where the program has it: the column
+A capture of which an alignment was wrong is read anew by `recover relock`, where the program has it: the column
 `relocked` says so, and the counts are those of that reading.
 `dask-scheduler` and `dask-worker HOST:8786` start a scheduler and a worker."""
 FAULTY = "done, and a capture is not clean"
@@ -139,7 +139,7 @@ def run_over(words: Sequence[str], capture: IO[bytes], count: Callable[[IO[bytes
 
 
 def relocked_of(row: Row, program: str, on: Sequence[str], capture: IO[bytes]) -> Row:
-    """The row of a capture with the counts of a reading anew, where its first alignment was wrong; the same where it was not, and where
+    """The row of a capture with the counts of a reading anew, where an alignment of it was wrong; the same where none was, and where
     numpy or the package is missing, as on a worker that does not have it."""
     if not row.get("noise") and not row.get("guard"):
         return row

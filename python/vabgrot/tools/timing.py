@@ -10,7 +10,7 @@ from typing import Any
 
 from vabgrot import command, place, program, reading
 from vabgrot.errors import Refused
-from vabgrot.reading import Reading
+from vabgrot.reading import RELOCK, Reading
 from vabgrot.video.matching import SIZES, Note, Rate, Timing, change_note, timings
 from vabgrot.video.timings import PARTS, Meter
 
@@ -19,7 +19,7 @@ front porch, sync, back porch, total), the polarities, whether it is interlaced,
 or VESA DMT that it is, or the nearest one and what differs. It names the first place at which a number is another, and says
 whether the AVI InfoFrame says the same. Porches are counted in columns (pixel clocks) and in lines of a field; where VSYNC
 of every second field begins in the middle of a line, its porches have half lines. In deep colour, as general control packets
-say it, pixels are counted in place of columns. A capture of which the first alignment was wrong is read anew, where the program has
+say it, pixels are counted in place of columns. A capture of which an alignment was wrong is read anew, where the program has
 `recover relock`, which is said on standard error. Formats with the same raster, as VIC 16 and VIC 34, are parted by --clock or
 --rate alone, or by the AVI InfoFrame."""
 FAULTY = "done, and it is no format, differs from it, is not steady, or the AVI InfoFrame says otherwise"
@@ -41,15 +41,20 @@ def positive(text: str) -> float:
 
 
 def metered(words: list[str], path: Path) -> tuple[Meter, Reading]:
-    """What is read of a capture's raster, and how it was read."""
+    """What is read of a capture's raster, and how it was read; where an alignment was wrong it is read anew."""
+    is_suspect = False
 
     def hear(it: Reading) -> tuple[Meter, Reading]:
+        nonlocal is_suspect
         meter = Meter()
         for batch in it.batches():
             meter.take_batch(batch)
+            is_suspect = is_suspect or reading.is_suspect(batch)
         return meter, it
 
     meter, it = reading.read(words, path, hear, has_pixels=False)
+    if is_suspect and words[1] == "link" and reading.is_misaligned(path):
+        return metered(RELOCK, path)
     reading.check_end(it, path)
     if it.status == program.NO_CAPTURE and not meter.next:
         raise Refused(f"{path}: {program.explained(it.note)}")
@@ -86,8 +91,7 @@ def work(argv: Sequence[str] | None) -> int:
     parser.add_argument("--dvi", action="store_true", help="the source is one of DVI, without guard bands and islands")
     parser.add_argument("--json", action="store_true", help="write JSON in place of text")
     args = parser.parse_args(argv)
-    is_anew = not args.dvi and reading.is_misaligned(args.capture)
-    meter, run = metered(reading.RELOCK if is_anew else ["recover", "dvi" if args.dvi else "link"], args.capture)
+    meter, run = metered(["recover", "dvi" if args.dvi else "link"], args.capture)
     reading.tell(run)
     found = timings(meter, Rate(args.clock, args.rate))
     whole = said_of(found, run)
