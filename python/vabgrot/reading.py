@@ -357,13 +357,17 @@ def openings_of(batch: Batch) -> tuple[Ints, Bools]:
     opened = np.flatnonzero((batch.kinds == VIDEO) | (batch.kinds == OPEN))
     if not is_suspect(batch):
         return opened, np.ones(len(opened), np.bool_)
-    damaged = [thing.at for _, thing in batch.special if thing.fault == "guard"]
-    are_whole = ~np.isin(batch.at[opened], damaged) & ~np.isin(batch.at[opened] + 1, damaged)
-    noise = np.array([place for place, thing in batch.special if thing.fault == "noise"], np.int64)
-    noise = noise[np.diff(noise, prepend=-2) > 1]
-    places = np.concatenate((opened, noise))
-    order = np.argsort(places)
-    return places[order], np.concatenate((are_whole, np.zeros(len(noise), np.bool_)))[order]
+    guards, noise = (np.array([at for at, thing in batch.special if thing.fault == kind], np.int64) for kind in ("guard", "noise"))
+    places = np.union1d(opened, noise[np.diff(noise, prepend=-2) > 1])
+    return places, np.isin(places, opened) & ~np.isin(places, guarded(batch, guards))
+
+
+def guarded(batch: Batch, guards: Ints) -> Ints:
+    """The rows and islands whose guards are damaged, where these are reported: before the row, and behind the opening of an island."""
+    regular = np.flatnonzero(batch.kinds < FAULT)
+    behind = np.searchsorted(regular, guards)
+    rows, islands = regular[behind[behind < len(regular)]], regular[behind[behind > 0] - 1]
+    return np.concatenate((rows[batch.kinds[rows] == VIDEO], islands[batch.kinds[islands] == OPEN]))
 
 
 def is_astray(batches: Iterable[Batch]) -> bool:

@@ -69,6 +69,25 @@ def test_a_known_rate(tool, sent, tmp_path, seed):
     assert tool("errors", tmp_path / "b.tmc", "--at-most", "1e-9", status=1).stdout.endswith(b"at most 1e-09: the rate is higher\n")
 
 
+@pytest.mark.parametrize("rate", [1e-3, 3e-3])
+@pytest.mark.parametrize("seed", range(4))
+def test_a_high_rate(tool, sent, tmp_path, monkeypatch, seed, rate):
+    """Where damage makes alignments wrong, and the program lists columns that it does not count, the rate is nearly that of the bits that
+    were turned: by the C library where it is there, by the program alone, and with a reference."""
+    dice, count = random.Random(seed), int.from_bytes(sent[4:8], "big")
+    hurt, times = sent, 0
+    for lane in range(3):
+        bits = [bit for bit in range(count) if dice.random() < rate]
+        hurt, times = turned(hurt, lane, bits), times + len(bits)
+    (tmp_path / "sent.tmc").write_bytes(sent)
+    (tmp_path / "hurt.tmc").write_bytes(hurt)
+    found = [said(tool, tmp_path / "hurt.tmc"), said(tool, tmp_path / "hurt.tmc", "--reference", tmp_path / "sent.tmc")]
+    monkeypatch.setenv("VABGROT_LIBRARY", str(tmp_path / "none"))
+    found.append(said(tool, tmp_path / "hurt.tmc"))
+    assert [it["rate"] for it in found] == [pytest.approx(times / (3 * count), rel=0.15)] * 3
+    assert min(it["bits"] for it in found) > count
+
+
 def test_where_it_lies(tool, sent, tmp_path):
     """One bit of each kind of column is found in it, on its lane, by what is known alone."""
     (tmp_path / "a.tmc").write_bytes(sent)

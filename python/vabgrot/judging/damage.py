@@ -3,6 +3,7 @@ capture of the same that is right."""
 
 from __future__ import annotations
 
+from collections import Counter
 from collections.abc import Iterator
 from typing import NamedTuple
 
@@ -40,18 +41,17 @@ def exposed(spans: Spans) -> dict[str, int]:
 
 def unread(spans: Spans, columns: Columns) -> int:
     """How many columns nothing is known of."""
-    return max(0, int(min(columns.count, spans.columns)) - sum(exposed(spans).values()))
+    count = columns.count if spans.is_cut else min(columns.count, spans.columns)
+    return max(0, count - sum(exposed(spans).values()))
 
 
 def in_control(spans: Spans, columns: Columns) -> Iterator[Hit]:
-    """The damaged characters of control periods: those that are none, and those of one column that are another one's."""
+    """The damaged characters of control periods: those that are none, and those of one column that are another one's by one bit."""
     begins, counts, values = spans.runs
     words = {(at, numbers[0]) for at, numbers in spans.of_kind("word")}
     for at, lane in sorted(words):
-        near = columns.words(lane, max(at - 1, 0), 3 if at else 2)
-        mine = near[1 if at else 0]
-        wanted = [int(word) for word in near if IS_CONTROL[word]] or list(CONTROL)
-        yield Hit(at, lane, "control", int(min(BITS[int(mine) ^ word] for word in wanted)))
+        mine = int(columns.words(lane, at, 1)[0])
+        yield Hit(at, lane, "control", int(min(BITS[mine ^ word] for word in CONTROL)))
     if len(begins) < 3:
         return
     ends = begins + counts
@@ -61,8 +61,8 @@ def in_control(spans: Spans, columns: Columns) -> Iterator[Hit]:
         at, found, wanted_value = int(begins[number]), int(values[number]), int(values[number - 1])
         for lane in range(3):
             unlike = CONTROL[found >> 2 * lane & 3] ^ CONTROL[wanted_value >> 2 * lane & 3]
-            if unlike and (at, lane) not in words:
-                yield Hit(at, lane, "control", unlike.bit_count())
+            if unlike.bit_count() == 1 and (at, lane) not in words:
+                yield Hit(at, lane, "control", 1)
     yield from in_preambles(spans, columns)
 
 
@@ -83,10 +83,12 @@ def in_preambles(spans: Spans, columns: Columns) -> Iterator[Hit]:
 
 
 def in_guards(spans: Spans, columns: Columns) -> Iterator[Hit]:
-    """The damaged characters of guards."""
-    rows = set(spans.guards[0].tolist())
+    """The damaged characters of guards of which it is known what they guard."""
+    rows, islands = set(spans.guards[0].tolist()), {at for pairs in spans.guards[1:] for at in pairs.tolist()}
     for at, _ in spans.of_kind("guard"):
         is_row = at in rows or at - 1 in rows
+        if not (is_row or at in islands or at - 1 in islands):
+            continue
         for lane, word in enumerate(columns.at(at, 1)[:, 0].tolist()):
             wanted = (VIDEO_GUARD[lane],) if is_row else ISLAND_GUARDS_0 if lane == 0 else (ISLAND_GUARD,)
             unlike = min((word ^ one).bit_count() for one in wanted)
@@ -144,13 +146,27 @@ def in_rows(spans: Spans, columns: Columns) -> Iterator[Hit]:
 
 def hits_of(spans: Spans, columns: Columns) -> list[Hit]:
     """The damaged characters of a capture, by what is known, in the order of their columns."""
-    return sorted(hit for part in (in_control, in_guards, in_packets, in_rows) for hit in part(spans, columns))
+    found: list[Hit] = []
+    for part, (begins, lengths) in zip((in_control, in_guards, in_packets, in_rows), periods(spans)):
+        hits = [*part(spans, columns)]
+        at = np.array([hit.column for hit in hits], np.int64)
+        place = np.searchsorted(begins, at, "right") - 1
+        are_known = (place >= 0) & (at < (begins + lengths)[place]) if len(begins) else np.zeros(len(at), np.bool_)
+        found += [hit for hit, is_known in zip(hits, are_known.tolist()) if is_known]
+    return sorted(found)
+
+
+def periods(spans: Spans) -> list[tuple[Ints, Ints]]:
+    """Of each kind the first columns of what is known of it, and the numbers of columns."""
+    pairs, packets = np.sort(np.concatenate(spans.guards)), spans.packets
+    return [spans.runs[:2], (pairs, np.full(len(pairs), 2)), (packets, np.full(len(packets), PACKET)), spans.rows]
 
 
 # ---- against a capture of the same
 
 PART = 1 << 18  # columns that are compared at once
 WINDOW, TRIED = 64, 24  # columns of a pattern that is looked for, and how many patterns are
+RAREST = 3  # columns of a pattern by which it is looked for
 
 
 def joined(words: npt.NDArray[np.uint16]) -> Ints:
@@ -164,23 +180,22 @@ def offset_of(mine: Columns, other: Columns) -> int | None:
     where none is found in both."""
     whole = joined(other.at(0, min(other.count, 1 << 24)))
     order = np.argsort(whole, kind="stable")
-    votes: dict[int, int] = {}
+    votes: Counter[int] = Counter()
     for column in np.linspace(0, max(mine.count - WINDOW, 0), TRIED).astype(int).tolist():
         pattern = joined(mine.at(column, WINDOW))
-        rarest = rare(pattern)
-        first = np.searchsorted(whole, pattern[rarest], "left", sorter=order)
-        last = np.searchsorted(whole, pattern[rarest], "right", sorter=order)
-        for at in order[first : min(last, first + 4096)].tolist():
-            begin = at - rarest
-            if 0 <= begin <= len(whole) - len(pattern) and (whole[begin : begin + len(pattern)] == pattern).mean() > 0.75:
-                votes[begin - column] = votes.get(begin - column, 0) + 1
+        votes.update({begin - column for begin in found_in(whole, order, pattern)})
     return max(votes, key=lambda offset: (votes[offset], -abs(offset))) if votes else None
 
 
-def rare(pattern: Ints) -> int:
-    """The place of a column that is rarest within a pattern."""
-    values, places, counts = np.unique(pattern, return_index=True, return_counts=True)
-    return int(places[counts.argmin()]) if len(values) else 0
+def found_in(whole: Ints, order: Ints, pattern: Ints) -> Iterator[int]:
+    """Where most of a pattern is found, by those of its columns that are there and rarest; `order` sorts the whole."""
+    first, last = np.searchsorted(whole, pattern, "left", sorter=order), np.searchsorted(whole, pattern, "right", sorter=order)
+    known = np.flatnonzero(last > first)
+    for rarest in known[np.argsort((last - first)[known], kind="stable")][:RAREST].tolist():
+        for at in order[first[rarest] : min(last[rarest], first[rarest] + 4096)].tolist():
+            begin = at - rarest
+            if 0 <= begin <= len(whole) - len(pattern) and (whole[begin : begin + len(pattern)] == pattern).mean() > 0.75:
+                yield begin
 
 
 class Compared(NamedTuple):
@@ -190,17 +205,17 @@ class Compared(NamedTuple):
     exposed: dict[str, int]
 
 
-def compared(mine: Columns, other: Columns, spans: Spans, offset: int) -> Compared:
-    """The characters that are not as in another capture, whose columns are `offset` later; `spans` are those of the other one,
-    which says what each stands in."""
-    first, behind = max(0, -offset), min(mine.count, other.count - offset)
+def compared(mine: Columns, other: Columns, spans: Spans, offset: int, count: int) -> Compared:
+    """The first `count` characters that are not as in another capture, whose columns are `offset` later; `spans` are those of the other
+    one, which says what each stands in."""
+    first, behind = max(0, -offset), min(count, other.count - offset)
     hits: list[Hit] = []
     counts = np.zeros(len(KINDS), np.int64)
     for column in range(first, behind, PART):
-        count = min(PART, behind - column)
-        kinds = kinds_of(spans, column + offset, count)
+        size = min(PART, behind - column)
+        kinds = kinds_of(spans, column + offset, size)
         counts += np.bincount(kinds, minlength=len(KINDS) + 1)[: len(KINDS)]
-        unlike = mine.at(column, count) ^ other.at(column + offset, count)
+        unlike = mine.at(column, size) ^ other.at(column + offset, size)
         for lane, place in np.argwhere(unlike).tolist():
             kind = int(kinds[place])
             if kind < len(KINDS):
@@ -211,10 +226,7 @@ def compared(mine: Columns, other: Columns, spans: Spans, offset: int) -> Compar
 def kinds_of(spans: Spans, column: int, count: int) -> Ints:
     """The number of the kind of each of so many columns, len(KINDS) where nothing is known."""
     found = np.full(count, len(KINDS), np.int64)
-    pairs = np.concatenate(spans.guards)
-    lengths_of_packets = np.full(len(spans.packets), PACKET)
-    parts = (spans.runs[:2], (pairs, np.full(len(pairs), 2)), (spans.packets, lengths_of_packets), spans.rows)
-    for kind, (begins, lengths) in enumerate(parts):
+    for kind, (begins, lengths) in enumerate(periods(spans)):
         near = (begins + lengths > column) & (begins < column + count)
         for begin, length in zip(begins[near].tolist(), lengths[near].tolist()):
             found[max(begin - column, 0) : max(begin + length - column, 0)] = kind

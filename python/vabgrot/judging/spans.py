@@ -3,13 +3,15 @@
 from __future__ import annotations
 
 from array import array
+from collections.abc import Iterator
 from pathlib import Path
 
 import numpy as np
-from tqdm import tqdm
 
-from vabgrot import link, listing, place, program
+from vabgrot import link, place, program, reading
+from vabgrot.batch import Batch
 from vabgrot.errors import Refused
+from vabgrot.link import CLOSE, CONTROL, ISLAND_PACKET, OPEN, SURE, VIDEO
 from vabgrot.video.timings import Ints, ints
 
 
@@ -25,6 +27,7 @@ class Spans:
         self._packets, self._opens, self._closes = array("q"), array("q"), array("q")
         self.faults: list[tuple[str, int, tuple[int, ...]]] = []
         self.columns = 0
+        self.is_anew, self.is_cut = False, False  # whether an alignment was wrong; whether lanes were aligned anew behind the last column
 
     def take(self, thing: link.Thing) -> None:
         """The next thing of the listing."""
@@ -45,6 +48,27 @@ class Spans:
             self._closes.append(at)
         elif kind == "fault":
             self.faults.append((thing.fault, at, thing.numbers))
+
+    def take_batch(self, batch: Batch) -> None:
+        """The next things of the listing, but those whose columns are not certain, and all behind a slip."""
+        if self.is_cut:
+            return
+        self.is_cut = any(thing.kind == "slip" for _, thing in batch.special)
+        sure = batch.certain == SURE
+
+        def of(kind: int, *arrays: Ints) -> Iterator[array[int]]:
+            places = np.flatnonzero(sure & (batch.kinds == kind))
+            return (array("q", one[places].tobytes()) for one in arrays)
+
+        at, columns, values = batch.at, batch.columns, batch.values
+        for known, new in zip(self._runs, of(CONTROL, at, columns, values)):
+            known += new
+        for known, new in zip(self._rows, of(VIDEO, at + columns - values, values)):
+            known += new
+        for kind, known in ((ISLAND_PACKET, self._packets), (OPEN, self._opens), (CLOSE, self._closes)):
+            known += next(of(kind, at))
+        self.faults += [(thing.fault, thing.at, thing.numbers) for _, thing in batch.special if thing.kind == "fault"]
+        self.columns = max(self.columns, batch.end)
 
     def set_runs(self, at: Ints, columns: Ints, values: Ints) -> None:
         """Takes runs of control columns that are known."""
@@ -97,26 +121,30 @@ class Spans:
         return [(at, numbers) for name, at, numbers in self.faults if name == kind]
 
 
-def spans_of(path: Path, is_dvi: bool = False, most: int | None = None) -> Spans:
-    """The spans of a capture, those up to a column and what follows it, where `most` is given. Refused where the file is no
-    capture, or nothing aligns."""
-    words = ["recover", "dvi" if is_dvi else "link"]
-    spans, columns = Spans(is_dvi), link.Columns(is_dvi=is_dvi)
-    with program.Run(words, path) as run:
-        lines = listing.lines(run.output, listing.LINK, is_whole=False, raw_rows=True)
-        for line in tqdm(lines, unit="line", disable=None):
-            spans.take(columns.take(*line))
-            if most is not None and spans.columns > most and len(spans.runs[0]) and spans.runs[0][-1] > most:
-                break
-    check_end(run, words, path, was_cut=most is not None)
+def spans_of(path: Path, is_dvi: bool = False, words: reading.Words = ()) -> Spans:
+    """The spans of a capture up to its first slip; where an alignment was wrong it is read anew. Of what the program lists behind columns
+    that it does not count, what has no certain column is left out. Refused where the file is no capture, or nothing aligns."""
+    words = words or ["recover", "dvi" if is_dvi else "link"]
+
+    def hear(it: reading.Reading) -> Spans:
+        spans = Spans(is_dvi)
+        for batch in it.batches():
+            spans.take_batch(batch)
+        check_end(it, words, path)
+        return spans
+
+    spans = reading.read(words, path, hear, has_pixels=False)
+    if words[1] == "link" and any(kind in reading.SUSPECT for kind, _, _ in spans.faults) and reading.is_misaligned(path):
+        spans = spans_of(path, words=reading.RELOCK)
+        spans.is_anew = True
     return spans
 
 
-def check_end(run: program.Run, words: list[str], path: Path, was_cut: bool = False) -> None:
+def check_end(run: reading.Reading | program.Run, words: reading.Words, path: Path) -> None:
     """Refuses a run that ended otherwise than after an aligned capture."""
     if run.status == program.NO_CAPTURE:
         raise Refused(f"{path}: {program.explained(run.note)}")
     if run.status == program.NO_ALIGNMENT:
         raise Refused(place.named(f"{path}: no alignment: `tools/lanes look` says what the lanes have"))
-    if run.status not in (0, 1) and not was_cut:
+    if run.status not in (0, 1):
         raise Refused(f"`{' '.join(words)}` of {path}: {run.note or f'status {run.status}'}")

@@ -118,9 +118,9 @@ class Columns:
         return self.starts[lane] + TEN * column
 
 
-def columns_of(path: Path) -> Columns:
+def columns_of(path: Path, by_guards: bool = False) -> Columns:
     """The columns of a capture; refused where nothing aligns too."""
     try:
-        return Columns(path)
+        return Columns(path, by_guards)
     except ValueError as why:
         raise Refused(f"{path}: {why}") from None

@@ -19,11 +19,13 @@ from vabgrot.judging.damage import KINDS, Hit, compared, exposed, hits_of, offse
 from vabgrot.judging.spans import Spans, spans_of
 from vabgrot.judging.statistics import Limits, clusters_of, limits_of
 from vabgrot.lanes.columns import columns_of
+from vabgrot.reading import ANEW, RELOCK
 
 TEXT = """Counts the damaged characters and bits of a capture, a lane at a time: by what is known of control periods, guards, packets and
 the video coding, or against a capture of the same that is right (--reference). It writes the rate of wrong bits with its limits of
 confidence (Clopper and Pearson), and where damage lies closer than chance: on a lane, in a kind of period, in a row of the picture, in
-bursts. Without a reference a damaged bit that makes another right character is not seen, and of a damaged character the
+bursts. Columns are counted up to the first slip; where an alignment was wrong the capture is read anew, where the program has
+`recover relock`. Without a reference a damaged bit that makes another right character is not seen, and of a damaged character the
 fewest bits that explain it are counted."""
 FAULTY = "done, and a character is damaged, or with --at-most the rate is not shown to be as low"
 EXAMPLES = """./vabgrot make content < examples/bars.content > bars.tmc
@@ -51,6 +53,7 @@ class Counted:
     exposed: dict[str, int]
     unread: int
     spans: Spans
+    is_anew: bool  # an alignment was wrong
 
     @property
     def bits(self) -> int:
@@ -77,17 +80,16 @@ class Counted:
 
 def counted_of(path: Path, reference: Path | None, is_dvi: bool) -> Counted:
     """What is counted of a capture, against a reference if there is one."""
+    spans = spans_of(path, is_dvi)
+    mine = columns_of(path, spans.is_anew)
     if reference is None:
-        spans = spans_of(path, is_dvi)
-        columns = columns_of(path)
-        return Counted(hits_of(spans, columns), exposed(spans), unread(spans, columns), spans)
-    spans = spans_of(reference, is_dvi)
-    mine, other = columns_of(path), columns_of(reference)
+        return Counted(hits_of(spans, mine), exposed(spans), unread(spans, mine), spans, spans.is_anew)
+    sent, other = spans_of(reference, is_dvi), columns_of(reference)
     offset = offset_of(mine, other)
     if offset is None:
         raise Refused(f"{path}: nothing of it is found in {reference}")
-    found = compared(mine, other, spans, offset)
-    return Counted(found.hits, found.exposed, mine.count - sum(found.exposed.values()), spans)
+    found = compared(mine, other, sent, offset, spans.columns if spans.is_cut else mine.count)
+    return Counted(found.hits, found.exposed, mine.count - sum(found.exposed.values()), sent, spans.is_anew)
 
 
 def lines_of(counted: Counted, limits: Limits, at_most: float | None) -> list[str]:
@@ -98,6 +100,8 @@ def lines_of(counted: Counted, limits: Limits, at_most: float | None) -> list[st
             name = f"{LANES[row['lane']]}, {row['kind']}"
             lines.append(f"{name:<24}{row['characters']:>14,}{row['damaged']:>12,}{row['bits']:>12,}")
     lines[0] = f"{'':<24}{'characters':>14}{'damaged':>12}{'wrong bits':>12}"
+    if counted.is_anew:
+        lines.append(f"`{' '.join(RELOCK)}`: {ANEW}")
     if counted.unread:
         lines.append(f"{counted.unread:,} columns could not be read, and are not counted")
     lines.append(rate_of(counted, limits))
@@ -136,6 +140,7 @@ def plain_of(path: Path, counted: Counted, limits: Limits, status: int) -> dict[
         "bits": counted.bits,
         "wrong_bits": counted.wrong,
         "damaged": len(counted.hits),
+        "relocked": counted.is_anew,
         "unread_columns": counted.unread,
         "rate": counted.wrong / counted.bits if counted.bits else None,
         "lower": limits.lower,
