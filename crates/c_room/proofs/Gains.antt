@@ -24,7 +24,7 @@ use Rattle.link_sink.proofs.Alone.{none_alone}
 use Rattle.link_sink.proofs.Decided.{reported_so_far}
 use Rattle.link_sink.proofs.Prefixes.{columns_grow}
 use Rattle.c_room.specs.Rooms.{IsBounded}
-use Rattle.c_room.specs.Written.{all_bytes}
+use Rattle.c_room.specs.Written.{link_writing, all_bytes}
 
 -- a lane grew by at most so many bits
 pub record GrewBy (n : ℕ) (xs us : List Bool) : Type 0 where
@@ -141,7 +141,7 @@ gain_of_columns g h n before now events grew gain =
 
 -- what is reported at the end is one event with no bytes, at most
 by_last : (g : Grammar) → IsBounded g → (fed : Fed) (aligned : Bool) (count : ℕ) (us events : List Event) → IsReportedBy g fed us
-    → reported_under g aligned fed.blue fed.green fed.red count (us ++ events) → (length events ≤ 1) × (length (all_bytes events) ≤ 0)
+    → reported_under g aligned fed.blue fed.green fed.red count (us ++ events) → (length events ≤ 1) × (length (all_bytes link_writing events) ≤ 0)
 unfolding all_bytes
 by_last g h fed true count us events (inl a) w =
     let same = one_first fed.blue fed.green fed.red w.blue w.green w.red a.0 a.1 a.2 w.first a.3 in
@@ -153,9 +153,9 @@ by_last g h fed false count us events (inl a) w = absurd (w.nowhere a.0 a.1 a.2 
 by_last g h fed true count us events (inr a) w = absurd (a.0 w.blue w.green w.red w.first.triple)
 by_last g h fed false count us events (inr a) w =
     let none : events ≡ [] = sym (ap (λ ts. ts ++ events) a.1) ∙ w.reported in
-    (omega (arith, ap length none), omega (arith, ap (λ ts. length (all_bytes ts)) none))
+    (omega (arith, ap length none), omega (arith, ap (λ ts. length (all_bytes link_writing ts)) none))
 
-pub last_of_columns : (g : Grammar) → IsBounded g → (fed : Fed) (outcome : Outcome) (events : List Event) → IsLastBy g fed outcome events → (length events ≤ 1) × (length (all_bytes events) ≤ 0)
+pub last_of_columns : (g : Grammar) → IsBounded g → (fed : Fed) (outcome : Outcome) (events : List Event) → IsLastBy g fed outcome events → (length events ≤ 1) × (length (all_bytes link_writing events) ≤ 0)
 last_of_columns g h fed outcome events last =
     let was = reported_so_far g fed in
     by_last g h fed outcome.aligned outcome.columns was.0 events was.1 (last was.0 was.1)

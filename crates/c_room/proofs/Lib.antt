@@ -7,6 +7,7 @@ pub mod Keeping
 pub mod Orders
 pub mod Pieces
 pub mod Telling
+pub mod Told
 pub mod TrackGains
 pub mod TrackPieces
 pub mod Values

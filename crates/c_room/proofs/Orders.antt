@@ -27,9 +27,9 @@ use Rattle.c_room.specs.declared.status.Status.TheVariants.{Done, Full, Misuse, 
 use Rattle.c_room.specs.Orders.{column_of, FollowInOrder, FollowInOrderOf}
 use Rattle.c_room.specs.Reports.{IsColumnGain, IsColumnEnd, IsGainOfKind, IsEndOfKind}
 use Rattle.c_room.specs.Statuses.{IsEndStatus}
-use Rattle.c_room.specs.TrackWritten.{track_rows_from}
+use Rattle.c_room.specs.TrackWritten.{track_writing}
 use Rattle.c_room.specs.TrackWrittenLaws.{rows_of_events}
-use Rattle.c_room.specs.Written.{event_bytes, rows_from}
+use Rattle.c_room.specs.Written.{link_writing, event_bytes, rows_from}
 
 -- numbers that never fall, up to one
 record InOrder (n : ℕ) (js : List ℕ) : Type 0 where
@@ -93,17 +93,17 @@ lanes_ordered g is h fed events (inr a) =
     subst (λ (ts : List EventAt). IsNonDecreasing (map column_reported ts)) (sym a.1) o.up
 
 -- the column of a record is that of its event
-columns_of_rows : (o : ℕ) (events : List EventAt) → map column_of (rows_from o events) ≡ map column_reported events
+columns_of_rows : (o : ℕ) (events : List EventAt) → map column_of (rows_from link_writing o events) ≡ map column_reported events
 unfolding rows_from
 columns_of_rows o [] = refl
 columns_of_rows o (at j t ∷ ts) = ap (λ js. j ∷ js) (columns_of_rows (o + length (event_bytes t)) ts)
 
-columns_then : (before events : List EventAt) (records : List Record) → records ≡ rows_from 0 events
+columns_then : (before events : List EventAt) (records : List Record) → records ≡ rows_from link_writing 0 events
     → map column_reported before ++ map column_reported events ≡ map column_reported before ++ map column_of records
 columns_then before events records are = ap (λ js. map column_reported before ++ js) (sym (ap (map column_of) are ∙ columns_of_rows 0 events))
 
 gain_in_order : (g : Grammar) → IsGrammar g → IsByColumn g → (before after : Fed) (events : List EventAt) (records : List Record)
-    → IsGainAt g before after events → records ≡ rows_from 0 events → FollowInOrder g before records
+    → IsGainAt g before after events → records ≡ rows_from link_writing 0 events → FollowInOrder g before records
 gain_in_order g is h before after events records gain are = λ was reported.
     subst IsNonDecreasing (map-append column_reported was events ∙ columns_then was events records are) (lanes_ordered g is h after (was ++ events) (gain was reported))
 
@@ -132,7 +132,7 @@ last_ordered g is h fed false count was events (inr a) w =
     (subst (λ (us : List Event). IsNonDecreasing (map column_reported (all_at count us))) (sym none) o.up)
 
 last_in_order : (g : Grammar) → IsGrammar g → IsByColumn g → (fed : Fed) (outcome : Outcome) (events : List Event) (records : List Record)
-    → IsLastBy g fed outcome events → records ≡ rows_from 0 (all_at outcome.columns events) → FollowInOrder g fed records
+    → IsLastBy g fed outcome events → records ≡ rows_from link_writing 0 (all_at outcome.columns events) → FollowInOrder g fed records
 last_in_order g is h fed outcome events records last are = λ was reported.
     subst IsNonDecreasing (columns_then was (all_at outcome.columns events) records are)
     (last_ordered g is h fed outcome.aligned outcome.columns was events reported (last (map event_of was) (events_alone g is fed was reported)))
@@ -154,22 +154,22 @@ end_in_order g is h fed NoMemory n records ends none done = absurd ends
 -- Of a kind.
 
 columns_in_order : (g : Grammar) → IsGrammar g → IsByColumn g → (before after : Fed) (told : List TrackEventAt) (records : List Record)
-    → IsColumnGain g before after told → records ≡ track_rows_from 0 told → FollowInOrder g before records
+    → IsColumnGain g before after told → records ≡ rows_from track_writing 0 told → FollowInOrder g before records
 columns_in_order g is h before after told records gain are =
-    gain_in_order g is h before after gain.events records gain.gain (are ∙ ap (track_rows_from 0) gain.told_are ∙ rows_of_events 0 gain.events)
+    gain_in_order g is h before after gain.events records gain.gain (are ∙ ap (rows_from track_writing 0) gain.told_are ∙ rows_of_events 0 gain.events)
 
-pub told_in_order : (kind : Kind) (before after : Fed) (told : List TrackEventAt) (records : List Record) → IsGainOfKind kind before after told → records ≡ track_rows_from 0 told → FollowInOrderOf kind before records
+pub told_in_order : (kind : Kind) (before after : Fed) (told : List TrackEventAt) (records : List Record) → IsGainOfKind kind before after told → records ≡ rows_from track_writing 0 told → FollowInOrderOf kind before records
 told_in_order Link before after told records gain are = columns_in_order link_grammar link_is_grammar link_by_column before after told records gain are
 told_in_order Dvi before after told records gain are = columns_in_order dvi_grammar dvi_is_grammar dvi_by_column before after told records gain are
 told_in_order Track before after told records gain are = tt
 told_in_order Relock before after told records gain are = tt
 
 ends_in_order : (g : Grammar) → IsGrammar g → IsByColumn g → (fed : Fed) (counts : EndCounts) (told : List TrackEventAt) (records : List Record)
-    → IsColumnEnd g fed counts told → records ≡ track_rows_from 0 told → FollowInOrder g fed records
+    → IsColumnEnd g fed counts told → records ≡ rows_from track_writing 0 told → FollowInOrder g fed records
 ends_in_order g is h fed counts told records end are =
-    last_in_order g is h fed end.outcome end.events records end.last (are ∙ ap (track_rows_from 0) end.told_are ∙ rows_of_events 0 (all_at end.outcome.columns end.events))
+    last_in_order g is h fed end.outcome end.events records end.last (are ∙ ap (rows_from track_writing 0) end.told_are ∙ rows_of_events 0 (all_at end.outcome.columns end.events))
 
-pub ended_in_order : (kind : Kind) (fed : Fed) (counts : EndCounts) (told : List TrackEventAt) (records : List Record) → IsEndOfKind kind fed counts told → records ≡ track_rows_from 0 told → FollowInOrderOf kind fed records
+pub ended_in_order : (kind : Kind) (fed : Fed) (counts : EndCounts) (told : List TrackEventAt) (records : List Record) → IsEndOfKind kind fed counts told → records ≡ rows_from track_writing 0 told → FollowInOrderOf kind fed records
 ended_in_order Link fed counts told records end are = ends_in_order link_grammar link_is_grammar link_by_column fed counts told records end are
 ended_in_order Dvi fed counts told records end are = ends_in_order dvi_grammar dvi_is_grammar dvi_by_column fed counts told records end are
 ended_in_order Track fed counts told records end are = tt

@@ -9,18 +9,14 @@ use Rattle.tmds_word.specs.declared.TheConstants.{MOST_BITS}
 use Rattle.tmds_word.proofs.Lists.{length-bytes_bits, bytes_bits-append}
 use Rattle.tmds_word.specs.declared.lane_bits.LaneBits.{LaneBits}
 use Rattle.lane_align.proofs.Feeding.{bytes_drop}
-use Rattle.period_grammar.specs.Events.{Event}
-use Rattle.link_sink.specs.Ears.{StopsIn}
 use Rattle.link_sink.specs.Received.{CanFeed, CanFeedLanes, AreFedMore}
 use Rattle.link_sink.specs.Sinks.{Fed, grown_by, IsReportedOf, IsGainOf}
-use Rattle.link_sink.specs.Streams.{LaneSinkSeen, bits_fed, most_bits}
 use Rattle.link_sink.proofs.Parts.{length-take-most}
 use Rattle.c_room.specs.declared.lanes.BitCounts.{BitCounts}
 use Rattle.c_room.specs.declared.lanes.CallerLanes.{CallerLanes}
 use Rattle.c_room.specs.declared.room.EventRoom.{EventRoom}
-use Rattle.c_room.specs.Sinks.{AreFed}
-use Rattle.c_room.specs.Takes.{most_of, no_counts, counts_to, plus, grown_to, IsPiece, MayTake, MayTakeLanes, AreFew}
-use Rattle.c_room.specs.Written.{event_bytes, all_bytes, HasFilled, HasNoRoom}
+use Rattle.c_room.specs.Takes.{most_of, no_counts, counts_to, plus, grown_to, IsPiece, MayTake, MayTakeLanes, AreFew, AreFed}
+use Rattle.c_room.specs.Written.{Writing, all_bytes, HasFilled, HasNoRoom}
 use Rattle.c_room.specs.WrittenLaws.{bytes_append}
 use Rattle.c_room.proofs.Gains.{GrewBy, HaveGrownBy}
 
@@ -57,18 +53,14 @@ pub record ArePieces (lanes : CallerLanes) (at size : ℕ) (piece : LaneBits) : 
   pub green : IsPiece lanes.green.now lanes.bits.green at size piece.green.now (slice_index piece.bits 1)
   pub red : IsPiece lanes.red.now lanes.bits.red at size piece.red.now (slice_index piece.bits 2)
 
-most_is : {H : Type 0} (sink : LaneSinkSeen H) → most_bits sink ≡ max (bits_fed sink 0) (max (bits_fed sink 1) (bits_fed sink 2))
-most_is sink = refl
-
-pub piece_can : {H : Type 0} (sink : LaneSinkSeen H) (fed : BitCounts) (lanes : CallerLanes) (at size : ℕ) (piece : LaneBits) → AreFed sink (plus fed (counts_to at lanes.bits))
-    → MayTakeLanes fed lanes → AreFew fed lanes.bits → at % 8 ≡ 0 → size ≤ 32768 → ArePieces lanes at size piece → CanFeedLanes (bits_fed sink) (most_bits sink) piece
-piece_can sink fed lanes at size piece are may few even small p =
+pub piece_can : (now : ℕ → ℕ) (most : ℕ) → most ≡ max (now 0) (max (now 1) (now 2)) → (fed : BitCounts) (lanes : CallerLanes) (at size : ℕ) (piece : LaneBits)
+    → AreFed now (plus fed (counts_to at lanes.bits)) → MayTakeLanes fed lanes → AreFew fed lanes.bits → at % 8 ≡ 0 → size ≤ 32768 → ArePieces lanes at size piece → CanFeedLanes now most piece
+piece_can now most e fed lanes at size piece are may few even small p =
     let longest = most_of fed in
-    let e = most_is sink in
-    let a : most_bits sink ≤ longest + at = omega (arith, e, are.blue, are.green, are.red) in
-    let x : bits_fed sink 0 ≤ most_bits sink = omega (arith, e) in
-    let y : bits_fed sink 1 ≤ most_bits sink = omega (arith, e) in
-    let z : bits_fed sink 2 ≤ most_bits sink = omega (arith, e) in
+    let a : most ≤ longest + at = omega (arith, e, are.blue, are.green, are.red) in
+    let x : now 0 ≤ most = omega (arith, e) in
+    let y : now 1 ≤ most = omega (arith, e) in
+    let z : now 2 ≤ most = omega (arith, e) in
     record {
       blue = lane_can fed.blue longest lanes.bits.blue at size _ _ _ lanes.blue.now piece.blue.now may.blue few.blue even small are.blue a x p.blue;
       green = lane_can fed.green longest lanes.bits.green at size _ _ _ lanes.green.now piece.green.now may.green few.green even small are.green a y p.green;
@@ -79,8 +71,8 @@ piece_can sink fed lanes at size piece are may few even small p =
 pub lane_fed : (fed x at size count before now : ℕ) → count ≡ min (x - at) size → before ≡ fed + min x at → now ≡ before + count → now ≡ fed + min x (at + size)
 lane_fed fed x at size count before now e f g = omega (arith, e, f, g)
 
-pub piece_fed : {H : Type 0} (old new : LaneSinkSeen H) (fed : BitCounts) (lanes : CallerLanes) (at size : ℕ) (piece : LaneBits) → ArePieces lanes at size piece
-    → AreFedMore (bits_fed old) (bits_fed new) piece → AreFed old (plus fed (counts_to at lanes.bits)) → AreFed new (plus fed (counts_to (at + size) lanes.bits))
+pub piece_fed : (old new : ℕ → ℕ) (fed : BitCounts) (lanes : CallerLanes) (at size : ℕ) (piece : LaneBits) → ArePieces lanes at size piece
+    → AreFedMore old new piece → AreFed old (plus fed (counts_to at lanes.bits)) → AreFed new (plus fed (counts_to (at + size) lanes.bits))
 piece_fed old new fed lanes at size piece p more are = record {
   blue = lane_fed fed.blue lanes.bits.blue at size _ _ _ p.blue.count_is are.blue more.blue;
   green = lane_fed fed.green lanes.bits.green at size _ _ _ p.green.count_is are.green more.green;
@@ -126,18 +118,17 @@ piece_grew before lanes at size piece p = record {
   red = lane_grew before.red (bytes_bits piece.red.now) lanes.bits.red at size _ p.red.count_is;
 }
 
--- where there is room for so many events and bytes an ear does not stop in the midst of them
-pub no_stop : (x y : EventRoom) (events : List Event) (n m : ℕ) → length events ≤ n → length (all_bytes events) ≤ m → x.count + n ≤ length x.records.now → x.used + m ≤ length x.bytes.now
-    → StopsIn HasFilled (λ u v t. HasNoRoom u t) x y events → ⊥
+-- where there is room for so many events and bytes there is room for the next one of them
+pub has_room : {At T : Type 0} (w : Writing At T) (x y : EventRoom) (events taken : List T) (next : T) (rest : List T) (n m : ℕ) → length events ≤ n → length (all_bytes w events) ≤ m
+    → x.count + n ≤ length x.records.now → x.used + m ≤ length x.bytes.now → events ≡ taken ++ next ∷ rest → HasFilled w x y taken → HasNoRoom w y next → ⊥
 unfolding all_bytes
-no_stop x y events n m few small a b s =
-    let w = s.took_some in
-    let many = ap length s.events_are ∙ length-append s.taken (s.next ∷ s.rest) in
-    let bytes = ap (λ ts. length (all_bytes ts)) s.events_are ∙ ap length (bytes_append s.taken (s.next ∷ s.rest)) ∙ length-append (all_bytes s.taken) (all_bytes (s.next ∷ s.rest)) in
-    let next = length-append (event_bytes s.next) (all_bytes s.rest) in
-    elim s.broke_then [
-      | inl none ↦ omega (arith, none, few, a, many, w.count_is, w.records_long)
-      | inr none ↦ omega (arith, none, small, b, bytes, next, w.used_is, w.bytes_long)
+has_room w x y events taken next rest n m few small a b are filled none =
+    let many = ap length are ∙ length-append taken (next ∷ rest) in
+    let bytes = ap (λ ts. length (all_bytes w ts)) are ∙ ap length (bytes_append w taken (next ∷ rest)) ∙ length-append (all_bytes w taken) (all_bytes w (next ∷ rest)) in
+    let first = length-append (w.bytes next) (all_bytes w rest) in
+    elim none [
+      | inl none ↦ omega (arith, none, few, a, many, filled.count_is, filled.records_long)
+      | inr none ↦ omega (arith, none, small, b, bytes, first, filled.used_is, filled.bytes_long)
     ]
 
 -- the first bits of the bytes from a place on
@@ -150,8 +141,8 @@ same_bits bytes at i m bits e few within =
     ∙ ap (take bits) (sym (bytes_bits-append (take m xs) (drop m xs)) ∙ ap bytes_bits (take-append-drop m xs) ∙ sym (bytes_drop i bytes) ∙ ap (λ n. drop n (bytes_bits bytes)) (sym e))
 
 -- before any piece
-pub none_fed : {H : Type 0} (sink : LaneSinkSeen H) (fed bits : BitCounts) → AreFed sink fed → AreFed sink (plus fed (counts_to 0 bits))
-none_fed sink fed bits are = record { blue = omega (arith, are.blue); green = omega (arith, are.green); red = omega (arith, are.red) }
+pub none_fed : (now : ℕ → ℕ) (fed bits : BitCounts) → AreFed now fed → AreFed now (plus fed (counts_to 0 bits))
+none_fed now fed bits are = record { blue = omega (arith, are.blue); green = omega (arith, are.green); red = omega (arith, are.red) }
 
 lane_none : (xs bs : List Bool) (n : ℕ) → n ≡ 0 → xs ++ take n bs ≡ xs
 lane_none xs bs n e = ap (λ k. xs ++ take k bs) e ∙ append-nil xs

@@ -18,19 +18,19 @@ use Rattle.c_room.specs.declared.kind.Kind.{Kind}
 use Rattle.c_room.specs.declared.kind.Kind.TheVariants.{Link, Dvi, Track, Relock}
 use Rattle.c_room.specs.declared.room.EventRoom.{EventRoom}
 use Rattle.c_room.specs.Reports.{IsColumnGain, IsColumnEnd, IsEpochGain, IsEpochEnd, IsGainOfKind}
-use Rattle.c_room.specs.TrackWritten.{HasTakenTrack}
+use Rattle.c_room.specs.TrackWritten.{track_writing}
 use Rattle.c_room.specs.TrackWrittenLaws.{told_by_events}
-use Rattle.c_room.specs.Written.{HasTaken}
+use Rattle.c_room.specs.Written.{link_writing, HasTaken}
 use Rattle.c_room.proofs.Pieces.{gain_none}
 
 -- by a grammar
-pub columns_told : (g : Grammar) (before now : Fed) (x y : EventRoom) → (events : List EventAt) × IsGainAt g before now events × HasTaken x y events
-    → (told : List TrackEventAt) × IsColumnGain g before now told × HasTakenTrack x y told
+pub columns_told : (g : Grammar) (before now : Fed) (x y : EventRoom) → (events : List EventAt) × IsGainAt g before now events × HasTaken link_writing x y events
+    → (told : List TrackEventAt) × IsColumnGain g before now told × HasTaken track_writing x y told
 columns_told g before now x y e = (track_events_of e.0, record { events = e.0; gain = e.1; told_are = refl }, told_by_events x y e.0 e.2)
 
 pub columns_ended : (g : Grammar) (fed : Fed) (outcome : Outcome) (counts : EndCounts) (x y : EventRoom) → counts.columns ≡ outcome.columns → counts.aligned ≡ cond outcome.aligned 1 0
-    → (events : List Event) × IsLastBy g fed outcome events × HasTaken x y (all_at outcome.columns events)
-    → (told : List TrackEventAt) × IsColumnEnd g fed counts told × HasTakenTrack x y told
+    → (events : List Event) × IsLastBy g fed outcome events × HasTaken link_writing x y (all_at outcome.columns events)
+    → (told : List TrackEventAt) × IsColumnEnd g fed counts told × HasTaken track_writing x y told
 columns_ended g fed outcome counts x y columns aligned e =
     let events = all_at outcome.columns e.0 in
     (track_events_of events, record { outcome = outcome; events = e.0; last = e.1; told_are = refl; columns_are = columns; aligned_is = aligned }, told_by_events x y events e.2)
@@ -40,13 +40,13 @@ module _ {W : Type 0} {r : EpochRule} {looked : W → Fed → Type 0} {passed : 
   same : (reported : List TrackEventAt) → HasTrackedAt r before reported → was ≡ reported
   same reported h = one_so_far at_columns_is_one is false 0 before was reported tells.tracked h
 
-  pub epochs_told : (new : EpochSinkSeen W) (now : Fed) → (told : List TrackEventAt) × EpochSinkTells r looked passed new now (was ++ told) × HasTakenTrack x y told
-      → (told : List TrackEventAt) × IsEpochGain r before now told × HasTakenTrack x y told
+  pub epochs_told : (new : EpochSinkSeen W) (now : Fed) → (told : List TrackEventAt) × EpochSinkTells r looked passed new now (was ++ told) × HasTaken track_writing x y told
+      → (told : List TrackEventAt) × IsEpochGain r before now told × HasTaken track_writing x y told
   epochs_told new now t = (t.0, λ reported h. subst (λ (us : List TrackEventAt). HasTrackedAt r now (us ++ t.0)) (same reported h) t.1.tracked, t.2)
 
   pub epochs_ended : (outcome : TrackOutcome) (counts : EndCounts) → counts.columns ≡ outcome.epochs → counts.aligned ≡ outcome.aligned
-      → (last : List TrackEventAt) × IsTrackAt r before outcome.epochs outcome.aligned (was ++ last) × HasTakenTrack x y last
-      → (told : List TrackEventAt) × IsEpochEnd r before counts told × HasTakenTrack x y told
+      → (last : List TrackEventAt) × IsTrackAt r before outcome.epochs outcome.aligned (was ++ last) × HasTaken track_writing x y last
+      → (told : List TrackEventAt) × IsEpochEnd r before counts told × HasTaken track_writing x y told
   epochs_ended outcome counts columns aligned t =
       let all : IsTrackAt r before counts.columns counts.aligned (was ++ t.0) =
       subst (λ (n : ℕ). IsTrackAt r before n counts.aligned (was ++ t.0)) (sym columns) (subst (λ (m : ℕ). IsTrackAt r before outcome.epochs m (was ++ t.0)) (sym aligned) t.1) in

@@ -17,27 +17,27 @@ use Rattle.track_sink.specs.Tracks.{IsTrackedSoFar, open_epoch, closed_epoch}
 use Rattle.track_sink.specs.declared.watch.Cause.{Cause}
 use Rattle.track_sink.specs.declared.watch.Cause.TheVariants.{Slip, Unconfirmed, Refuted}
 use Rattle.track_sink.proofs.More.{IsMoreOf, EndsLast}
-use Rattle.c_room.specs.Written.{all_bytes}
+use Rattle.c_room.specs.Written.{link_writing, all_bytes}
 use Rattle.c_room.specs.WrittenLaws.{bytes_append}
-use Rattle.c_room.specs.TrackWritten.{track_bytes}
-use Rattle.c_room.specs.TrackWrittenLaws.{many_told, track_bytes_append, bytes_of_events}
+use Rattle.c_room.specs.TrackWritten.{track_writing}
+use Rattle.c_room.specs.TrackWrittenLaws.{many_told, bytes_of_events}
 use Rattle.c_room.proofs.Few.{AreFewEvents, link_bounded, link_first}
 use Rattle.c_room.proofs.Gains.{GrewBy, HaveGrownBy, gain_of_columns, last_of_columns, many}
 
 -- so many events at most, and so many bytes
 abbrev pub AreFewTold : ℕ → ℕ → List TrackEvent → Type 0
-AreFewTold n m ts = (length ts ≤ n) × (length (track_bytes ts) ≤ m)
+AreFewTold n m ts = (length ts ≤ n) × (length (all_bytes track_writing ts) ≤ m)
 
 told_append : (n m k l : ℕ) (ts us : List TrackEvent) → AreFewTold n m ts → AreFewTold k l us → AreFewTold (n + k) (m + l) (ts ++ us)
 told_append n m k l ts us g h =
-    (omega (arith, g.0, h.0, length-append ts us), omega (arith, g.1, h.1, length-append (track_bytes ts) (track_bytes us), ap length (track_bytes_append ts us)))
+    (omega (arith, g.0, h.0, length-append ts us), omega (arith, g.1, h.1, length-append (all_bytes track_writing ts) (all_bytes track_writing us), ap length (bytes_append track_writing ts us)))
 
 told_few : (n m : ℕ) (us : List Event) → AreFewEvents n m us → AreFewTold n m (track_events_of us)
 told_few n m us h = (omega (arith, h.0, many_told us), omega (arith, h.1, ap length (bytes_of_events us)))
 
 -- an end is one event with no bytes
 told_end : (begun : Bool) (cause : Cause) (place : ℕ) → AreFewTold 1 0 (end_events begun cause place)
-unfolding track_bytes
+unfolding all_bytes
 told_end true (Slip lane) place = (omega arith, omega arith)
 told_end false (Slip lane) place = (omega arith, omega arith)
 told_end begun Unconfirmed place = (omega arith, omega arith)
@@ -66,8 +66,8 @@ epoch_few fed events (inl a) =
     let cs = aligned_columns fed.blue fed.green fed.red a.0 a.1 a.2 in
     let few = few_columns fed a.0 a.1 a.2 in
     let many_events = link_bounded.events [] cs (link_grammar.so_far cs) (ap (λ ts. ts ++ link_grammar.so_far cs) (sym link_none)) in
-    (omega (arith, few, many_events, ap length a.4), omega (arith, few, link_first cs, ap (λ ts. length (all_bytes ts)) a.4))
-epoch_few fed events (inr a) = (omega (arith, ap length a.1), omega (arith, ap (λ ts. length (all_bytes ts)) a.1))
+    (omega (arith, few, many_events, ap length a.4), omega (arith, few, link_first cs, ap (λ ts. length (all_bytes link_writing ts)) a.4))
+epoch_few fed events (inr a) = (omega (arith, ap length a.1), omega (arith, ap (λ ts. length (all_bytes link_writing ts)) a.1))
 
 -- and once it ends one event more; none where it was aligned nowhere, as in its first 119 bits
 abbrev IsWholeFew : Fed → List Event → Type 0
@@ -90,10 +90,10 @@ whole_few fed true columns events w =
       omega arith,
       (
         omega (arith, few, first, one, ap length e, length-append (link_grammar.so_far cs) last.0),
-        omega (arith, few, link_first cs, none, ap (λ ts. length (all_bytes ts)) e, ap length (bytes_append (link_grammar.so_far cs) last.0), length-append (all_bytes (link_grammar.so_far cs)) (all_bytes last.0)),
+        omega (arith, few, link_first cs, none, ap (λ ts. length (all_bytes link_writing ts)) e, ap length (bytes_append link_writing (link_grammar.so_far cs) last.0), length-append (all_bytes link_writing (link_grammar.so_far cs)) (all_bytes link_writing last.0)),
       ),
     )
-whole_few fed false columns events w = inr (omega (arith, ap length w.reported), omega (arith, ap (λ ts. length (all_bytes ts)) w.reported))
+whole_few fed false columns events w = inr (omega (arith, ap length w.reported), omega (arith, ap (λ ts. length (all_bytes link_writing ts)) w.reported))
 
 -- an event and a byte a bit, at most, of epochs from their first bits on
 pub fresh_few : {r : EpochRule} → IsRule r → (begun : Bool) (z : ℕ) (fed : Fed) (ts : List TrackEvent) → IsTrackedSoFar alone r begun z fed ts → AreFewTold (most_of fed) (most_of fed) ts
@@ -143,7 +143,7 @@ more_few is z fed handed n more few (inl g) =
     let events = told_few _ _ g.events (gain_few fed handed g.upto g.events g.after g.gain) in
     let within = g.within in
     let after = g.after in
-    (omega (arith, events.0, ap length g.more_are), omega (arith, events.1, ap (λ ts. length (track_bytes ts)) g.more_are))
+    (omega (arith, events.0, ap length g.more_are), omega (arith, events.1, ap (λ ts. length (all_bytes track_writing ts)) g.more_are))
 more_few {r} is z fed handed n more few (inr e) =
     let inside = is.within fed e.cause e.place e.end in
     let after = e.after in
@@ -154,7 +154,7 @@ more_few {r} is z fed handed n more few (inr e) =
     let rest = told_append 1 0 _ _ ended e.rest (told_end e.begun e.cause (z + e.place)) (fresh_few is e.begun (z + e.place) (rest_of e.place fed) e.rest e.track) in
     let tail = told_append 1 0 _ _ (track_events_of e.last) (ended ++ e.rest) last rest in
     let all = told_append _ _ _ _ (track_events_of e.events) (track_events_of e.last ++ (ended ++ e.rest)) events tail in
-    (omega (arith, all.0, ap length e.more_are), omega (arith, all.1, ap (λ ts. length (track_bytes ts)) e.more_are))
+    (omega (arith, all.0, ap length e.more_are), omega (arith, all.1, ap (λ ts. length (all_bytes track_writing ts)) e.more_are))
 
 -- at the end
 pub last_few : (fed : Fed) (handed n : ℕ) (last : List TrackEvent) → most_of fed ≤ handed + n → EndsLast fed handed last → AreFewTold (n + 105) (n + 12327) last
@@ -164,4 +164,4 @@ last_few fed handed n last few e =
     let events = told_few _ _ e.events (gain_few fed handed e.upto e.events e.after e.gain) in
     let ends = told_few 1 0 e.ends (last_of_columns link_grammar link_bounded (front_of e.upto fed) e.outcome e.ends e.is_last) in
     let all = told_append _ _ 1 0 (track_events_of e.events) (track_events_of e.ends) events ends in
-    (omega (arith, all.0, ap length e.last_are), omega (arith, all.1, ap (λ ts. length (track_bytes ts)) e.last_are))
+    (omega (arith, all.0, ap length e.last_are), omega (arith, all.1, ap (λ ts. length (all_bytes track_writing ts)) e.last_are))

@@ -4,7 +4,7 @@ use Rattle.tmds_word.specs.Column.{Column}
 use Rattle.period_grammar.specs.Events.{Event}
 use Rattle.link_sink.specs.Grammar.{Grammar}
 use Rattle.c_room.specs.declared.room.EventRoom.{EventRoom}
-use Rattle.c_room.specs.Written.{all_bytes}
+use Rattle.c_room.specs.Written.{link_writing, all_bytes}
 
 -- so many columns at most come with so many bits of each lane: 129 bits that were there before may stand in them, twelve
 -- characters before the edge at which a lane is aligned and one that was not whole
@@ -28,6 +28,6 @@ HasNoOne room = (length room.records.now ≤ room.count) ⊎ (length room.bytes.
 -- what a grammar reports of columns in addition is of such sizes, and at the end it is one event with no bytes
 pub record IsBounded (g : Grammar) : Type 0 where
   pub events : (cs ds : List Column) (us : List Event) → g.so_far (cs ++ ds) ≡ g.so_far cs ++ us → length us ≤ 8 * length ds
-  pub bytes : (cs ds : List Column) (us : List Event) → g.so_far (cs ++ ds) ≡ g.so_far cs ++ us → length (all_bytes us) ≤ 12288 + 3 * length ds
+  pub bytes : (cs ds : List Column) (us : List Event) → g.so_far (cs ++ ds) ≡ g.so_far cs ++ us → length (all_bytes link_writing us) ≤ 12288 + 3 * length ds
   pub last_event : (cs : List Column) (us : List Event) → g.whole cs ≡ g.so_far cs ++ us → length us ≤ 1
-  pub last_bytes : (cs : List Column) (us : List Event) → g.whole cs ≡ g.so_far cs ++ us → length (all_bytes us) ≡ 0
+  pub last_bytes : (cs : List Column) (us : List Event) → g.whole cs ≡ g.so_far cs ++ us → length (all_bytes link_writing us) ≡ 0

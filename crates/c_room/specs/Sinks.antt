@@ -1,13 +1,13 @@
 -- What is seen of a sink of any kind.
-use Rattle.std.specs.Prelude.{◌≡◌, Bool, List}
+use Rattle.std.specs.Prelude.{Bool, List}
 use Rattle.link_sink.specs.Hearings.{GoesOn as LinkGoesOn}
 use Rattle.link_sink.specs.Sinks.{Fed}
-use Rattle.link_sink.specs.Streams.{LaneSinkSeen, StandsBy, bits_fed}
+use Rattle.link_sink.specs.Streams.{StandsBy, bits_fed}
 use Rattle.dvi_hearing.specs.DviStands.{GoesOn as DviGoesOn}
 use Rattle.track_sink.specs.Epochs.{stray_rule}
 use Rattle.track_sink.specs.Seeking.{IsSought}
 use Rattle.track_sink.specs.TrackEvents.{TrackEventAt}
-use Rattle.track_sink.specs.TrackSinks.{EpochSinkTells}
+use Rattle.track_sink.specs.TrackSinks.{EpochSinkTells, bits_fed as epoch_bits_fed}
 use Rattle.relock_sink.specs.Refuters.{HasLooked, refuter_passed}
 use Rattle.relock_sink.specs.Refuting.{refuting_rule}
 use Rattle.c_room.specs.declared.kind.Kind.{Kind}
@@ -15,13 +15,7 @@ use Rattle.c_room.specs.declared.kind.Kind.TheVariants.{Link, Dvi, Track, Relock
 use Rattle.c_room.specs.declared.kind_sink.KindSink.{KindSink}
 use Rattle.c_room.specs.declared.kind_sink.KindSink.TheVariants.{Link as link_sink, Dvi as dvi_sink, Track as track_sink, Relock as relock_sink}
 use Rattle.c_room.specs.declared.lanes.BitCounts.{BitCounts}
-use Rattle.c_room.specs.TrackRooms.{AreEpochsFed}
-
--- a sink was fed so many bits of each lane
-pub record AreFed {H : Type 0} (sink : LaneSinkSeen H) (bits : BitCounts) : Type 0 where
-  pub blue : bits_fed sink 0 ≡ bits.blue
-  pub green : bits_fed sink 1 ≡ bits.green
-  pub red : bits_fed sink 2 ≡ bits.red
+use Rattle.c_room.specs.Takes.{AreFed}
 
 -- the kind of a sink
 abbrev pub kind_of : KindSink → Kind
@@ -46,7 +40,7 @@ StandsFor (relock_sink sink) fed = (reported : List TrackEventAt) × EpochSinkTe
 
 -- it was fed so many bits of each lane
 abbrev pub HasTakenBits : KindSink → BitCounts → Type 0
-HasTakenBits (link_sink sink) bits = AreFed sink bits
-HasTakenBits (dvi_sink sink) bits = AreFed sink bits
-HasTakenBits (track_sink sink) bits = AreEpochsFed sink bits
-HasTakenBits (relock_sink sink) bits = AreEpochsFed sink bits
+HasTakenBits (link_sink sink) bits = AreFed (bits_fed sink) bits
+HasTakenBits (dvi_sink sink) bits = AreFed (bits_fed sink) bits
+HasTakenBits (track_sink sink) bits = AreFed (epoch_bits_fed sink) bits
+HasTakenBits (relock_sink sink) bits = AreFed (epoch_bits_fed sink) bits

@@ -46,6 +46,12 @@ pub record AreFew (fed bits : BitCounts) : Type 0 where
   pub green : fed.green + bits.green < MOST_BITS
   pub red : fed.red + bits.red < MOST_BITS
 
+-- of each lane so many bits were fed
+pub record AreFed (fed : ℕ → ℕ) (bits : BitCounts) : Type 0 where
+  pub blue : fed 0 ≡ bits.blue
+  pub green : fed 1 ≡ bits.green
+  pub red : fed 2 ≡ bits.red
+
 -- so many bits more
 abbrev pub plus : BitCounts → BitCounts → BitCounts
 plus a b = record { blue = a.blue + b.blue; green = a.green + b.green; red = a.red + b.red }

@@ -1,7 +1,5 @@
--- Room for what so many bits of lanes that may lose some can report, and what a sink of such lanes was fed.
-use Rattle.std.specs.Prelude.{◌≡◌, ◌⊎◌, ℕ, ◌+◌, ◌<◌, ◌≤◌, length}
-use Rattle.track_sink.specs.TrackSinks.{EpochSinkSeen, bits_fed}
-use Rattle.c_room.specs.declared.lanes.BitCounts.{BitCounts}
+-- Room for what so many bits of lanes that may lose some can report.
+use Rattle.std.specs.Prelude.{◌⊎◌, ℕ, ◌+◌, ◌<◌, ◌≤◌, length}
 use Rattle.c_room.specs.declared.room.EventRoom.{EventRoom}
 
 -- there is room for all that so many bits of each lane can report, with the 287 that a tracker may hold back: an event and a byte a
@@ -13,9 +11,3 @@ pub record FitsTrack (room : EventRoom) (bits : ℕ) : Type 0 where
 -- there is not even room for a byte of each lane
 abbrev pub IsTrackFull : EventRoom → Type 0
 IsTrackFull room = (length room.records.now < room.count + 400) ⊎ (length room.bytes.now < room.used + 12622)
-
--- a sink was fed so many bits of each lane
-pub record AreEpochsFed {W : Type 0} (sink : EpochSinkSeen W) (bits : BitCounts) : Type 0 where
-  pub blue : bits_fed sink 0 ≡ bits.blue
-  pub green : bits_fed sink 1 ≡ bits.green
-  pub red : bits_fed sink 2 ≡ bits.red

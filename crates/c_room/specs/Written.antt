@@ -44,17 +44,17 @@ row column offset size s = record { column = column; named = s.named; count = s.
 abbrev pub event_row : ℕ → EventAt → Record
 event_row offset (at column t) = row column offset (length (event_bytes t)) (event_said t)
 
--- the bytes of events, one after another, and their records
-unfoldable pub all_bytes : List Event → List ℕ
-all_bytes [] = []
-all_bytes (t ∷ ts) = event_bytes t ++ all_bytes ts
+-- How events of any type are written.
 
-abbrev pub bytes_at : List EventAt → List ℕ
-bytes_at events = all_bytes (map event_of events)
+-- the event without its column, the bytes that it has, and the record of one whose bytes begin at an offset
+pub record Writing (At T : Type 0) : Type 0 where
+  pub plain : At → T
+  pub bytes : T → List ℕ
+  pub row : ℕ → At → Record
 
-unfoldable pub rows_from : ℕ → List EventAt → List Record
-rows_from o [] = []
-rows_from o (t ∷ ts) = event_row o t ∷ rows_from (o + length (event_bytes (event_of t))) ts
+-- a link's events
+abbrev pub link_writing : Writing EventAt Event
+link_writing = record { plain = event_of; bytes = event_bytes; row = event_row }
 
 -- from one state to another these records and these bytes were written after those before
 pub record Wrote (x y : EventRoom) (rows : List Record) (bytes : List ℕ) : Type 0 where
@@ -67,20 +67,34 @@ pub record Wrote (x y : EventRoom) (rows : List Record) (bytes : List ℕ) : Typ
   pub count_is : y.count ≡ x.count + length rows
   pub used_is : y.used ≡ x.used + length bytes
 
-abbrev pub HasTaken : EventRoom → EventRoom → List EventAt → Type 0
-HasTaken x y events = Wrote x y (rows_from x.used events) (bytes_at events)
+module _ {At T : Type 0} (w : Writing At T) where
+  -- the bytes of events, one after another, and their records
+  unfoldable pub all_bytes : List T → List ℕ
+  all_bytes [] = []
+  all_bytes (t ∷ ts) = w.bytes t ++ all_bytes ts
 
--- so much of the room was taken by events
-pub record HasFilled (x y : EventRoom) (events : List Event) : Type 0 where
-  pub records_long : length y.records.now ≡ length x.records.now
-  pub bytes_long : length y.bytes.now ≡ length x.bytes.now
-  pub count_is : y.count ≡ x.count + length events
-  pub used_is : y.used ≡ x.used + length (all_bytes events)
+  abbrev pub bytes_at : List At → List ℕ
+  bytes_at events = all_bytes (map w.plain events)
 
--- there is no room for an event
-abbrev pub HasNoRoom : EventRoom → Event → Type 0
-HasNoRoom x t = (length x.records.now ≤ x.count) ⊎ (length x.bytes.now < x.used + length (event_bytes t))
+  unfoldable pub rows_from : ℕ → List At → List Record
+  rows_from o [] = []
+  rows_from o (t ∷ ts) = w.row o t ∷ rows_from (o + length (w.bytes (w.plain t))) ts
 
--- these events were written: the first records are theirs, and the first bytes
-abbrev pub AreWritten : List EventAt → ℕ → List Record → ℕ → List ℕ → Type 0
-AreWritten events n records m bytes = (take n records ≡ rows_from 0 events) × (take m bytes ≡ bytes_at events) × (n ≡ length events) × (m ≡ length (bytes_at events))
+  -- these events were written
+  abbrev pub HasTaken : EventRoom → EventRoom → List At → Type 0
+  HasTaken x y events = Wrote x y (rows_from x.used events) (bytes_at events)
+
+  -- so much of the room was taken by events
+  pub record HasFilled (x y : EventRoom) (events : List T) : Type 0 where
+    pub records_long : length y.records.now ≡ length x.records.now
+    pub bytes_long : length y.bytes.now ≡ length x.bytes.now
+    pub count_is : y.count ≡ x.count + length events
+    pub used_is : y.used ≡ x.used + length (all_bytes events)
+
+  -- there is no room for an event
+  abbrev pub HasNoRoom : EventRoom → T → Type 0
+  HasNoRoom x t = (length x.records.now ≤ x.count) ⊎ (length x.bytes.now < x.used + length (w.bytes t))
+
+  -- these are the records of events, and their bytes
+  abbrev pub AreWritten : List At → List Record → List ℕ → Type 0
+  AreWritten events records bytes = (records ≡ rows_from 0 events) × (bytes ≡ bytes_at events)

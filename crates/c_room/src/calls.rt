@@ -36,7 +36,7 @@ pub struct EndAnswer {
 }
 
 /// Takes bits of each lane, and writes the events that they decide.
-#[tactic(auto, using(crate::specs::TrackWrittenLaws::told_count, crate::specs::TrackWrittenLaws::told_used))]
+#[tactic(auto, using(crate::proofs::Told::told_count, crate::proofs::Told::told_used))]
 pub fn feed_into(
     kept: &mut Kept,
     lanes: CallerLanes<'_>,
@@ -67,7 +67,7 @@ pub fn feed_into(
 }
 
 /// Writes what is left at the end.
-#[tactic(auto, using(crate::specs::TrackWrittenLaws::told_count, crate::specs::TrackWrittenLaws::told_used))]
+#[tactic(auto, using(crate::proofs::Told::told_count, crate::proofs::Told::told_used))]
 pub fn finish_into(kept: &mut Kept, records: &mut [Record], bytes: &mut [u8]) -> EndAnswer
     requires { (fed : Fed) × Stands kept.old fed }
     ensures kind { kind_of kept.new.sink ≡ kind_of kept.old.sink }

@@ -9,7 +9,8 @@ ghost use Rattle.c_room.specs.Sinks.{kind_of, goes_on};
 ghost use Rattle.c_room.specs.Stands.{Stands};
 ghost use Rattle.c_room.specs.Statuses.{IsFeedStatus, IsEndStatus};
 ghost use Rattle.c_room.specs.Takes.{no_counts, most_of, counts_to, grown_to, MayTakeLanes, AreFew};
-ghost use Rattle.c_room.specs.TrackWritten.{HasTakenTrack};
+ghost use Rattle.c_room.specs.TrackWritten.{track_writing};
+ghost use Rattle.c_room.specs.Written.{HasTaken};
 ghost use Rattle.c_room.specs.declared.status.Status.TheVariants.{Done, Full, Misuse, TooMany};
 
 use crate::ended::Ended;
@@ -86,7 +87,7 @@ impl Kept {
         ensures kind { kind_of self.new.sink ≡ kind_of self.old.sink }
         ensures stands { (fed : Fed) → Stands self.old fed → Stands self.new (grown_to result.bits fed lanes.entry) }
         ensures reported { (fed : Fed) → Stands self.old fed
-            → (told : List TrackEventAt) × IsGainOfKind (kind_of self.old.sink) fed (grown_to result.bits fed lanes.entry) told × HasTakenTrack room.old room.new told }
+            → (told : List TrackEventAt) × IsGainOfKind (kind_of self.old.sink) fed (grown_to result.bits fed lanes.entry) told × HasTaken track_writing room.old room.new told }
         ensures done { result.status ≡ Done → result.bits ≡ lanes.entry.bits }
         ensures full { result.status ≡ Full → IsKindFull (kind_of self.old.sink) room.new }
         ensures misuse { result.status ≡ Misuse → goes_on self.old.sink ≡ true → MayTakeLanes self.old.fed lanes.entry → ⊥ }
@@ -114,7 +115,7 @@ impl Kept {
         ensures full { result < most_of lanes.entry.bits → IsKindFull (kind_of self.old.sink) room.new }
         ensures stands { (fed : Fed) → Stands self.old fed → Stands self.new (grown_to (counts_to result lanes.entry.bits) fed lanes.entry) }
         ensures reported { (fed : Fed) → Stands self.old fed
-            → (told : List TrackEventAt) × IsGainOfKind (kind_of self.old.sink) fed (grown_to (counts_to result lanes.entry.bits) fed lanes.entry) told × HasTakenTrack room.old room.new told }
+            → (told : List TrackEventAt) × IsGainOfKind (kind_of self.old.sink) fed (grown_to (counts_to result lanes.entry.bits) fed lanes.entry) told × HasTaken track_writing room.old room.new told }
     {
         let at = self.sink.feed(lanes, room);
         self.fed = self.fed.plus(lanes.bits.first(at));
@@ -128,11 +129,11 @@ impl Kept {
         ensures kind { kind_of self.new.sink ≡ kind_of self.old.sink }
         ensures stands { (fed : Fed) → Stands self.old fed → Stands self.new fed }
         ensures reported { (fed : Fed) → Stands self.old fed → result.status ≡ Done
-            → (told : List TrackEventAt) × IsEndOfKind (kind_of self.old.sink) fed result.counts told × HasTakenTrack room.old room.new told }
+            → (told : List TrackEventAt) × IsEndOfKind (kind_of self.old.sink) fed result.counts told × HasTaken track_writing room.old room.new told }
         ensures done { result.status ≡ Done → goes_on self.new.sink ≡ false }
         ensures full { result.status ≡ Full → LacksEnd (kind_of self.old.sink) room.old }
         ensures misuse { result.status ≡ Misuse → goes_on self.old.sink ≡ false }
-        ensures refused { (result.status ≡ Misuse) ⊎ (result.status ≡ Full) → (self.new ≡ self.old) × HasTakenTrack room.old room.new [] }
+        ensures refused { (result.status ≡ Misuse) ⊎ (result.status ≡ Full) → (self.new ≡ self.old) × HasTaken track_writing room.old room.new [] }
         ensures kinds { IsEndStatus result.status }
     {
         if !self.sink.is_open() {

@@ -9,7 +9,8 @@ ghost use Rattle.c_room.specs.KindRooms.{IsKindFull, FitsEnd, LacksEnd};
 ghost use Rattle.c_room.specs.Reports.{IsGainOfKind, IsEndOfKind};
 ghost use Rattle.c_room.specs.Sinks.{kind_of, goes_on, StandsFor, HasTakenBits};
 ghost use Rattle.c_room.specs.Takes.{no_counts, most_of, counts_to, plus, grown_to, MayTakeLanes, AreFew};
-ghost use Rattle.c_room.specs.TrackWritten.{HasTakenTrack};
+ghost use Rattle.c_room.specs.TrackWritten.{track_writing};
+ghost use Rattle.c_room.specs.Written.{HasTaken};
 
 use crate::ended::EndCounts;
 use crate::feeding::{feed_lanes, finish_sink};
@@ -85,7 +86,7 @@ impl KindSink {
         ensures stands { (fed : Fed) → StandsFor self.old fed → StandsFor self.new (grown_to (counts_to result lanes.entry.bits) fed lanes.entry) }
         ensures reported { (fed : Fed) → StandsFor self.old fed
             → (told : List TrackEventAt) × IsGainOfKind (kind_of self.old) fed (grown_to (counts_to result lanes.entry.bits) fed lanes.entry) told
-            × HasTakenTrack room.old room.new told }
+            × HasTaken track_writing room.old room.new told }
     {
         match self {
             KindSink::Link(sink) => feed_lanes(sink, lanes, room),
@@ -116,7 +117,7 @@ impl KindSink {
         ensures kind { kind_of self.new ≡ kind_of self.old }
         ensures closed { goes_on self.new ≡ false }
         ensures reported { (fed : Fed) → StandsFor self.old fed
-            → (told : List TrackEventAt) × IsEndOfKind (kind_of self.old) fed result told × HasTakenTrack room.old room.new told }
+            → (told : List TrackEventAt) × IsEndOfKind (kind_of self.old) fed result told × HasTaken track_writing room.old room.new told }
     {
         match self {
             KindSink::Link(sink) => EndCounts::of_columns(finish_sink(sink, room)),

@@ -4,7 +4,7 @@ ghost use Rattle.std.specs.Bool.{OnTrue, OnFalse};
 ghost use Rattle.outside_io.specs.Causes.{HasCause};
 ghost use Rattle.period_grammar.specs.Events.{at};
 ghost use Rattle.period_grammar.specs.Lending.{lent_event, fault_event};
-ghost use Rattle.c_room.specs.Written.{row, says, event_row, event_said, event_bytes, Wrote, HasNoRoom};
+ghost use Rattle.c_room.specs.Written.{row, says, event_row, event_said, event_bytes, link_writing, Wrote, HasNoRoom};
 ghost use Rattle.c_room.specs.Rooms.{Fits, IsFull, HasNoOne, columns_of_bits};
 
 use crate::record::{Record, Said};
@@ -155,7 +155,7 @@ impl<'a> EventRoom<'a> {
         requires { length (event_bytes (lent_event event)) ≤ 12288 }
         ensures failed { self.new.failed ≡ self.old.failed }
         ensures put { OnOk result (Wrote self.old self.new (event_row self.old.used (at column (lent_event event.entry)) ∷ []) (event_bytes (lent_event event.entry))) }
-        ensures full { OnErr result (HasNoRoom self.old (lent_event event.entry)) }
+        ensures full { OnErr result (HasNoRoom link_writing self.old (lent_event event.entry)) }
     {
         match event {
             EventRef::Run { value, count } => {
@@ -274,17 +274,17 @@ fn put_at(room: &mut [Record], at: usize, entry: Record)
 }
 
 impl<'a> Ear for EventRoom<'a> {
-    ghost use Rattle.c_room.specs.Written.{HasTaken, HasFilled, HasNoRoom};
+    ghost use Rattle.c_room.specs.Written.{link_writing, HasTaken, HasFilled, HasNoRoom};
     ghost use Rattle.c_room.specs.WrittenLaws.{taken_none, taken_both, filled_none, filled_both, filled_by};
 
     ghost faults = { λ r. r.failed };
 
-    ghost took = { HasFilled };
+    ghost took = { HasFilled link_writing };
 
-    ghost took_at = { HasTaken };
+    ghost took_at = { HasTaken link_writing };
 
     // It fails only where there is no room.
-    ghost broke = { λ x _ event. HasNoRoom x event };
+    ghost broke = { λ x _ event. HasNoRoom link_writing x event };
 
     fn hear(&mut self, column: u64, event: EventRef<'_>) -> Result<(), Failed> {
         match self.hear_event(column, event) {
@@ -296,13 +296,13 @@ impl<'a> Ear for EventRoom<'a> {
         }
     }
 
-    ghost took_none = { filled_none };
+    ghost took_none = { filled_none link_writing };
 
-    ghost took_both = { filled_both };
+    ghost took_both = { filled_both link_writing };
 
-    ghost took_none_at = { taken_none };
+    ghost took_none_at = { taken_none link_writing };
 
-    ghost took_both_at = { taken_both };
+    ghost took_both_at = { taken_both link_writing };
 
-    ghost forgets = { filled_by };
+    ghost forgets = { filled_by link_writing };
 }

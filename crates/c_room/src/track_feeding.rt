@@ -3,11 +3,12 @@ ghost use Rattle.std.specs.Prelude.{◌≡◌, ◌+◌, ◌-◌, ◌%◌, ◌<�
 ghost use Rattle.link_sink.specs.Sinks.{Fed};
 ghost use Rattle.track_sink.specs.Epochs.{IsTrackAt};
 ghost use Rattle.track_sink.specs.TrackEvents.{TrackEventAt};
-ghost use Rattle.track_sink.specs.TrackSinks.{EpochSinkTells};
+ghost use Rattle.track_sink.specs.TrackSinks.{EpochSinkTells, bits_fed};
 ghost use Rattle.c_room.specs.declared.lanes.BitCounts.{BitCounts as CountsValue};
-ghost use Rattle.c_room.specs.Takes.{most_of, counts_to, plus, grown_to, MayTakeLanes, AreFew};
-ghost use Rattle.c_room.specs.TrackRooms.{FitsTrack, IsTrackFull, AreEpochsFed};
-ghost use Rattle.c_room.specs.TrackWritten.{HasTakenTrack};
+ghost use Rattle.c_room.specs.Takes.{most_of, counts_to, plus, grown_to, MayTakeLanes, AreFew, AreFed};
+ghost use Rattle.c_room.specs.TrackRooms.{FitsTrack, IsTrackFull};
+ghost use Rattle.c_room.specs.TrackWritten.{track_writing};
+ghost use Rattle.c_room.specs.Written.{HasTaken};
 
 use crate::lanes::CallerLanes;
 use crate::room::EventRoom;
@@ -22,14 +23,14 @@ pub fn feed_epochs<W: Watch>(
 ) -> u64
     requires open { sink.old.is_open ≡ true }
     requires tells { (fed : Fed) × (reported : List TrackEventAt) × EpochSinkTells W.rule W.looked W.passed sink.old fed reported }
-    requires lanes { (fed : CountsValue) × AreEpochsFed sink.old fed × MayTakeLanes fed lanes × AreFew fed lanes.bits }
+    requires lanes { (fed : CountsValue) × AreFed (bits_fed sink.old) fed × MayTakeLanes fed lanes × AreFew fed lanes.bits }
     ensures open { sink.new.is_open ≡ true }
     ensures within { result ≤ most_of lanes.entry.bits }
     ensures full { result < most_of lanes.entry.bits → IsTrackFull room.new }
-    ensures taken { (fed : CountsValue) → AreEpochsFed sink.old fed → AreEpochsFed sink.new (plus fed (counts_to result lanes.entry.bits)) }
+    ensures taken { (fed : CountsValue) → AreFed (bits_fed sink.old) fed → AreFed (bits_fed sink.new) (plus fed (counts_to result lanes.entry.bits)) }
     ensures reported { (fed : Fed) (reported : List TrackEventAt) → EpochSinkTells W.rule W.looked W.passed sink.old fed reported
         → (told : List TrackEventAt) × EpochSinkTells W.rule W.looked W.passed sink.new (grown_to (counts_to result lanes.entry.bits) fed lanes.entry) (reported ++ told)
-        × HasTakenTrack room.old room.new told }
+        × HasTaken track_writing room.old room.new told }
 {
     let most = lanes.bits.most();
     let mut at = 0;
@@ -52,16 +53,16 @@ fn feed_epoch_piece<W: Watch>(
 )
     requires open { sink.old.is_open ≡ true }
     requires tells { (fed : Fed) × (reported : List TrackEventAt) × EpochSinkTells W.rule W.looked W.passed sink.old fed reported }
-    requires lanes { (fed : CountsValue) × AreEpochsFed sink.old (plus fed (counts_to at lanes.bits)) × MayTakeLanes fed lanes × AreFew fed lanes.bits }
+    requires lanes { (fed : CountsValue) × AreFed (bits_fed sink.old) (plus fed (counts_to at lanes.bits)) × MayTakeLanes fed lanes × AreFew fed lanes.bits }
     requires whole { at % 8 ≡ 0 }
     requires small { size ≤ 32768 }
     requires some { 0 < size }
     requires room { FitsTrack room.old size }
     ensures open { sink.new.is_open ≡ true }
-    ensures taken { (fed : CountsValue) → AreEpochsFed sink.old (plus fed (counts_to at lanes.entry.bits)) → AreEpochsFed sink.new (plus fed (counts_to (at + size) lanes.entry.bits)) }
+    ensures taken { (fed : CountsValue) → AreFed (bits_fed sink.old) (plus fed (counts_to at lanes.entry.bits)) → AreFed (bits_fed sink.new) (plus fed (counts_to (at + size) lanes.entry.bits)) }
     ensures reported { (fed : Fed) (reported : List TrackEventAt) → EpochSinkTells W.rule W.looked W.passed sink.old (grown_to (counts_to at lanes.entry.bits) fed lanes.entry) reported
         → (told : List TrackEventAt) × EpochSinkTells W.rule W.looked W.passed sink.new (grown_to (counts_to (at + size) lanes.entry.bits) fed lanes.entry) (reported ++ told)
-        × HasTakenTrack room.old room.new told }
+        × HasTaken track_writing room.old room.new told }
 {
     let piece = lanes.piece(at, size);
     match sink.feed_in_turn(piece, room) {
@@ -77,7 +78,7 @@ pub fn finish_epochs<W: Watch>(sink: &mut EpochSink<W>, room: &mut EventRoom<'_>
     requires room { FitsTrack room.old 0 }
     ensures closed { sink.new.is_open ≡ false }
     ensures reported { (fed : Fed) (reported : List TrackEventAt) → EpochSinkTells W.rule W.looked W.passed sink.old fed reported
-        → (last : List TrackEventAt) × IsTrackAt W.rule fed result.epochs result.aligned (reported ++ last) × HasTakenTrack room.old room.new last }
+        → (last : List TrackEventAt) × IsTrackAt W.rule fed result.epochs result.aligned (reported ++ last) × HasTaken track_writing room.old room.new last }
 {
     match sink.finish_in_turn(room) {
         Ok(outcome) => outcome,

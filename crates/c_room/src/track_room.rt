@@ -55,15 +55,17 @@ fn track_bits_for(events: usize, bytes: usize) -> u64
 }
 
 impl<'a> TrackEar for EventRoom<'a> {
-    ghost use Rattle.c_room.specs.TrackWritten.{HasTakenTrack, HasFilledTrack, HasNoTrackRoom};
-    ghost use Rattle.c_room.specs.TrackWrittenLaws.{told_none, told_both, track_filled_none, track_filled_both, track_filled_by, told_by_events, filled_events};
+    ghost use Rattle.c_room.specs.Written.{HasTaken, HasFilled, HasNoRoom};
+    ghost use Rattle.c_room.specs.WrittenLaws.{taken_none, taken_both, filled_none, filled_both, filled_by};
+    ghost use Rattle.c_room.specs.TrackWritten.{track_writing};
+    ghost use Rattle.c_room.specs.TrackWrittenLaws.{told_by_events, filled_events};
 
-    ghost tracked = { HasFilledTrack };
+    ghost tracked = { HasFilled track_writing };
 
-    ghost tracked_at = { HasTakenTrack };
+    ghost tracked_at = { HasTaken track_writing };
 
     // It fails only where there is no room.
-    ghost lost = { λ x _ event. HasNoTrackRoom x event };
+    ghost lost = { λ x _ event. HasNoRoom track_writing x event };
 
     fn slip(&mut self, lane: u8, place: u64) -> Result<(), Failed> {
         self.put_end(Said::new(19, place, 0, u32::from(lane), 0))
@@ -73,15 +75,15 @@ impl<'a> TrackEar for EventRoom<'a> {
         self.put_end(Said::new(20, place, 0, 0, 0))
     }
 
-    ghost tracked_none = { track_filled_none };
+    ghost tracked_none = { filled_none track_writing };
 
-    ghost tracked_both = { track_filled_both };
+    ghost tracked_both = { filled_both track_writing };
 
-    ghost tracked_none_at = { told_none };
+    ghost tracked_none_at = { taken_none track_writing };
 
-    ghost tracked_both_at = { told_both };
+    ghost tracked_both_at = { taken_both track_writing };
 
-    ghost tracked_forgets = { track_filled_by };
+    ghost tracked_forgets = { filled_by track_writing };
 
     ghost tracked_events_at = { told_by_events };
 

@@ -13,7 +13,7 @@ use Rattle.link_sink.specs.Sinks.{Fed, IsGainBy, IsLastBy}
 use Rattle.link_sink.specs.declared.hear.Outcome.{Outcome}
 use Rattle.listing_writer.specs.Growing.{appends_both}
 use Rattle.listing_writer.specs.Texts.{lines_of}
-use Rattle.c_room.specs.Written.{all_bytes, event_bytes, HasFilled, HasNoRoom}
+use Rattle.c_room.specs.Written.{link_writing, all_bytes, event_bytes, HasFilled, HasNoRoom}
 use Rattle.c_room.specs.WrittenLaws.{bytes_append}
 use Rattle.c_room.specs.declared.room.EventRoom.{EventRoom}
 use Rattle.page.specs.Ears.{EarSeen, HasListed, StopsAt}
@@ -21,9 +21,9 @@ use Rattle.page.specs.Heard.{Said, SaysOf, SaysSoFar, HaveNoRoom, IsStopped, Sto
 use Rattle.page.proofs.Told.{alone}
 
 -- an event that was listed, and for which there was no room
-pub stopped_by_room : {E : Type 0} (r : Result (Unit {0}) E) (x y : EarSeen) (first second t : Event) → first ≡ t → second ≡ t → OnErr r (HasNoRoom x.room first) → Appends x.held y.held (lines_of (second ∷ [])) → OnErr r (StopsAt x y t)
+pub stopped_by_room : {E : Type 0} (r : Result (Unit {0}) E) (x y : EarSeen) (first second t : Event) → first ≡ t → second ≡ t → OnErr r (HasNoRoom link_writing x.room first) → Appends x.held y.held (lines_of (second ∷ [])) → OnErr r (StopsAt x y t)
 stopped_by_room (Ok done) x y first second t is is' full written = tt
-stopped_by_room (Err failed) x y first second t is is' full written = inr (subst (HasNoRoom x.room) is full, subst (λ e. Appends x.held y.held (lines_of (e ∷ []))) is' written)
+stopped_by_room (Err failed) x y first second t is is' full written = inr (subst (HasNoRoom link_writing x.room) is full, subst (λ e. Appends x.held y.held (lines_of (e ∷ []))) is' written)
 
 -- of these events the ear listed some, and stopped at the next one
 pub record StopsSome (x now : EarSeen) (events : List Event) : Type 0 where
@@ -36,12 +36,12 @@ pub record StopsSome (x now : EarSeen) (events : List Event) : Type 0 where
   pub stops : StopsAt between now next
 
 -- a room that was free and holds some events has none for one more
-no_room : (x between : EventRoom) (more : List Event) (next : Event) → x.count ≡ 0 → x.used ≡ 0 → HasFilled x between more → HasNoRoom between next → HaveNoRoom (length x.records.now) (length x.bytes.now) (more ++ next ∷ [])
+no_room : (x between : EventRoom) (more : List Event) (next : Event) → x.count ≡ 0 → x.used ≡ 0 → HasFilled link_writing x between more → HasNoRoom link_writing between next → HaveNoRoom (length x.records.now) (length x.bytes.now) (more ++ next ∷ [])
 unfolding all_bytes
 no_room x between more next count used filled (inl full) =
     inl (omega (arith, full, count, filled.count_is, filled.records_long, length-append more (next ∷ [])))
 no_room x between more next count used filled (inr full) =
-    inr (omega (arith, full, used, filled.used_is, filled.bytes_long, ap length (bytes_append more (next ∷ [])), length-append (all_bytes more) (all_bytes (next ∷ [])), ap length (append-nil (event_bytes next))))
+    inr (omega (arith, full, used, filled.used_is, filled.bytes_long, ap length (bytes_append link_writing more (next ∷ [])), length-append (all_bytes link_writing more) (all_bytes link_writing (next ∷ [])), ap length (append-nil (event_bytes next))))
 
 stopped : {T : Type 0} (g : Grammar) (told : T → T → List EventAt → Type 0) (before : Fed) (events : List Event) (first : Said T) (x now : EarSeen) (t : T) → (s : SaysSoFar g told before first (said x t)) → x.room.count ≡ 0 → x.room.used ≡ 0
     → (k : StopsSome x now events) → IsStopped g told before (map event_of s.events ++ events) first (said now t)

@@ -14,17 +14,17 @@ use Rattle.link_sink.specs.Sinks.{Fed, IsReportedOf, IsReportedBy, IsGainAt, IsL
 use Rattle.link_sink.specs.declared.hear.Outcome.{Outcome}
 use Rattle.listing_writer.specs.Growing.{counted_none, counted_both, appends_none, appends_both}
 use Rattle.listing_writer.specs.Texts.{lines_of, fault_lines, counted}
-use Rattle.c_room.specs.Written.{rows_from, bytes_at, HasTaken}
+use Rattle.c_room.specs.Written.{link_writing, rows_from, bytes_at, HasTaken, AreWritten}
 use Rattle.c_room.specs.declared.room.EventRoom.{EventRoom}
 use Rattle.page.specs.Ears.{EarSeen, HasListed}
 use Rattle.page.specs.Heard.{Said, SaysOf, SaysSoFar, SaysWhole, said}
 
 -- the records and bytes of a room that was free before
-pub room_rows : (x y : EventRoom) (us : List EventAt) → HasTaken x y us → x.count ≡ 0 → x.used ≡ 0 → take y.count y.records.now ≡ rows_from 0 us
-room_rows x y us w count used = w.rows_are ∙ (λ i. take (count i) x.records.now ++ rows_from (used i) us)
-
-pub room_bytes : (x y : EventRoom) (us : List EventAt) → HasTaken x y us → x.used ≡ 0 → take y.used y.bytes.now ≡ bytes_at us
-room_bytes x y us w used = w.bytes_are ∙ ap (λ n. take n x.bytes.now ++ bytes_at us) used
+pub room_written : (x y : EventRoom) (us : List EventAt) → HasTaken link_writing x y us → x.count ≡ 0 → x.used ≡ 0 → AreWritten link_writing us (take y.count y.records.now) (take y.used y.bytes.now)
+room_written x y us w count used = (
+  w.rows_are ∙ (λ i. take (count i) x.records.now ++ rows_from link_writing (used i) us),
+  w.bytes_are ∙ ap (λ n. take n x.bytes.now ++ bytes_at link_writing us) used,
+)
 
 -- to be told some events and then others is to be told the ones and the others
 abbrev pub IsJoined : {T : Type 0} → (T → T → List EventAt → Type 0) → Type 0

@@ -6,7 +6,7 @@ ghost use Rattle.period_grammar.specs.Lending.{lent_event};
 ghost use Rattle.period_grammar.specs.Sizes.{IsSized};
 ghost use Rattle.link_sink.specs.Ears.{both_alone};
 ghost use Rattle.listing_writer.specs.Texts.{lines_of, fault_lines, counted};
-ghost use Rattle.c_room.specs.Written.{HasTaken};
+ghost use Rattle.c_room.specs.Written.{link_writing, HasTaken};
 ghost use Rattle.page.specs.Ears.{StopsAt, seen};
 
 use c_room::{EventRoom, Record};
@@ -47,7 +47,7 @@ impl<'a, K: Sink> PageEar<'a, K> {
         ensures faults { OnOk result (self.new.lister.faults ≡ counted self.old.lister.faults (fault_lines (lent_event event.entry ∷ []))) }
         ensures listed { OnOk result (Appends (K.held self.old.lister.sink.now) (K.held self.new.lister.sink.now) (lines_of (lent_event event.entry ∷ []))) }
         ensures later { K.faults self.old.lister.sink.now ≤ K.faults self.new.lister.sink.now }
-        ensures room { OnOk result (HasTaken self.old.room self.new.room (at column (lent_event event.entry) ∷ [])) }
+        ensures room { OnOk result (HasTaken link_writing self.old.room self.new.room (at column (lent_event event.entry) ∷ [])) }
         ensures stopped { OnErr result (StopsAt (seen K.held K.faults self.old) (seen K.held K.faults self.new) (lent_event event.entry)) }
     {
         let (first, second) = twice(event);
@@ -97,7 +97,7 @@ impl<'a, K: Sink> Ear for PageEar<'a, K> {
     ghost took_at = { λ x y events.
         ((y.lister.sink.ghost_name ≡ x.lister.sink.ghost_name)
         × HasListed (seen K.held K.faults x) (seen K.held K.faults y) (map event_of events))
-        × HasTaken x.room y.room events };
+        × HasTaken link_writing x.room y.room events };
 
     // The sink failed, or there was no room.
     ghost broke = { λ x y event.
@@ -121,14 +121,14 @@ impl<'a, K: Sink> Ear for PageEar<'a, K> {
       listed_both (seen K.held K.faults x) (seen K.held K.faults y) (seen K.held K.faults z) h k first.1 then.1,
     ) };
 
-    ghost took_none_at = { λ x. ((refl, listed_none (seen K.held K.faults x)), taken_none x.room) };
+    ghost took_none_at = { λ x. ((refl, listed_none (seen K.held K.faults x)), taken_none link_writing x.room) };
 
     ghost took_both_at = { λ x y z h k first then. (
       (
         then.0.0 ∙ first.0.0,
         both_alone (λ events. HasListed (seen K.held K.faults x) (seen K.held K.faults z) events) h k (listed_both (seen K.held K.faults x) (seen K.held K.faults y) (seen K.held K.faults z) (map event_of h) (map event_of k) first.0.1 then.0.1),
       ),
-      taken_both x.room y.room z.room h k first.1 then.1,
+      taken_both link_writing x.room y.room z.room h k first.1 then.1,
     ) };
 
     ghost forgets = { λ x y events t. t.0 };

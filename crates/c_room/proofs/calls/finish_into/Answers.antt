@@ -1,5 +1,5 @@
 use Rattle.std.proofs.Common.{[], ◌∙◌}
-use Rattle.c_room.specs.TrackWrittenLaws.{told_count}
+use Rattle.c_room.proofs.Told.{told_count}
 use Rattle.c_room.proofs.calls.finish_into.Goals as goal
 
 pub returns-clause-refused : goal.returns-clause-refused

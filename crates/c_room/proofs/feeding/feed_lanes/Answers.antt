@@ -1,7 +1,8 @@
 use Rattle.std.proofs.Common.{◌≡◌, ◌+◌, ◌-◌, ◌≤◌, [], ◌++◌, refl, sym, subst, arith, inr}
 use Rattle.link_sink.specs.Sinks.{Fed, IsGainAt}
-use Rattle.link_sink.specs.Streams.{StandsBy}
+use Rattle.link_sink.specs.Streams.{StandsBy, bits_fed}
 use Rattle.c_room.specs.Takes.{most_of, counts_to, grown_to}
+use Rattle.c_room.specs.Written.{link_writing}
 use Rattle.c_room.specs.WrittenLaws.{taken_none, taken_both}
 use Rattle.c_room.proofs.Pieces.{none_fed, none_grown, gain_none, gain_both, part_or_all, even_then}
 use Rattle.c_room.proofs.feeding.feed_lanes.Goals as goal
@@ -23,9 +24,9 @@ loop-size-init g c =
       next = part_or_all 0 c.next_bits-size.result c.most-most.result (most_of lanes.bits) (omega (arith, most)) within e.whole;
       fits = e.fits;
       full = λ a b. e.full a (omega (arith, most, b));
-      taken = λ fed are. none_fed sink fed lanes.bits are;
+      taken = λ fed are. none_fed (bits_fed sink) fed lanes.bits are;
       stands = λ fed h. subst (λ (f : Fed). StandsBy g.H.Hears.goes_on sink f) (sym (none fed)) h;
-      reported = λ fed h. ([], subst (λ (f : Fed). IsGainAt g.H.Hears.grammar fed f []) (sym (none fed)) (gain_none g.H.Hears.grammar.so_far_at fed), taken_none c.args.room.now);
+      reported = λ fed h. ([], subst (λ (f : Fed). IsGainAt g.H.Hears.grammar fed f []) (sym (none fed)) (gain_none g.H.Hears.grammar.so_far_at fed), taken_none link_writing c.args.room.now);
     }
 
 pub feed_piece-requires-clause-stands : goal.feed_piece-requires-clause-stands
@@ -69,6 +70,6 @@ loop-size-preserved g c =
           let two = f.reported fed (i.stands fed h) in (
             one.0 ++ two.0,
             gain_both g.H.Hears.grammar.so_far_at fed (grown_to (counts_to at lanes.bits) fed lanes) (grown_to (counts_to (at + size) lanes.bits) fed lanes) one.0 two.0 one.1 two.1,
-            taken_both c.args.room.now c.loop-size.room room one.0 two.0 one.2 two.2,
+            taken_both link_writing c.args.room.now c.loop-size.room room one.0 two.0 one.2 two.2,
           );
     }

@@ -1,16 +1,17 @@
-use Rattle.std.proofs.Common.{◌+◌, ◌++◌, subst, arith}
+use Rattle.std.proofs.Common.{◌+◌, ◌++◌, refl, subst, arith}
 use Rattle.link_sink.specs.Sinks.{Fed}
-use Rattle.track_sink.specs.TrackSinks.{EpochSinkTells}
+use Rattle.track_sink.specs.TrackSinks.{EpochSinkTells, bits_fed, most_bits}
 use Rattle.c_room.specs.Takes.{counts_to, grown_to}
-use Rattle.c_room.proofs.Pieces.{ArePieces, piece_grown}
-use Rattle.c_room.proofs.TrackPieces.{epoch_piece_can, epoch_piece_fed, no_track_stop, piece_few}
+use Rattle.c_room.specs.TrackWritten.{track_writing}
+use Rattle.c_room.proofs.Pieces.{ArePieces, piece_can, piece_fed, piece_grown, has_room}
+use Rattle.c_room.proofs.TrackPieces.{piece_few}
 use Rattle.c_room.proofs.track_feeding.feed_epoch_piece.Goals as goal
 
 pub feed_in_turn-requires-clause-lanes : goal.feed_in_turn-requires-clause-lanes
 feed_in_turn-requires-clause-lanes g c =
     let l = c.requires.lanes in
     let e = c.piece-piece.ensures in
-    epoch_piece_can c.args.sink.now l.0 c.args.lanes c.args.at c.args.size c.piece-piece.result l.1 l.2 l.3 c.requires.whole c.requires.small (record { blue = e.blue; green = e.green; red = e.red })
+    piece_can (bits_fed c.args.sink.now) (most_bits c.args.sink.now) refl l.0 c.args.lanes c.args.at c.args.size c.piece-piece.result l.1 l.2 l.3 c.requires.whole c.requires.small (record { blue = e.blue; green = e.green; red = e.red })
 
 pub unreachable-requires : goal.unreachable-requires
 unreachable-requires g c =
@@ -24,15 +25,17 @@ unreachable-requires g c =
     let events = s.2.events in
     let represents = s.2.represents in
     let stop = c.in-Err.ensures.stopped s.0 events represents in
-    let can = epoch_piece_can sink l.0 c.args.lanes c.args.at size piece l.1 l.2 l.3 c.requires.whole c.requires.small pieces in
+    let can = piece_can (bits_fed sink) (most_bits sink) refl l.0 c.args.lanes c.args.at size piece l.1 l.2 l.3 c.requires.whole c.requires.small pieces in
     let few = piece_few g.met.W.Watch.is_rule g.met.W.Watch.is_watch sink s.0 events c.args.lanes c.args.at size piece stop.0 represents pieces can stop.2 in
     let room = c.requires.room in
-    no_track_stop c.args.room.now c.feed_in_turn.new.ear stop.0 (size + 392) (size + 12614) few (omega (arith, room.events)) (omega (arith, room.bytes)) stop.1
+    let ear = stop.1 in
+    has_room track_writing c.args.room.now ear.between stop.0 ear.taken ear.next ear.rest (size + 392) (size + 12614) few.0 few.1 (omega (arith, room.events)) (omega (arith, room.bytes))
+    ear.track_events_are ear.took_some ear.lost_then
 
 pub returns-clause-taken : goal.returns-clause-taken
 returns-clause-taken g c = λ fed are.
     let e = c.piece-piece.ensures in
-    epoch_piece_fed c.args.sink.now c.feed_in_turn.new.self fed c.args.lanes c.args.at c.args.size c.piece-piece.result (record { blue = e.blue; green = e.green; red = e.red }) c.in-Ok.ensures.more are
+    piece_fed (bits_fed c.args.sink.now) (bits_fed c.feed_in_turn.new.self) fed c.args.lanes c.args.at c.args.size c.piece-piece.result (record { blue = e.blue; green = e.green; red = e.red }) c.in-Ok.ensures.more are
 
 pub returns-clause-reported : goal.returns-clause-reported
 returns-clause-reported g c = λ fed reported h.

@@ -1,11 +1,11 @@
 use Rattle.std.proofs.Common.{◌≡◌, ◌+◌, ◌-◌, ◌≤◌, [], ◌++◌, List, refl, sym, subst, arith, inr, append_assoc, append-nil}
 use Rattle.link_sink.specs.Sinks.{Fed}
 use Rattle.track_sink.specs.TrackEvents.{TrackEventAt}
-use Rattle.track_sink.specs.TrackSinks.{EpochSinkTells}
+use Rattle.track_sink.specs.TrackSinks.{EpochSinkTells, bits_fed}
 use Rattle.c_room.specs.Takes.{most_of, counts_to, grown_to}
-use Rattle.c_room.specs.TrackWrittenLaws.{told_none, told_both}
-use Rattle.c_room.proofs.Pieces.{none_grown, part_or_all, even_then}
-use Rattle.c_room.proofs.TrackPieces.{no_epochs_fed}
+use Rattle.c_room.specs.TrackWritten.{track_writing}
+use Rattle.c_room.specs.WrittenLaws.{taken_none, taken_both}
+use Rattle.c_room.proofs.Pieces.{none_fed, none_grown, part_or_all, even_then}
 use Rattle.c_room.proofs.track_feeding.feed_epochs.Goals as goal
 
 pub loop-size-init : goal.loop-size-init
@@ -26,11 +26,11 @@ loop-size-init g c =
       next = part_or_all 0 c.next_track_bits-size.result c.most-most.result (most_of lanes.bits) (omega (arith, most)) within e.whole;
       fits = e.fits;
       full = λ a b. e.full a (omega (arith, most, b));
-      taken = λ fed are. no_epochs_fed sink fed lanes.bits are;
+      taken = λ fed are. none_fed (bits_fed sink) fed lanes.bits are;
       reported = λ fed reported h. (
         [],
         subst (λ (f : Fed). Tells f (reported ++ [])) (sym (none fed)) (subst (λ (us : List TrackEventAt). Tells fed us) (sym (append-nil reported)) h),
-        told_none c.args.room.now,
+        taken_none track_writing c.args.room.now,
       );
     }
 
@@ -77,7 +77,7 @@ loop-size-preserved g c =
           let P : List TrackEventAt → Type 0 = λ us. EpochSinkTells g.W.Watch.rule g.W.Watch.looked g.W.Watch.passed sink (grown_to (counts_to (at + size) lanes.bits) fed lanes) us in (
             one.0 ++ two.0,
             subst P (append_assoc reported one.0 two.0) two.1,
-            told_both c.args.room.now c.loop-size.room room one.0 two.0 one.2 two.2,
+            taken_both track_writing c.args.room.now c.loop-size.room room one.0 two.0 one.2 two.2,
           );
     }
 

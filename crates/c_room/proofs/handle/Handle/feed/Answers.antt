@@ -26,4 +26,4 @@ returns-clause-full c = λ is. (
 pub returns-clause-in_order : goal.returns-clause-in_order
 returns-clause-in_order c = λ kind fed h.
     let r = returns-clause-reported c kind fed h in
-    told_in_order kind fed (grown_to c.feed_into-answer.result.taken fed c.args.lanes) r.0 _ r.1 r.2.0
+    told_in_order kind fed (grown_to c.feed_into-answer.result.taken fed c.args.lanes) r.0 _ r.1 r.2.0.0

@@ -29,4 +29,4 @@ returns-clause-in_order c = λ kind fed h.
     refused_in_order kind fed ended.status c.finish_into-answer.result.events c.finish_into-answer.new.records e.kinds
     (λ why. (e.refused why).1) (λ done.
     let r = returns-clause-reported c kind fed h done in
-    ended_in_order kind fed ended.counts r.0 _ r.1 r.2.0)
+    ended_in_order kind fed ended.counts r.0 _ r.1 r.2.0.0)

@@ -9,7 +9,8 @@ use Rattle.c_room.specs.KindRooms.{IsKindFull}
 use Rattle.c_room.specs.Reports.{IsGainOfKind}
 use Rattle.c_room.specs.Sinks.{kind_of, StandsFor, HasTakenBits}
 use Rattle.c_room.specs.Takes.{counts_to, grown_to}
-use Rattle.c_room.specs.TrackWritten.{HasTakenTrack}
+use Rattle.c_room.specs.TrackWritten.{track_writing}
+use Rattle.c_room.specs.Written.{HasTaken}
 use Rattle.c_room.proofs.Few.{link_bounded}
 use Rattle.c_room.proofs.FewDvi.{dvi_bounded}
 use Rattle.c_room.proofs.Telling.{columns_told, epochs_told}
@@ -40,7 +41,7 @@ pub returns-in-Link-clause-reported : goal.returns-in-Link-clause-reported
 returns-in-Link-clause-reported c = λ fed h.
     let f = c.feed_lanes in
     let now = grown_to (counts_to f.result c.args.lanes.bits) fed c.args.lanes in
-    subst (λ (s : KindSink). (told : List TrackEventAt) × IsGainOfKind (kind_of s) fed now told × HasTakenTrack c.args.room.now f.new.room told) (sym c.in-Link.is)
+    subst (λ (s : KindSink). (told : List TrackEventAt) × IsGainOfKind (kind_of s) fed now told × HasTaken track_writing c.args.room.now f.new.room told) (sym c.in-Link.is)
     (columns_told link_grammar fed now c.args.room.now f.new.room (f.ensures.reported fed (subst (λ (s : KindSink). StandsFor s fed) c.in-Link.is h)))
 
 pub returns-in-Dvi-clause-taken : goal.returns-in-Dvi-clause-taken
@@ -50,7 +51,7 @@ pub returns-in-Dvi-clause-reported : goal.returns-in-Dvi-clause-reported
 returns-in-Dvi-clause-reported c = λ fed h.
     let f = c.feed_lanes-in-Dvi in
     let now = grown_to (counts_to f.result c.args.lanes.bits) fed c.args.lanes in
-    subst (λ (s : KindSink). (told : List TrackEventAt) × IsGainOfKind (kind_of s) fed now told × HasTakenTrack c.args.room.now f.new.room told) (sym c.in-Dvi.is)
+    subst (λ (s : KindSink). (told : List TrackEventAt) × IsGainOfKind (kind_of s) fed now told × HasTaken track_writing c.args.room.now f.new.room told) (sym c.in-Dvi.is)
     (columns_told dvi_grammar fed now c.args.room.now f.new.room (f.ensures.reported fed (subst (λ (s : KindSink). StandsFor s fed) c.in-Dvi.is h)))
 
 pub feed_epochs-requires-clause-lanes : goal.feed_epochs-requires-clause-lanes
@@ -75,7 +76,7 @@ returns-in-Track-clause-reported c = λ fed h.
     let f = c.feed_epochs in
     let now = grown_to (counts_to f.result c.args.lanes.bits) fed c.args.lanes in
     let t = subst (λ (s : KindSink). StandsFor s fed) c.in-Track.is h in
-    subst (λ (s : KindSink). (told : List TrackEventAt) × IsGainOfKind (kind_of s) fed now told × HasTakenTrack c.args.room.now f.new.room told) (sym c.in-Track.is)
+    subst (λ (s : KindSink). (told : List TrackEventAt) × IsGainOfKind (kind_of s) fed now told × HasTaken track_writing c.args.room.now f.new.room told) (sym c.in-Track.is)
     (epochs_told stray_is_rule _ fed t.0 t.1 c.args.room.now f.new.room f.new.sink now (f.ensures.reported fed t.0 t.1))
 
 pub feed_epochs-requires-in-Relock-clause-lanes : goal.feed_epochs-requires-in-Relock-clause-lanes
@@ -100,5 +101,5 @@ returns-in-Relock-clause-reported c = λ fed h.
     let f = c.feed_epochs-in-Relock in
     let now = grown_to (counts_to f.result c.args.lanes.bits) fed c.args.lanes in
     let t = subst (λ (s : KindSink). StandsFor s fed) c.in-Relock.is h in
-    subst (λ (s : KindSink). (told : List TrackEventAt) × IsGainOfKind (kind_of s) fed now told × HasTakenTrack c.args.room.now f.new.room told) (sym c.in-Relock.is)
+    subst (λ (s : KindSink). (told : List TrackEventAt) × IsGainOfKind (kind_of s) fed now told × HasTaken track_writing c.args.room.now f.new.room told) (sym c.in-Relock.is)
     (epochs_told refuting_is_rule _ fed t.0 t.1 c.args.room.now f.new.room f.new.sink now (f.ensures.reported fed t.0 t.1))

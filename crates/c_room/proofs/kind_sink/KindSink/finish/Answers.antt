@@ -7,7 +7,8 @@ use Rattle.relock_sink.specs.RefuterRule.{refuting_is_rule}
 use Rattle.c_room.specs.declared.kind_sink.KindSink.{KindSink}
 use Rattle.c_room.specs.Reports.{IsEndOfKind}
 use Rattle.c_room.specs.Sinks.{kind_of, StandsFor}
-use Rattle.c_room.specs.TrackWritten.{HasTakenTrack}
+use Rattle.c_room.specs.TrackWritten.{track_writing}
+use Rattle.c_room.specs.Written.{HasTaken}
 use Rattle.c_room.proofs.Few.{link_bounded}
 use Rattle.c_room.proofs.FewDvi.{dvi_bounded}
 use Rattle.c_room.proofs.Telling.{columns_ended, epochs_ended}
@@ -35,14 +36,14 @@ pub returns-in-Link-clause-reported : goal.returns-in-Link-clause-reported
 returns-in-Link-clause-reported c = λ fed h.
     let f = c.finish_sink in
     let e = c.of_columns in
-    subst (λ (s : KindSink). (told : List TrackEventAt) × IsEndOfKind (kind_of s) fed e.result told × HasTakenTrack c.args.room.now f.new.room told) (sym c.in-Link.is)
+    subst (λ (s : KindSink). (told : List TrackEventAt) × IsEndOfKind (kind_of s) fed e.result told × HasTaken track_writing c.args.room.now f.new.room told) (sym c.in-Link.is)
     (columns_ended link_grammar fed f.result e.result c.args.room.now f.new.room e.ensures.columns e.ensures.aligned (f.ensures.reported fed (subst (λ (s : KindSink). StandsFor s fed) c.in-Link.is h)))
 
 pub returns-in-Dvi-clause-reported : goal.returns-in-Dvi-clause-reported
 returns-in-Dvi-clause-reported c = λ fed h.
     let f = c.finish_sink-in-Dvi in
     let e = c.of_columns-in-Dvi in
-    subst (λ (s : KindSink). (told : List TrackEventAt) × IsEndOfKind (kind_of s) fed e.result told × HasTakenTrack c.args.room.now f.new.room told) (sym c.in-Dvi.is)
+    subst (λ (s : KindSink). (told : List TrackEventAt) × IsEndOfKind (kind_of s) fed e.result told × HasTaken track_writing c.args.room.now f.new.room told) (sym c.in-Dvi.is)
     (columns_ended dvi_grammar fed f.result e.result c.args.room.now f.new.room e.ensures.columns e.ensures.aligned (f.ensures.reported fed (subst (λ (s : KindSink). StandsFor s fed) c.in-Dvi.is h)))
 
 pub returns-in-Track-clause-reported : goal.returns-in-Track-clause-reported
@@ -50,7 +51,7 @@ returns-in-Track-clause-reported c = λ fed h.
     let f = c.finish_epochs in
     let e = c.of_epochs in
     let t = subst (λ (s : KindSink). StandsFor s fed) c.in-Track.is h in
-    subst (λ (s : KindSink). (told : List TrackEventAt) × IsEndOfKind (kind_of s) fed e.result told × HasTakenTrack c.args.room.now f.new.room told) (sym c.in-Track.is)
+    subst (λ (s : KindSink). (told : List TrackEventAt) × IsEndOfKind (kind_of s) fed e.result told × HasTaken track_writing c.args.room.now f.new.room told) (sym c.in-Track.is)
     (epochs_ended stray_is_rule _ fed t.0 t.1 c.args.room.now f.new.room f.result e.result e.ensures.columns e.ensures.aligned (f.ensures.reported fed t.0 t.1))
 
 pub returns-in-Relock-clause-reported : goal.returns-in-Relock-clause-reported
@@ -58,5 +59,5 @@ returns-in-Relock-clause-reported c = λ fed h.
     let f = c.finish_epochs-in-Relock in
     let e = c.of_epochs-in-Relock in
     let t = subst (λ (s : KindSink). StandsFor s fed) c.in-Relock.is h in
-    subst (λ (s : KindSink). (told : List TrackEventAt) × IsEndOfKind (kind_of s) fed e.result told × HasTakenTrack c.args.room.now f.new.room told) (sym c.in-Relock.is)
+    subst (λ (s : KindSink). (told : List TrackEventAt) × IsEndOfKind (kind_of s) fed e.result told × HasTaken track_writing c.args.room.now f.new.room told) (sym c.in-Relock.is)
     (epochs_ended refuting_is_rule _ fed t.0 t.1 c.args.room.now f.new.room f.result e.result e.ensures.columns e.ensures.aligned (f.ensures.reported fed t.0 t.1))

@@ -3,7 +3,7 @@ use Rattle.std.proofs.lemmas.Result.{err_from_is_err_and}
 use Rattle.period_grammar.specs.Events.{all_at}
 use Rattle.page.specs.Ears.{EarSeen, seen}
 use Rattle.page.specs.Heard.{said}
-use Rattle.page.proofs.Told.{says_last, room_rows, room_bytes}
+use Rattle.page.proofs.Told.{says_last, room_written}
 use Rattle.page.proofs.Stopping.{stops_last}
 use Rattle.page.proofs.telling.LaneReceiverBlockSinkTelling.end.Goals as goal
 
@@ -17,7 +17,7 @@ returns-clause-heard g c = λ fed first h.
     let z : EarSeen = record { held = k.held y.lister.sink.now; write_faults = k.faults y.lister.sink.now; faults = y.lister.faults; room = c.tell_room.new.room } in
     let outcome = c.in_ok-outcome.outcome in
     let us = all_at outcome.columns t.0 in
-    let told = c.tell_room.ensures.told us (room_rows x.room y.room us t.2.1 h.1.0 h.1.1) (room_bytes x.room y.room us t.2.1 h.1.1) in (
+    let told = c.tell_room.ensures.told us (room_written x.room y.room us t.2.1 h.1.0 h.1.1) in (
       record { ear = h.2.ear; teller = h.2.teller; sink = t.2.0.0 ∙ h.2.sink },
       says_last g.H.Hears.grammar g.met.H.Hears.is_grammar g.T.Teller.told g.met.T.Teller.told_both fed outcome (said (seen k.held k.faults first.ear.now) first.teller.now) (seen k.held k.faults x) (seen k.held k.faults y) z
           was.teller.now c.tell_room.new.teller t.0 h.3 t.1 t.2.0.1 refl refl refl c.tell_room.ensures.sizes.0 c.tell_room.ensures.sizes.1 told,

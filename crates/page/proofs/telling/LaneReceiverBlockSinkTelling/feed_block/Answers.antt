@@ -3,7 +3,7 @@ use Rattle.std.proofs.lemmas.Result.{err_from_is_err_and}
 use Rattle.link_sink.specs.Sinks.{grown_by}
 use Rattle.page.specs.Ears.{EarSeen, seen}
 use Rattle.page.specs.Heard.{said}
-use Rattle.page.proofs.Told.{says_block, room_rows, room_bytes}
+use Rattle.page.proofs.Told.{says_block, room_written}
 use Rattle.page.proofs.Stopping.{stops_past}
 use Rattle.page.proofs.telling.LaneReceiverBlockSinkTelling.feed_block.Goals as goal
 
@@ -16,7 +16,7 @@ returns-clause-heard g c = λ fed first h.
     let x = was.ear.now in
     let y = c.feed_in_turn.new.ear in
     let z : EarSeen = record { held = k.held y.lister.sink.now; write_faults = k.faults y.lister.sink.now; faults = y.lister.faults; room = c.tell_room.new.room } in
-    let told = c.tell_room.ensures.told t.0 (room_rows x.room y.room t.0 t.2.1 h.1.0 h.1.1) (room_bytes x.room y.room t.0 t.2.1 h.1.1) in (
+    let told = c.tell_room.ensures.told t.0 (room_written x.room y.room t.0 t.2.1 h.1.0 h.1.1) in (
       e.fed fed h.0,
       (c.tell_room.ensures.count, c.tell_room.ensures.used),
       record { ear = h.2.ear; teller = h.2.teller; sink = t.2.0.0 ∙ h.2.sink },
