@@ -120,11 +120,7 @@ good = record {
   blue_green = (omega arith, omega arith);
   green_red = (omega arith, omega arith);
   blue_red = (omega arith, omega arith);
-  here = column_of video_guard;
-  next = column_of video_guard;
-  is_here = here_test;
-  is_next = next_test;
-  announced = announced_test;
+  opens = record { here = column_of video_guard; next = column_of video_guard; is_here = here_test; is_next = next_test; so = announced_test };
 }
 
 again : IsAgain stream sent received 407 (3 ∷ (70 ∷ (35 ∷ []))) (500 ∷ (433 ∷ (468 ∷ []))) x fed (400 ∷ (400 ∷ (400 ∷ []))) 64 750 683 718

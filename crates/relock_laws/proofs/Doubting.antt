@@ -124,8 +124,8 @@ doubts_at_second fed p q r d e f i j k own two x y z other =
       earlier = contends fed p q r d e f own two.first x y z other;
       row = record {
         before = omega arith;
-        unopposed = λ b g v is lt. upto b g v is.rival.triple lt;
-        unupheld = λ b g v is lt. upto b g v is.triple lt;
+        unopposed = λ b g v is lt. upto b g v is.later.triple lt;
+        unupheld = λ b g v is lt. upto b g v is.later.triple lt;
       };
       same_skew = two.same_skew;
     }

@@ -51,11 +51,11 @@ confirmed_by : (sent received : List Column) → length received ≡ length sent
     → IsUnconfirmed x d e f → ⊥
 confirmed_by sent received long x d e f a columns pair same one u =
     let cs = aligned_columns x.blue x.green x.red d e f in
-    let here = column_is received cs a 12 u.here columns (columns_listed x.blue x.green x.red d e f 12 ∙ u.is_here) in
-    let next = column_is received cs a 13 u.next columns (columns_listed x.blue x.green x.red d e f 13 ∙ u.is_next) in
+    let here = column_is received cs a 12 u.columns.here columns (columns_listed x.blue x.green x.red d e f 12 ∙ u.columns.is_here) in
+    let next = column_is received cs a 13 u.columns.next columns (columns_listed x.blue x.green x.red d e f 13 ∙ u.columns.is_next) in
     let within = here.0 in
     let announced : is_announced (column_at received (a + 12)) (column_at received (a + 13)) ≡ true = announced_at sent received (a + 12) (a + 13) (omega arith) (pair (omega arith)) same one in
-    true≢false (sym announced ∙ ap₂ is_announced here.1 next.1 ∙ u.unannounced)
+    true≢false (sym announced ∙ ap₂ is_announced here.1 next.1 ∙ u.columns.so)
 
 pub confirmed_at : (ps : List Period) (sent received : List Column) → ReceivedFreely ps sent received → (x : Fed) (d e f a : ℕ)
     → IsAccounted ps sent received (aligned_columns x.blue x.green x.red d e f) a → column_at received (a + 12) ≡ column_at sent (a + 12)

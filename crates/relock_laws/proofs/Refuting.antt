@@ -13,7 +13,7 @@ use Rattle.lane_align.proofs.Controls.{one_lock}
 use Rattle.lane_deskew.specs.Triples.{IsTriple}
 use Rattle.lane_deskew.specs.Aligned.{aligned_column}
 use Rattle.link_sink.specs.Sinks.{Fed}
-use Rattle.relock_sink.specs.Rivals.{middle, columns_before, IsConfirmed, HaveSameSkew, IsRefuted}
+use Rattle.relock_sink.specs.Rivals.{middle, columns_before, IsConfirmed, IsLaterBand, HaveSameSkew, IsRefuted}
 use Rattle.relock_sink.specs.Doubts.{IsContender}
 use Rattle.relock_laws.specs.Settled.{EndsNineteen}
 use Rattle.relock_laws.specs.Refuted.{GoesOn, IsWholePeriod, OpensAt, PeriodRefutes}
@@ -218,6 +218,10 @@ no_control_first fed p q r d e f own x y z n is =
       ]
     ]))
 
+-- its edges are later ones at which a guard band is received whole
+pub later_period : (fed : Fed) (p q r d e f : ℕ) → IsConfirmed fed p q r → IsWholePeriod fed d e f → p < d → q < e → r < f → IsLaterBand fed p q r d e f
+later_period fed p q r d e f own period x y z = record { own = own; triple = period.triple; blue_later = x; green_later = y; red_later = z; band = period.band }
+
 -- so the edges where it ends contend with the first alignment
 pub contends : (fed : Fed) (p q r d e f : ℕ) → IsConfirmed fed p q r → IsWholePeriod fed d e f → p < d → q < e → r < f → (HaveSameSkew p q r d e f → ⊥)
     → IsContender fed p q r d e f
@@ -228,19 +232,8 @@ contends fed p q r d e f own period x y z other =
     let one_is = column_about fed p q r d e f c 1 own period x y z n (omega arith) in
     let two_is = column_about fed p q r d e f c 2 own period x y z n (omega arith) in
     record {
-      rival = record {
-        own = own;
-        triple = period.triple;
-        blue_later = x;
-        green_later = y;
-        red_later = z;
-        other_skew = other;
-        here = period.here;
-        next = period.next;
-        is_here = period.is_here;
-        is_next = period.is_next;
-        whole = period.whole;
-      };
+      later = later_period fed p q r d e f own period x y z;
+      other_skew = other;
       period = record {
         last = column_at fed p q r d e f c 0 zero_is;
         first = column_at fed p q r d e f c 1 one_is;
@@ -277,17 +270,4 @@ period_refutes fed p q r d e f own period x y z other = by (opened is.period.fir
     by : (k : Kind) → opened is.period.first is.period.second ≡ k → IsRefuted fed p q r d e f ⊎ OpensAt fed p q r (12 + c)
     by video kind = opens video kind (λ e. cc)
     by island kind = opens island kind (λ e. cc)
-    by neither kind = inl (record {
-      rival = is.rival;
-      unopened = record {
-        last = is.period.last;
-        first = is.period.first;
-        second = is.period.second;
-        is_last = is.period.is_last;
-        is_first = is.period.is_first;
-        is_second = is.period.is_second;
-        control = is.period.control;
-        ends = is.period.ends;
-        nothing = kind;
-      };
-    })
+    by neither kind = inl (record { later = is.later; other_skew = is.other_skew; period = record { ending = is.period; nothing = kind } })

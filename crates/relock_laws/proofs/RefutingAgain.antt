@@ -14,9 +14,10 @@ use Rattle.link_laws.proofs.Tapped.{characters}
 use Rattle.link_sink.specs.Sinks.{Fed}
 use Rattle.track_sink.specs.Epochs.{rest_of}
 use Rattle.track_sink.specs.declared.watch.Cause.TheVariants.{Slip}
-use Rattle.relock_sink.specs.Rivals.{HaveSameSkew, IsConfirmed, IsRefuted, OpensNothing, middle, columns_before}
+use Rattle.relock_sink.specs.Bands.{OpensNothing, unopened_kept}
+use Rattle.relock_sink.specs.Rivals.{HaveSameSkew, IsConfirmed, IsRefuted, middle, columns_before}
 use Rattle.relock_sink.specs.Doubts.{IsContender, IsUpheld, AreInRow, IsDoubted, IsLetGo}
-use Rattle.relock_sink.specs.RefutedDecided.{rival_of}
+use Rattle.relock_sink.specs.RefutedDecided.{later_of}
 use Rattle.relock_sink.specs.Refuting.{refuting_rule}
 use Rattle.relock_laws.specs.Settled.{IsAgain, IsGoodPeriod}
 use Rattle.relock_laws.specs.Refuted.{GoesOn, IsWholePeriod}
@@ -26,7 +27,7 @@ use Rattle.relock_laws.proofs.Again.{accounted, accounted_there, calm_again, lon
 use Rattle.relock_laws.proofs.Ending.{none_unconfirmed}
 use Rattle.relock_laws.proofs.Doubting.{no_edge_after}
 use Rattle.relock_laws.proofs.GoodPeriod.{HasLast, earlier_edge}
-use Rattle.relock_laws.proofs.Refuting.{whole_apart}
+use Rattle.relock_laws.proofs.Refuting.{whole_apart, later_period}
 use Rattle.relock_laws.proofs.RefutingEnding.{let_go_leaves}
 use Rattle.relock_laws.proofs.RefutingSettling.{EndsLateBy, late_by, rest_period, settles_unrefuted, settled_has_skew, settled_no_stray}
 use Rattle.relock_laws.proofs.Settling.{least_of, HaveLast, have_last, triple_at}
@@ -81,17 +82,9 @@ together d e f z i j k own other (later a) (later b) (earlier c) = let x = own.r
 
 nothing_moved : (fed : Fed) (p q r d e f n j i : ℕ) → 120 ≤ p → 120 ≤ q → 120 ≤ r → p + 10 * n ≡ d → q + 10 * n ≡ e → r + 10 * n ≡ f → j ≡ n + i
     → OpensNothing fed p q r j → OpensNothing fed d e f i
-nothing_moved fed p q r d e f n j i a b c x y v at o = record {
-  last = o.last;
-  first = o.first;
-  second = o.second;
-  is_last = column_moved fed p q r d e f n j i a b c x y v at ∙ o.is_last;
-  is_first = column_moved fed p q r d e f n (j + 1) (i + 1) a b c x y v (omega arith) ∙ o.is_first;
-  is_second = column_moved fed p q r d e f n (j + 2) (i + 2) a b c x y v (omega arith) ∙ o.is_second;
-  control = o.control;
-  ends = o.ends;
-  nothing = o.nothing;
-}
+nothing_moved fed p q r d e f n j i a b c x y v at o =
+    unopened_kept _ _ _ _ _ _ (λ g is. column_moved fed p q r d e f n j i a b c x y v at ∙ is) (λ g is. column_moved fed p q r d e f n (j + 1) (i + 1) a b c x y v (omega arith) ∙ is)
+    (λ g is. column_moved fed p q r d e f n (j + 2) (i + 2) a b c x y v (omega arith) ∙ is) o
 
 -- later edges have no fewer columns before them
 more_before : (a b c n : ℕ) → n ≤ a → n ≤ b → n ≤ c → n ≤ middle a b c
@@ -123,7 +116,7 @@ not_later : (ps : List Period) (sent received : List Column) (offset : ℕ) (ske
     → IsAgain ps sent received offset skews counts x fed before a d e f → z + 120 ≤ least_of d e f → (IsTriple (drop z fed.blue) (drop z fed.green) (drop z fed.red) (d - z) (e - z) (f - z))
     → p + z ≤ d → q + z ≤ e → r + z ≤ f → HaveSameSkew p q r d e f → d ≤ z + i → e ≤ z + j → f ≤ z + k → IsRefuted (rest_of z fed) p q r i j k → ⊥
 not_later ps sent received offset skews counts x fed before a d e f z p q r i j k h after own pb pg pr same u v w is =
-    let t = is.rival.own.first.triple in
+    let t = is.later.own.first.triple in
     let past_b = t.blue.past in
     let past_g = t.green.past in
     let past_r = t.red.past in
@@ -139,7 +132,7 @@ not_later ps sent received offset skews counts x fed before a d e f z p q r i j 
     let free = free_received ps sent received h.reception.reception in
     let account = accounted ps sent received offset skews counts x fed before a d e f z h (omega arith) (omega arith) (omega arith) in
     columns_open ps sent received free (rest_of z fed) (d - z) (e - z) (f - z) a (11 + (c - n)) account
-    (nothing_moved (rest_of z fed) p q r (d - z) (e - z) (f - z) n (11 + c) (11 + (c - n)) (omega arith) (omega arith) (omega arith) nb ng nr (omega arith) is.unopened)
+    (nothing_moved (rest_of z fed) p q r (d - z) (e - z) (f - z) n (11 + c) (11 + (c - n)) (omega arith) (omega arith) (omega arith) nb ng nr (omega arith) is.period)
 
 -- Nor is it doubted at later ones.
 
@@ -172,30 +165,18 @@ columns_again ps sent received offset skews counts x fed before a d e f z p q r 
 
 -- an alignment with the skew of the good control period is upheld there
 upheld_there : (fed : Fed) (p q r d e f : ℕ) → IsConfirmed fed p q r → IsWholePeriod fed d e f → HaveSameSkew p q r d e f → p < d → q < e → r < f → IsUpheld fed p q r d e f
-upheld_there fed p q r d e f own period same b g v = record {
-  own = own;
-  triple = period.triple;
-  blue_later = b;
-  green_later = g;
-  red_later = v;
-  own_skew = same;
-  here = period.here;
-  next = period.next;
-  is_here = period.is_here;
-  is_next = period.is_next;
-  whole = period.whole;
-}
+upheld_there fed p q r d e f own period same b g v = record { later = later_period fed p q r d e f own period b g v; own_skew = same }
 
 -- so a contender before it is not in a row with one after it
 not_over : (fed : Fed) (p q r d e f b g v i j k : ℕ) → IsWholePeriod fed d e f → HaveSameSkew p q r d e f → IsContender fed p q r b g v → IsContender fed p q r i j k
     → AreInRow fed p q r (max b (max g v)) (max i (max j k)) → b < d → g < e → v < f → d ≤ i → e ≤ j → f ≤ k → ⊥
 not_over fed p q r d e f b g v i j k period same early is row eb eg ev lb lg lv =
-    let own = early.rival in
+    let own = early.later in
     let pb = own.blue_later in
     let pg = own.green_later in
     let pr = own.red_later in
     let t = period.triple in
-    let u = is.rival.triple in
+    let u = is.later.triple in
     let near = close fed d e f t in
     let de = near.blue_green in
     let ed = near.green_blue in
@@ -210,7 +191,7 @@ not_over fed p q r d e f b g v i j k period same early is row eb eg ev lb lg lv 
           let w = there fed.red f k t.red period.red_on u.red lv (omega arith) in
           let same0 = same.0 in
           let same1 = same.1 in
-          is.rival.other_skew (omega arith, omega arith)
+          is.other_skew (omega arith, omega arith)
     ]
   where
     there : (xs : List Bool) (d i : ℕ) → IsEdge xs d → GoesOn xs d → IsEdge xs i → d ≤ i → i ≤ d + 140 → d ≡ i
@@ -227,7 +208,7 @@ not_doubted_later : (ps : List Period) (sent received : List Column) (offset : �
 not_doubted_later ps sent received offset skews counts x fed before a d e f z p q r again good one_of_two h pb pg pr same i j k is lb lg lv (all_earlier b g v) =
     let same0 = same.0 in
     let same1 = same.1 in
-    let later = is.earlier.rival.blue_later in
+    let later = is.earlier.later.blue_later in
     elim good [
       | inl there ↦ omega arith
       | inr w ↦
@@ -237,7 +218,7 @@ not_doubted_later ps sent received offset skews counts x fed before a d e f z p 
     ]
 not_doubted_later ps sent received offset skews counts x fed before a d e f z p q r again good one_of_two h pb pg pr same i j k is lb lg lv (all_later b g v) =
     let own = triple_at fed d e f z again.good h in
-    let t = is.earlier.rival.own.first.triple in
+    let t = is.earlier.later.own.first.triple in
     let past_b = t.blue.past in
     let past_g = t.green.past in
     let past_r = t.red.past in
@@ -260,7 +241,7 @@ same_skew_stands : (ps : List Period) (sent received : List Column) (offset : �
     → (i j k : ℕ) → IsLetGo (rest_of z fed) p q r i j k → ⊥
 same_skew_stands ps sent received offset skews counts x fed before a d e f again one_of_two z p q r is same whole i j k u =
     let h = have_last fed d e f z again.good is.begins (late_by fed z (least_of d e f) is.ends) in
-    let other = (rival_of (rest_of z fed) p q r i j k u).triple in
+    let other = (later_of (rest_of z fed) p q r i j k u).triple in
     by h (where_lies h i j k other)
   where
     before_it : (z + p ≤ d) × (z + q ≤ e) × (z + r ≤ f)
@@ -287,7 +268,7 @@ same_skew_stands ps sent received offset skews counts x fed before a d e f again
         not_later ps sent received offset skews counts x fed before a d e f z p q r i j k again is.begins own (omega arith) (omega arith) (omega arith) same b g v refuted
     later_stands h b g v (inr doubted) =
         not_doubted_later ps sent received offset skews counts x fed before a d e f z p q r again whole one_of_two h before_it.0 before_it.1 before_it.2 same i j k doubted b g v
-        (where_lies h doubted.blue doubted.green doubted.red doubted.earlier.rival.triple)
+        (where_lies h doubted.blue doubted.green doubted.red doubted.earlier.later.triple)
 
     by : HaveLast fed d e f z → ArePlaced d e f z i j k → ⊥
     by h (all_earlier b g v) = not_earlier fed d e f z p q r i j k again.good h is.ends b g v u
@@ -296,7 +277,7 @@ same_skew_stands ps sent received offset skews counts x fed before a d e f again
 -- the alignment in use is the first one
 let_go_first : (x : Fed) (p q r d e f s t u : ℕ) → IsFirst x.blue x.green x.red s t u → IsLetGo x p q r d e f → IsLetGo x s t u d e f
 let_go_first x p q r d e f s t u first is =
-    let same = one_first x.blue x.green x.red p q r s t u (rival_of x p q r d e f is).own.first first in
+    let same = one_first x.blue x.green x.red p q r s t u (later_of x p q r d e f is).own.first first in
     subst (λ n. IsLetGo x n t u d e f) same.0 (subst (λ n. IsLetGo x p n u d e f) same.1 (subst (λ n. IsLetGo x p q n d e f) same.2 is))
 
 pub same_skew_is_last : SameSkewIsLast

@@ -10,7 +10,7 @@ use Rattle.relock_sink.specs.Relocks.{IsUnconfirmed}
 use Rattle.relock_sink.specs.Ends.{one_unconfirmed}
 use Rattle.relock_sink.specs.Doubts.{IsLetGo}
 use Rattle.relock_sink.specs.Refuting.{refuted_at, IsSlipFirst, refuting_ends, refuting_rule}
-use Rattle.relock_sink.specs.RefutedDecided.{rival_of}
+use Rattle.relock_sink.specs.RefutedDecided.{later_of}
 use Rattle.relock_sink.specs.RefutingEnds.{decided, not_both}
 use Rattle.relock_laws.specs.RefutingLaws.{EndsBy}
 use Rattle.relock_laws.proofs.Settling.{not_past}
@@ -32,8 +32,8 @@ unconfirmed_leaves fed d e f u = elim (decided fed) [
         let at = end.forgets in
         (place, (Unconfirmed, end), omega arith)
     by Refuted place end =
-        let rival = rival_of fed end.own_blue end.own_green end.own_red end.blue end.green end.red end.refuted in
-        absurd (not_both fed end.own_blue end.own_green end.own_red d e f rival.own u)
+        let l = later_of fed end.own_blue end.own_green end.own_red end.blue end.green end.red end.refuted in
+        absurd (not_both fed end.own_blue end.own_green end.own_red d e f l.own u)
 
 -- where a lane has a stray it ends, at or before it
 pub stray_leaves : (fed : Fed) (lane p : ℕ) → IsEnd fed lane p → (place : ℕ) × EndsBy refuting_rule fed place × (place ≤ p)
@@ -79,9 +79,9 @@ let_go_leaves fed p q r d e f is shown = elim (decided fed) [
         → ((place : ℕ) × EndsBy refuting_rule fed place × (place + 120 ≤ min d (min e f)))
         ⊎ ((lane place : ℕ) × IsSlipFirst fed lane place × (place + 30 ≤ max d (max e f)))
     by (Slip lane) place end = let before = end.before p q r d e f is in inr (lane, place, end, omega arith)
-    by Unconfirmed place end = absurd (not_both fed p q r end.blue end.green end.red (rival_of fed p q r d e f is).own end.unconfirmed)
+    by Unconfirmed place end = absurd (not_both fed p q r end.blue end.green end.red (later_of fed p q r d e f is).own end.unconfirmed)
     by Refuted place end =
-        let first = rival_of fed end.own_blue end.own_green end.own_red end.blue end.green end.red end.refuted in
-        let least = least_not_past fed end.blue end.green end.red d e f first.triple (rival_of fed p q r d e f is).triple (end.least p q r d e f is) in
+        let first = later_of fed end.own_blue end.own_green end.own_red end.blue end.green end.red end.refuted in
+        let least = least_not_past fed end.blue end.green end.red d e f first.triple (later_of fed p q r d e f is).triple (end.least p q r d e f is) in
         let at = end.begins in
         inl (place, (Refuted, end), omega arith)

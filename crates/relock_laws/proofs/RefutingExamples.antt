@@ -74,7 +74,7 @@ unrefuted =
     let until = aligns damaged damaged_spared in
     last_unrefuted x (until_is_last stream sent damaged 7 skews counts x reception small 24 until) (λ p q r d e f.
     not_let_go x p q r d e f (until_stands stream sent damaged 7 skews counts x reception small 24 until p q r d e f) (λ is.
-    let own = own_first stream sent damaged free 7 skews counts x reception.tapped small 24 until p q r is.contender.rival.own.first in
+    let own = own_first stream sent damaged free 7 skews counts x reception.tapped small 24 until p q r is.contender.later.own.first in
     not_doubted stream sent damaged free 7 skews counts x reception.tapped 24 25 until none_in_row p q r d e f own (late own.a own.upto own.ends) is))
   where
     late : (a : ℕ) → a + 12 ≤ 24 → EndsControl stream (a + 11) → (u : ℕ) → 24 ≤ u + 1 → a + 12 ≤ u → 25 ≤ u + 1

@@ -11,8 +11,8 @@ use Rattle.lane_deskew.specs.Aligned.{aligned_column}
 use Rattle.link_sink.specs.Sinks.{Fed}
 use Rattle.track_sink.specs.Epochs.{EpochRule, rest_of, HasNoEnd}
 use Rattle.track_sink.specs.Rules.{IsRule}
-use Rattle.relock_sink.specs.Relocks.{is_announced, IsUnconfirmed}
-use Rattle.relock_sink.specs.Rivals.{HaveSameSkew, IsConfirmed}
+use Rattle.relock_sink.specs.Relocks.{is_announced, IsFirstSo, IsUnconfirmed}
+use Rattle.relock_sink.specs.Rivals.{is_guard_band, HaveSameSkew, IsConfirmed}
 use Rattle.relock_sink.specs.Doubts.{IsLetGo}
 use Rattle.relock_sink.specs.Refuting.{refuting_rule}
 use Rattle.relock_sink.specs.RefuterRule.{refuting_is_rule}
@@ -23,7 +23,7 @@ use Rattle.relock_laws.specs.RefutingSettled.{IsStartBy, first_start, next_start
 use Rattle.relock_laws.proofs.GoodPeriod.{calm_none}
 use Rattle.relock_laws.proofs.Refuting.{column_of_windows, period_refutes}
 use Rattle.relock_laws.proofs.RefutingEnding.{unconfirmed_leaves, stray_leaves, let_go_leaves}
-use Rattle.relock_laws.proofs.Settling.{least_of, IsLate, HaveLast, AreAt, spread, are_settled, have_last, triple_at, column_at, none_at}
+use Rattle.relock_laws.proofs.Settling.{least_of, IsLate, HaveLast, AreAt, spread, are_settled, have_last, triple_at, edges_at, none_at}
 use Rattle.relock_laws.proofs.Windows.{rest_window, back_window}
 
 -- The epoch that has the last twelve characters.
@@ -103,11 +103,7 @@ rest_period fed d e f z w h blue green red =
       blue_on = rest_goes_on z fed.blue d (omega arith) w.blue_on;
       green_on = rest_goes_on z fed.green e (omega arith) w.green_on;
       red_on = rest_goes_on z fed.red f (omega arith) w.red_on;
-      here = good.here;
-      next = good.next;
-      is_here = column_at fed d e f z (d - z) (e - z) (f - z) 12 good.here (omega arith) (omega arith) (omega arith) (omega arith) (omega arith) (omega arith) good.is_here;
-      is_next = column_at fed d e f z (d - z) (e - z) (f - z) 13 good.next (omega arith) (omega arith) (omega arith) (omega arith) (omega arith) (omega arith) good.is_next;
-      whole = w.whole;
+      band = edges_at fed d e f z (d - z) (e - z) (f - z) is_guard_band true (omega arith) (omega arith) (omega arith) (omega arith) (omega arith) (omega arith) w.band;
     }
 
 -- An alignment before it.
@@ -126,7 +122,8 @@ column fed p q r j b g w =
 -- an alignment so far before is confirmed, where it is not unconfirmed: its two columns have arrived
 pub confirmed_before : (fed : Fed) (p q r : ℕ) → IsFirst fed.blue fed.green fed.red p q r → (IsUnconfirmed fed p q r → ⊥)
     → p + 20 ≤ length fed.blue → q + 20 ≤ length fed.green → r + 20 ≤ length fed.red → IsConfirmed fed p q r
-confirmed_before fed p q r first none b g w = by (is_announced here.0 next.0) refl
+confirmed_before fed p q r first none b g w =
+    by (is_announced here.0 next.0) (record { first = first; columns = record { here = here.0; next = next.0; is_here = here.1; is_next = next.1; so = refl } })
   where
     past_blue : 120 ≤ p
     past_blue = let a = first.triple.blue.past in omega arith
@@ -143,9 +140,9 @@ confirmed_before fed p q r first none b g w = by (is_announced here.0 next.0) re
     next : (c : Column) × (aligned_column fed.blue fed.green fed.red p q r 13 ≡ Some c)
     next = let x = past_blue in let y = past_green in let z = past_red in column fed p q r 13 (omega arith) (omega arith) (omega arith)
 
-    by : (b : Bool) → is_announced here.0 next.0 ≡ b → IsConfirmed fed p q r
-    by true is = record { first = first; here = here.0; next = next.0; is_here = here.1; is_next = next.1; announced = is }
-    by false is = absurd (none (record { first = first; here = here.0; next = next.0; is_here = here.1; is_next = next.1; unannounced = is }))
+    by : (b : Bool) → IsFirstSo b fed p q r → IsConfirmed fed p q r
+    by true is = is
+    by false is = absurd (none is)
 
 pub same_or_not : (p q r d e f : ℕ) → HaveSameSkew p q r d e f ⊎ (HaveSameSkew p q r d e f → ⊥)
 same_or_not p q r d e f = elim (ℕ_discrete (d + q) (e + p)) [

@@ -107,11 +107,7 @@ own = record {
     };
     least = λ p q r t. let past = t.blue.past in let after = t.green.past in let beyond = t.red.past in omega arith;
   };
-  here = guards;
-  next = guards;
-  is_here = refl;
-  is_next = refl;
-  announced = announced_test;
+  columns = record { here = guards; next = guards; is_here = refl; is_next = refl; so = announced_test };
 }
 
 first_good : IsGoodPeriod fed 330 330 340
@@ -123,18 +119,14 @@ first_good = record {
   blue_green = (omega arith, omega arith);
   green_red = (omega arith, omega arith);
   blue_red = (omega arith, omega arith);
-  here = guards;
-  next = guards;
-  is_here = refl;
-  is_next = refl;
-  announced = announced_test;
+  opens = record { here = guards; next = guards; is_here = refl; is_next = refl; so = announced_test };
 }
 
 first : IsWholeGoodPeriod fed 330 330 340
-unfolding first_good
+unfolding aligned_column blue green red window row_bits word_bits bits_of number video_guard
 first = record {
   good = first_good;
-  whole = whole_test;
+  band = record { here = guards; next = guards; is_here = refl; is_next = refl; so = whole_test };
   blue_on = goes_on blue 330 blue_tests.second_on;
   green_on = goes_on green 330 green_tests.second_on;
   red_on = goes_on red 340 red_tests.second_on;
@@ -149,18 +141,14 @@ second_good = record {
   blue_green = (omega arith, omega arith);
   green_red = (omega arith, omega arith);
   blue_red = (omega arith, omega arith);
-  here = guards;
-  next = guards;
-  is_here = refl;
-  is_next = refl;
-  announced = announced_test;
+  opens = record { here = guards; next = guards; is_here = refl; is_next = refl; so = announced_test };
 }
 
 second : IsWholeGoodPeriod fed 680 680 690
-unfolding second_good
+unfolding aligned_column blue green red window row_bits word_bits bits_of number video_guard
 second = record {
   good = second_good;
-  whole = whole_test;
+  band = record { here = guards; next = guards; is_here = refl; is_next = refl; so = whole_test };
   blue_on = goes_on blue 680 blue_tests.third_on;
   green_on = goes_on green 680 green_tests.third_on;
   red_on = goes_on red 690 red_tests.third_on;

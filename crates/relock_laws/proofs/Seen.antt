@@ -104,22 +104,22 @@ seen_confirmed ps sent received reception alone from y lanes d e f u =
     let past_g = t.green.past in
     let past_r = t.red.past in
     let i = b.0 in
-    let h = words_of_column y.blue y.green y.red d e f 12 u.here u.is_here in
-    let n = words_of_column y.blue y.green y.red d e f 13 u.next u.is_next in
-    let here = column_is received (i + 1) u.here
-    (blue.characters d t.blue (d - 120 + 10 * 12) (i + 1) u.here.blue (omega arith) (omega arith) h.blue_is (omega arith))
-    (green.characters e t.green (e - 120 + 10 * 12) (i + 1) u.here.green (omega arith) (omega arith) h.green_is (omega arith))
-    (red.characters f t.red (f - 120 + 10 * 12) (i + 1) u.here.red (omega arith) (omega arith) h.red_is (omega arith)) in
-    let next = column_is received (i + 2) u.next
-    (blue.characters d t.blue (d - 120 + 10 * 13) (i + 2) u.next.blue (omega arith) (omega arith) n.blue_is (omega arith))
-    (green.characters e t.green (e - 120 + 10 * 13) (i + 2) u.next.green (omega arith) (omega arith) n.green_is (omega arith))
-    (red.characters f t.red (f - 120 + 10 * 13) (i + 2) u.next.red (omega arith) (omega arith) n.red_is (omega arith)) in
+    let h = words_of_column y.blue y.green y.red d e f 12 u.columns.here u.columns.is_here in
+    let n = words_of_column y.blue y.green y.red d e f 13 u.columns.next u.columns.is_next in
+    let here = column_is received (i + 1) u.columns.here
+    (blue.characters d t.blue (d - 120 + 10 * 12) (i + 1) u.columns.here.blue (omega arith) (omega arith) h.blue_is (omega arith))
+    (green.characters e t.green (e - 120 + 10 * 12) (i + 1) u.columns.here.green (omega arith) (omega arith) h.green_is (omega arith))
+    (red.characters f t.red (f - 120 + 10 * 12) (i + 1) u.columns.here.red (omega arith) (omega arith) h.red_is (omega arith)) in
+    let next = column_is received (i + 2) u.columns.next
+    (blue.characters d t.blue (d - 120 + 10 * 13) (i + 2) u.columns.next.blue (omega arith) (omega arith) n.blue_is (omega arith))
+    (green.characters e t.green (e - 120 + 10 * 13) (i + 2) u.columns.next.green (omega arith) (omega arith) n.green_is (omega arith))
+    (red.characters f t.red (f - 120 + 10 * 13) (i + 2) u.columns.next.red (omega arith) (omega arith) n.red_is (omega arith)) in
     let spared = alone.spares (i + 1) (i + 1) (omega arith) (λ payload. parted kinds alternates i b.1.here payload) in
     let within = here.0 in
     let long = reception.sparse.same_length in
     let announced : is_announced (column_at received (i + 1)) (column_at received (i + 2)) ≡ true =
     announced_at sent received (i + 1) (i + 2) (omega arith) (pair_at ps sent received reception i (i + 1) b.1 (omega arith) (omega arith)) spared (reception.sparse.one_a_column (i + 2)) in
-    true≢false (sym announced ∙ ap₂ is_announced here.1 next.1 ∙ u.unannounced)
+    true≢false (sym announced ∙ ap₂ is_announced here.1 next.1 ∙ u.columns.so)
 
 -- all their alignments have one skew, since the edges of each are the end of one control period
 pub seen_skew : (ps : List Period) (received : List Column) → IsConforming ps → (from : ℕ → ℕ) (y : Fed) → AreSeen ps received from y

@@ -18,6 +18,7 @@ use Rattle.link_sink.specs.Sinks.{Fed}
 use Rattle.lane_track.specs.Strays.{IsStray, HasNoStray}
 use Rattle.track_sink.specs.Ends.{end_decided}
 use Rattle.track_sink.specs.Epochs.{lane_of, rest_of, IsEnd, HasNoEnd}
+use Rattle.relock_sink.specs.Bands.{AtEdges, so_kept}
 use Rattle.relock_sink.specs.Relocks.{is_announced, IsUnconfirmed}
 use Rattle.relock_sink.specs.Ends.{decided, excludes, one, within}
 use Rattle.relock_laws.specs.Settled.{IsGoodPeriod, EndsEpoch, IsStart, first_start, next_start, IsSettled, SettlesAtPeriod, SettlesForGood}
@@ -160,16 +161,16 @@ pub record HaveLast (fed : Fed) (d e f z : ℕ) : Type 0 where
 pub have_last : (fed : Fed) (d e f z : ℕ) → IsGoodPeriod fed d e f → z + 120 ≤ least_of d e f → IsLate fed z (least_of d e f) → HaveLast fed d e f z
 have_last fed d e f z good after late =
     let s = spread d e f good.blue_green good.green_red good.blue_red in
-    let none = announced_column good.here good.next good.announced in
-    let w = words_of_column fed.blue fed.green fed.red d e f 12 good.here good.is_here in
+    let none = announced_column good.opens.here good.opens.next good.opens.so in
+    let w = words_of_column fed.blue fed.green fed.red d e f 12 good.opens.here good.opens.is_here in
     let b = good.blue.begins in
     let g = good.green.begins in
     let r = good.red.begins in
     record {
       blue = record {
         good = good.blue;
-        word = good.here.blue;
-        here = at_edge d fed.blue good.here.blue (omega arith) w.blue_is;
+        word = good.opens.here.blue;
+        here = at_edge d fed.blue good.opens.here.blue (omega arith) w.blue_is;
         no_control = none.blue;
         after = after;
         low = s.blue_low;
@@ -178,8 +179,8 @@ have_last fed d e f z good after late =
       };
       green = record {
         good = good.green;
-        word = good.here.green;
-        here = at_edge e fed.green good.here.green (omega arith) w.green_is;
+        word = good.opens.here.green;
+        here = at_edge e fed.green good.opens.here.green (omega arith) w.green_is;
         no_control = none.green;
         after = after;
         low = s.green_low;
@@ -188,8 +189,8 @@ have_last fed d e f z good after late =
       };
       red = record {
         good = good.red;
-        word = good.here.red;
-        here = at_edge f fed.red good.here.red (omega arith) w.red_is;
+        word = good.opens.here.red;
+        here = at_edge f fed.red good.opens.here.red (omega arith) w.red_is;
         no_control = none.red;
         after = after;
         low = s.red_low;
@@ -299,6 +300,12 @@ column_at fed d e f z p q r j c b g h fb fg fr is =
     let v = window_at fed.red z f r j c.red h fr w.red_is in
     λ i. column_from (x i) (y i) (v i)
 
+-- what is so of the columns at its edges is so of those of the epoch
+pub edges_at : (fed : Fed) (d e f z p q r : ℕ) (test : Column → Column → Bool) (answer : Bool) → z + p ≡ d → z + q ≡ e → z + r ≡ f → 120 ≤ p → 120 ≤ q → 120 ≤ r
+    → AtEdges test answer fed d e f → AtEdges test answer (rest_of z fed) p q r
+edges_at fed d e f z p q r test answer b g h fb fg fr is =
+    so_kept _ _ _ _ test answer (λ c. column_at fed d e f z p q r 12 c b g h fb fg fr) (λ c. column_at fed d e f z p q r 13 c b g h fb fg fr) is
+
 largest : (p q r n : ℕ) → p ≤ n → q ≤ n → r ≤ n → max p (max q r) ≤ n
 largest p q r n a b c = max-le a (max-le b c)
 
@@ -308,9 +315,9 @@ is_confirmed fed d e f z p q r good h late (inl at) u =
     let pb = t.blue.past in
     let pg = t.green.past in
     let pr = t.red.past in
-    let a = same_column _ good.here u.here (column_at fed d e f z p q r 12 good.here at.0 at.1 at.2 (omega arith) (omega arith) (omega arith) good.is_here) u.is_here in
-    let b = same_column _ good.next u.next (column_at fed d e f z p q r 13 good.next at.0 at.1 at.2 (omega arith) (omega arith) (omega arith) good.is_next) u.is_next in
-    true≢false (sym good.announced ∙ (λ i. is_announced (a i) (b i)) ∙ u.unannounced)
+    let a = same_column _ good.opens.here u.columns.here (column_at fed d e f z p q r 12 good.opens.here at.0 at.1 at.2 (omega arith) (omega arith) (omega arith) good.opens.is_here) u.columns.is_here in
+    let b = same_column _ good.opens.next u.columns.next (column_at fed d e f z p q r 13 good.opens.next at.0 at.1 at.2 (omega arith) (omega arith) (omega arith) good.opens.is_next) u.columns.is_next in
+    true≢false (sym good.opens.so ∙ (λ i. is_announced (a i) (b i)) ∙ u.columns.so)
 is_confirmed fed d e f z p q r good h late (inr before) u =
     let far = late.unconfirmed p q r u in
     let x = before.0 in

@@ -65,7 +65,7 @@ same_skew_is_accounted ps sent received offset skews counts x fed before a d e f
     let columns = aligned_columns (drop z fed.blue) (drop z fed.green) (drop z fed.red) p q r in
     let told = subst (λ cs. IsAccounted ps sent received cs a) (sym left) (accounted ps sent received offset skews counts x fed before a d e f z again (omega arith) (omega arith) (omega arith)) in
     let twelfth = columns_listed (drop z fed.blue) (drop z fed.green) (drop z fed.red) (d - z) (e - z) (f - z) 12
-    ∙ column_at fed d e f z (d - z) (e - z) (f - z) 12 good.here (omega arith) (omega arith) (omega arith) (omega arith) (omega arith) (omega arith) good.is_here in
-    let long = slice_get_within (aligned_columns (drop z fed.blue) (drop z fed.green) (drop z fed.red) (d - z) (e - z) (f - z)) 12 good.here twelfth in
+    ∙ column_at fed d e f z (d - z) (e - z) (f - z) 12 good.opens.here (omega arith) (omega arith) (omega arith) (omega arith) (omega arith) (omega arith) good.opens.is_here in
+    let long = slice_get_within (aligned_columns (drop z fed.blue) (drop z fed.green) (drop z fed.red) (d - z) (e - z) (f - z)) 12 good.opens.here twelfth in
     let same = ap length left in
     (n, omega arith, told, ends_accounted ps sent received (free_received ps sent received again.reception.reception) columns n a told.ends told.columns (omega arith))

@@ -15,7 +15,7 @@ use Rattle.relock_laws.proofs.Unrefuted.{not_let_go, last_unrefuted}
 pub slip_stands : SlipStands
 slip_stands ps sent received offset skews counts x y lane place dropped first next reception slip s p q r d e f is =
     let lanes = slip_seen ps sent received offset skews counts x y lane place dropped first next reception slip s in
-    is.rival.other_skew (seen_skew ps received reception.reception.conforming lanes.0 y lanes.1 p q r d e f is.rival.own.first.triple is.rival.triple)
+    is.other_skew (seen_skew ps received reception.reception.conforming lanes.0 y lanes.1 p q r d e f is.later.own.first.triple is.later.triple)
 
 pub slip_ends_alone : SlipEndsAlone
 slip_ends_alone ps sent received offset skews counts x y lane place dropped first next reception slip s =
@@ -30,7 +30,7 @@ slip_ends_alone ps sent received offset skews counts x y lane place dropped firs
           let second = second_epoch ps sent received offset skews counts x y lane place dropped first next reception slip s found start end.slip.end in
           last_unrefuted (rest_of start y) (ends.then found start end.slip) (λ p q r d e f.
           not_let_go (rest_of start y) p q r d e f
-          (λ is. let at = second.4 p q r is.rival.own.first in stands_at ps sent received free (rest_of start y) p q r d e f at.0 at.1 is)
+          (λ is. let at = second.4 p q r is.later.own.first in stands_at ps sent received free (rest_of start y) p q r d e f at.0 at.1 is)
           (λ is. rest_has_no_contender ps sent received offset skews counts x y lane place dropped first next reception slip s start second.1 p q r d e f is.contender));
       confirmed = ends.confirmed;
       stands = λ place end. stands end.own_blue end.own_green end.own_red end.blue end.green end.red end.refuted;

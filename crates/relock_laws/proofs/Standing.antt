@@ -21,7 +21,8 @@ use Rattle.link_laws.proofs.Lanes.{fitting_length}
 use Rattle.link_laws.proofs.Shapes.{alternating, where_ends, ends_alone, in_rest}
 use Rattle.link_laws.proofs.Spelled.{fitting_freely}
 use Rattle.link_laws.proofs.Tapped.{payload_accounted, tap_accounted}
-use Rattle.relock_sink.specs.Rivals.{IsRefuted, OpensNothing, columns_before}
+use Rattle.relock_sink.specs.Bands.{OpensNothing}
+use Rattle.relock_sink.specs.Rivals.{IsRefuted, columns_before}
 use Rattle.relock_laws.specs.Refuted.{EndsOpen, PayloadStands, UntilStands}
 use Rattle.relock_laws.proofs.Announced.{ArePair, of_line, of_island, pair_at}
 use Rattle.relock_laws.proofs.Last.{column_is}
@@ -78,33 +79,34 @@ ends_open ps sent received reception i lt control ends none =
 pub columns_open : (ps : List Period) (sent received : List Column) → ReceivedFreely ps sent received → (x : Fed) (p q r a j : ℕ)
     → IsAccounted ps sent received (aligned_columns x.blue x.green x.red p q r) a → OpensNothing x p q r j → ⊥
 columns_open ps sent received reception x p q r a j is o =
+    let e = o.ending in
     let cs = aligned_columns x.blue x.green x.red p q r in
-    let l = column_is received cs a j o.last is.columns (columns_listed x.blue x.green x.red p q r j ∙ o.is_last) in
-    let g = column_is received cs a (j + 1) o.first is.columns (columns_listed x.blue x.green x.red p q r (j + 1) ∙ o.is_first) in
-    let h = column_is received cs a (j + 2) o.second is.columns (columns_listed x.blue x.green x.red p q r (j + 2) ∙ o.is_second) in
+    let l = column_is received cs a j e.last is.columns (columns_listed x.blue x.green x.red p q r j ∙ e.is_last) in
+    let g = column_is received cs a (j + 1) e.first is.columns (columns_listed x.blue x.green x.red p q r (j + 1) ∙ e.is_first) in
+    let h = column_is received cs a (j + 2) e.second is.columns (columns_listed x.blue x.green x.red p q r (j + 2) ∙ e.is_second) in
     let within = h.0 in
     let one : a + (j + 1) ≡ a + j + 1 = omega arith in
     let two : a + (j + 2) ≡ a + j + 2 = omega arith in
-    let first : column_at received (a + j + 1) ≡ o.first = ap (column_at received) (sym one) ∙ g.1 in
-    let second : column_at received (a + j + 2) ≡ o.second = ap (column_at received) (sym two) ∙ h.1 in
-    ends_open ps sent received reception (a + j) (omega arith) (ap is_control_column l.1 ∙ o.control) (ap is_control_column first ∙ o.ends)
+    let first : column_at received (a + j + 1) ≡ e.first = ap (column_at received) (sym one) ∙ g.1 in
+    let second : column_at received (a + j + 2) ≡ e.second = ap (column_at received) (sym two) ∙ h.1 in
+    ends_open ps sent received reception (a + j) (omega arith) (ap is_control_column l.1 ∙ e.control) (ap is_control_column first ∙ e.ends)
     (ap₂ opened first second ∙ o.nothing)
 
 -- so they are refuted by no edges
 pub stands_at : (ps : List Period) (sent received : List Column) → ReceivedFreely ps sent received → (x : Fed) (p q r d e f a : ℕ)
     → IsAccounted ps sent received (aligned_columns x.blue x.green x.red p q r) a → IsRefuted x p q r d e f → ⊥
-stands_at ps sent received reception x p q r d e f a is u = columns_open ps sent received reception x p q r a (11 + columns_before p q r d e f) is u.unopened
+stands_at ps sent received reception x p q r d e f a is u = columns_open ps sent received reception x p q r a (11 + columns_before p q r d e f) is u.period
 
 -- the alignment in use is the first one
 pub refuted_first : (x : Fed) (p q r d e f s t u : ℕ) → IsFirst x.blue x.green x.red s t u → IsRefuted x p q r d e f → IsRefuted x s t u d e f
 refuted_first x p q r d e f s t u first is =
-    let same = one_first x.blue x.green x.red p q r s t u is.rival.own.first first in
+    let same = one_first x.blue x.green x.red p q r s t u is.later.own.first first in
     subst (λ n. IsRefuted x n t u d e f) same.0 (subst (λ n. IsRefuted x p n u d e f) same.1 (subst (λ n. IsRefuted x p q n d e f) same.2 is))
 
 pub payload_stands : PayloadStands
 payload_stands ps sent received offset skews counts x reception alone small p q r d e f u =
     let free = free_received ps sent received reception.reception in
-    let is = payload_accounted ps sent received free alone offset skews counts x.blue x.green x.red reception.tapped small p q r u.rival.own.first in
+    let is = payload_accounted ps sent received free alone offset skews counts x.blue x.green x.red reception.tapped small p q r u.later.own.first in
     stands_at ps sent received free x p q r d e f is.0 is.1 u
 
 pub until_stands : UntilStands

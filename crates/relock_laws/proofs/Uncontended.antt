@@ -37,12 +37,12 @@ tap_seen ps sent received offset skews counts x reception alone small =
 pub payload_has_no_contender : PayloadHasNoContender
 payload_has_no_contender ps sent received offset skews counts x reception alone small p q r d e f is =
     let lanes = tap_seen ps sent received offset skews counts x reception alone small in
-    is.rival.other_skew (seen_skew ps received reception.reception.conforming (λ l. offset + slice_index skews l) x lanes p q r d e f is.rival.own.first.triple is.rival.triple)
+    is.other_skew (seen_skew ps received reception.reception.conforming (λ l. offset + slice_index skews l) x lanes p q r d e f is.later.own.first.triple is.later.triple)
 
 pub slip_has_no_contender : SlipHasNoContender
 slip_has_no_contender ps sent received offset skews counts x y lane place dropped first next reception slip s p q r d e f is =
     let lanes = slip_seen ps sent received offset skews counts x y lane place dropped first next reception slip s in
-    is.rival.other_skew (seen_skew ps received reception.reception.conforming lanes.0 y lanes.1 p q r d e f is.rival.own.first.triple is.rival.triple)
+    is.other_skew (seen_skew ps received reception.reception.conforming lanes.0 y lanes.1 p q r d e f is.later.own.first.triple is.later.triple)
 
 -- What is left of the lanes after the slip.
 
@@ -96,5 +96,5 @@ pub rest_has_no_contender : (ps : List Period) (sent received : List Column) (of
     → (start : ℕ) → place ≤ start → (p q r d e f : ℕ) → IsContender (rest_of start y) p q r d e f → ⊥
 rest_has_no_contender ps sent received offset skews counts x y lane place dropped first next reception slip s start after p q r d e f is =
     let lanes = rest_seen ps sent received offset skews counts x y lane place dropped first next reception slip s start after in
-    is.rival.other_skew (seen_skew ps received reception.reception.conforming (λ l. offset + slice_index (later_skews skews lane dropped) l + start) (rest_of start y) lanes p q r d e f
-    is.rival.own.first.triple is.rival.triple)
+    is.other_skew (seen_skew ps received reception.reception.conforming (λ l. offset + slice_index (later_skews skews lane dropped) l + start) (rest_of start y) lanes p q r d e f
+    is.later.own.first.triple is.later.triple)

@@ -162,19 +162,19 @@ module _ (ps : List Period) (sent received : List Column) (reception : ReceivedF
       let alternates = alternating ps reception.conforming in
       let enough = enough_before p q r n d e f after in
       let ends = (ends_of ps sent received reception x p q r n a i (11 + c) are (omega arith) at is.period).0 in
-      let t = is.rival.triple in
-      let own = is.rival.own.first.triple in
+      let t = is.later.triple in
+      let own = is.later.own.first.triple in
       let past_b = own.blue.past in
       let past_g = own.green.past in
       let past_r = own.red.past in
-      let near = between x p q r d e f is.rival.own t is.rival.blue_later is.rival.green_later is.rival.red_later in
+      let near = between x p q r d e f is.later.own t is.later.blue_later is.later.green_later is.later.red_later in
       let b = edge_there kinds (blues received) alternates x.blue p n a i c d are.blue ends at (spared_lane (λ l. l.blue) ps sent received i reception spared (λ k l fits. fits.blue))
       t.blue (omega arith) after.blue near.blue_whole near.near.first_over near.near.first_under in
       let g = edge_there kinds (greens received) alternates x.green q n a i c e are.green ends at (spared_lane (λ l. l.green) ps sent received i reception spared (λ k l fits. fits.green))
       t.green (omega arith) after.green near.green_whole near.near.second_over near.near.second_under in
       let v = edge_there kinds (reds received) alternates x.red r n a i c f are.red ends at (spared_lane (λ l. l.red) ps sent received i reception spared (λ k l fits. fits.red))
       t.red (omega arith) after.red near.red_whole near.near.third_over near.near.third_under in
-      is.rival.other_skew (same_there p q r d e f c b g v)
+      is.other_skew (same_there p q r d e f c b g v)
 
   -- after a control period that is not spared the next one is, so that no edges after it contend before others uphold the alignment
   pub none_after : (from u m low : ℕ) → OneOfTwoIsSpared ps sent received from → from ≤ u + 1 → EndsControl ps u → n ≤ m → u + n ≡ a + (11 + m) → (IsSpared sent received u → ⊥)
@@ -185,13 +185,13 @@ module _ (ps : List Period) (sent received : List Column) (reception : ReceivedF
       let kinds = kinds_of ps in
       let alternates = alternating ps reception.conforming in
       let same_length = reception.sparse.same_length in
-      let rival = is.rival in
+      let now = is.later in
       let c = columns_before p q r d e f in
       let j = a + (11 + c) - n in
       let second = ends_of ps sent received reception x p q r n a j (11 + c) are (omega arith) (omega arith) is.period in
       let inside = second.1 in
       let within = second.2 in
-      let bc = between x p q r d e f rival.own rival.triple rival.blue_later rival.green_later rival.red_later in
+      let bc = between x p q r d e f now.own now.triple now.blue_later now.green_later now.red_later in
       let found = next_end kinds u j second.0 (omega arith) in
       let next = found.1 in
       let past = next.after in
@@ -206,10 +206,10 @@ module _ (ps : List Period) (sent received : List Column) (reception : ReceivedF
               let l = found.0 + n - (a + 11) in
               let far_m = ends_apart kinds alternates u found.0 first next.ends past in
               let far_c = ends_apart kinds alternates found.0 j next.ends second.0 short in
-              let upheld = spared_upholds ps sent received reception x p q r n a found.0 l rival.own are (omega arith) (omega arith) (omega arith) next.ends (omega arith) spared in
+              let upheld = spared_upholds ps sent received reception x p q r n a found.0 l now.own are (omega arith) (omega arith) (omega arith) next.ends (omega arith) spared in
               let lc : l + 15 ≤ c = omega arith in
               let below = all_less (p + 10 * l) (q + 10 * l) (r + 10 * l) d e f
-              (after_by p d c l rival.blue_later bc.near.first_over lc) (after_by q e c l rival.green_later bc.near.second_over lc) (after_by r f c l rival.red_later bc.near.third_over lc) in
+              (after_by p d c l now.blue_later bc.near.first_over lc) (after_by q e c l now.green_later bc.near.second_over lc) (after_by r f c l now.red_later bc.near.third_over lc) in
               let later = above l (omega arith) in
               let none = unupheld (p + 10 * l) (q + 10 * l) (r + 10 * l) upheld below in
               omega arith
@@ -223,14 +223,14 @@ module _ (ps : List Period) (sent received : List Column) (reception : ReceivedF
       let b = is.blue in
       let g = is.green in
       let v = is.red in
-      let early = is.earlier.rival in
-      let rival = is.contender.rival in
+      let early = is.earlier.later in
+      let now = is.contender.later in
       let m = columns_before p q r b g v in
       let enough = enough_before p q r n b g v after in
       let u = a + (11 + m) - n in
       let first = ends_of ps sent received reception x p q r n a u (11 + m) are (omega arith) (omega arith) is.earlier.period in
       let bm = between x p q r b g v early.own early.triple early.blue_later early.green_later early.red_later in
-      let bc = between x p q r d e f rival.own rival.triple rival.blue_later rival.green_later rival.red_later in
+      let bc = between x p q r d e f now.own now.triple now.blue_later now.green_later now.red_later in
       let later = later_on b g v d e f is.same_skew is.row.before in
       let later_b = later.0 in
       let later_g = later.1 in
@@ -259,22 +259,22 @@ module _ (ps : List Period) (sent received : List Column) (reception : ReceivedF
       let kinds = kinds_of ps in
       let alternates = alternating ps reception.conforming in
       let ends = (ends_of ps sent received reception x p q r 0 a (a + (11 + c)) (11 + c) are (omega arith) (omega arith) is.period).0 in
-      let t = is.rival.triple in
-      let n = between x p q r d e f is.rival.own t is.rival.blue_later is.rival.green_later is.rival.red_later in
+      let t = is.later.triple in
+      let n = between x p q r d e f is.later.own t is.later.blue_later is.later.green_later is.later.red_later in
       let h = reception.sparse in
       let at_b = begins.blue in
       let at_g = begins.green in
       let at_r = begins.red in
       let b = early_edge_there kinds until (blues received) _ alternates (lane_until (λ l. l.blue) ps sent received until reception aligns.spares (λ k l fits. fits.blue) (λ k lt. (h.characters k lt).blue) h.few_blue)
       aligns.after (offset + slice_index skews 0) (slice_index counts 0) a c p d (holds (blues received) x.blue 0 until aligns.holds (omega arith) tapped.blue_part) ends early
-      (subst (λ ys. IsEdge ys d) tapped.blue_part.bits_are t.blue) (omega arith) is.rival.blue_later n.blue_whole n.near.first_over n.near.first_under in
+      (subst (λ ys. IsEdge ys d) tapped.blue_part.bits_are t.blue) (omega arith) is.later.blue_later n.blue_whole n.near.first_over n.near.first_under in
       let g = early_edge_there kinds until (greens received) _ alternates (lane_until (λ l. l.green) ps sent received until reception aligns.spares (λ k l fits. fits.green) (λ k lt. (h.characters k lt).green) h.few_green)
       aligns.after (offset + slice_index skews 1) (slice_index counts 1) a c q e (holds (greens received) x.green 1 until aligns.holds (omega arith) tapped.green_part) ends early
-      (subst (λ ys. IsEdge ys e) tapped.green_part.bits_are t.green) (omega arith) is.rival.green_later n.green_whole n.near.second_over n.near.second_under in
+      (subst (λ ys. IsEdge ys e) tapped.green_part.bits_are t.green) (omega arith) is.later.green_later n.green_whole n.near.second_over n.near.second_under in
       let v = early_edge_there kinds until (reds received) _ alternates (lane_until (λ l. l.red) ps sent received until reception aligns.spares (λ k l fits. fits.red) (λ k lt. (h.characters k lt).red) h.few_red)
       aligns.after (offset + slice_index skews 2) (slice_index counts 2) a c r f (holds (reds received) x.red 2 until aligns.holds (omega arith) tapped.red_part) ends early
-      (subst (λ ys. IsEdge ys f) tapped.red_part.bits_are t.red) (omega arith) is.rival.red_later n.red_whole n.near.third_over n.near.third_under in
-      is.rival.other_skew (same_there p q r d e f c b g v)
+      (subst (λ ys. IsEdge ys f) tapped.red_part.bits_are t.red) (omega arith) is.later.red_later n.red_whole n.near.third_over n.near.third_under in
+      is.other_skew (same_there p q r d e f c b g v)
     where
       holds : (words : List ℕ) (bits : List Bool) (lane until : ℕ) → HoldsEnd offset skews counts until → lane < 3 → IsPart words (offset + slice_index skews lane) (slice_index counts lane) bits
           → Holds words (offset + slice_index skews lane) (slice_index counts lane) until
@@ -285,7 +285,7 @@ module _ (ps : List Period) (sent received : List Column) (reception : ReceivedF
       → (p q r d e f : ℕ) (own : IsOwn ps received offset skews until x p q r) → ((u : ℕ) → until ≤ u + 1 → own.a + 12 ≤ u → from ≤ u + 1) → IsDoubted x p q r d e f → ⊥
   not_doubted until from aligns one_of_two p q r d e f own late is =
       let m = columns_before p q r is.blue is.green is.red in
-      let early = is.earlier.rival in
+      let early = is.earlier.later in
       let near = between x p q r is.blue is.green is.red early.own early.triple early.blue_later early.green_later early.red_later in
       let b = early.blue_later in
       let g = early.green_later in
@@ -304,5 +304,5 @@ module _ (ps : List Period) (sent received : List Column) (reception : ReceivedF
 pub until_is_undoubted : UntilIsUndoubted
 until_is_undoubted ps sent received offset skews counts x reception small until aligns one_of_two p q r d e f is =
     let free = free_received ps sent received reception.reception in
-    let own = own_first ps sent received free offset skews counts x reception.tapped small until aligns p q r is.contender.rival.own.first in
+    let own = own_first ps sent received free offset skews counts x reception.tapped small until aligns p q r is.contender.later.own.first in
     not_doubted ps sent received free offset skews counts x reception.tapped until until aligns one_of_two p q r d e f own (λ u after later. after) is

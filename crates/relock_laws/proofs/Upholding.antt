@@ -21,8 +21,9 @@ use Rattle.link_laws.specs.Laws.{ReceivedFreely, EndsControl}
 use Rattle.link_laws.proofs.Framing.{framing_stands}
 use Rattle.link_laws.proofs.Shapes.{alternating, where_ends, ends_alone, ends_late, in_first, in_rest}
 use Rattle.link_laws.proofs.Spelled.{FitsColumn}
+use Rattle.relock_sink.specs.Bands.{EndsPeriod}
 use Rattle.relock_sink.specs.Rivals.{IsConfirmed}
-use Rattle.relock_sink.specs.Doubts.{EndsPeriod, IsUpheld}
+use Rattle.relock_sink.specs.Doubts.{IsUpheld}
 use Rattle.relock_laws.specs.Doubted.{IsSpared}
 use Rattle.relock_laws.proofs.Announced.{ArePair, pair_at, whole_as_sent}
 use Rattle.relock_laws.proofs.Seen.{column_is}
@@ -126,28 +127,32 @@ spared_upholds ps sent received reception x p q r n a i m own are from some plac
     let pair : ArePair (column_at sent (at 12)) (column_at sent (at 13)) =
     subst (λ k. ArePair (column_at sent (i - 11 + 12)) (column_at sent k)) next (pair_at ps sent received reception i (i - 11 + 12) ends (omega arith) (omega arith)) in
     record {
-      own = own;
-      triple = record {
-        blue = later_edge x.blue p m (λ k. (column_at received (i - 11 + k)).blue) t.blue (λ k le. (words k le).blue_is)
-            (λ k lt. (fits k (omega arith)).blue.controls (control k lt)) (few_turns (column_at received (i - 11 + 12)).blue ((fits 12 (omega arith)).blue.others other));
-        green = later_edge x.green q m (λ k. (column_at received (i - 11 + k)).green) t.green (λ k le. (words k le).green_is)
-            (λ k lt. (fits k (omega arith)).green.controls (control k lt)) (few_turns (column_at received (i - 11 + 12)).green ((fits 12 (omega arith)).green.others other));
-        red = later_edge x.red r m (λ k. (column_at received (i - 11 + k)).red) t.red (λ k le. (words k le).red_is)
-            (λ k lt. (fits k (omega arith)).red.controls (control k lt)) (few_turns (column_at received (i - 11 + 12)).red ((fits 12 (omega arith)).red.others other));
-        blue_green = moved p q bg;
-        green_red = moved q r gr;
-        blue_red = moved p r br;
+      later = record {
+        own = own;
+        triple = record {
+          blue = later_edge x.blue p m (λ k. (column_at received (i - 11 + k)).blue) t.blue (λ k le. (words k le).blue_is)
+              (λ k lt. (fits k (omega arith)).blue.controls (control k lt)) (few_turns (column_at received (i - 11 + 12)).blue ((fits 12 (omega arith)).blue.others other));
+          green = later_edge x.green q m (λ k. (column_at received (i - 11 + k)).green) t.green (λ k le. (words k le).green_is)
+              (λ k lt. (fits k (omega arith)).green.controls (control k lt)) (few_turns (column_at received (i - 11 + 12)).green ((fits 12 (omega arith)).green.others other));
+          red = later_edge x.red r m (λ k. (column_at received (i - 11 + k)).red) t.red (λ k le. (words k le).red_is)
+              (λ k lt. (fits k (omega arith)).red.controls (control k lt)) (few_turns (column_at received (i - 11 + 12)).red ((fits 12 (omega arith)).red.others other));
+          blue_green = moved p q bg;
+          green_red = moved q r gr;
+          blue_red = moved p r br;
+        };
+        blue_later = omega arith;
+        green_later = omega arith;
+        red_later = omega arith;
+        band = record {
+          here = column_at received (i - 11 + 12);
+          next = column_at received (i - 11 + 13);
+          is_here = column_moved x p q r (p + 10 * m) (q + 10 * m) (r + 10 * m) m (m + 12) 12 (omega arith) (omega arith) (omega arith) refl refl refl refl ∙ (column 12 (omega arith)).1;
+          is_next = column_moved x p q r (p + 10 * m) (q + 10 * m) (r + 10 * m) m (m + 13) 13 (omega arith) (omega arith) (omega arith) refl refl refl refl ∙ (column 13 (omega arith)).1;
+          so = whole_as_sent (column_at sent (i - 11 + 12)) (column_at sent (i - 11 + 13)) (column_at received (i - 11 + 12)) (column_at received (i - 11 + 13))
+              pair (none 12 (omega arith)) (none 13 (omega arith));
+        };
       };
-      blue_later = omega arith;
-      green_later = omega arith;
-      red_later = omega arith;
       own_skew = (omega arith, omega arith);
-      here = column_at received (i - 11 + 12);
-      next = column_at received (i - 11 + 13);
-      is_here = column_moved x p q r (p + 10 * m) (q + 10 * m) (r + 10 * m) m (m + 12) 12 (omega arith) (omega arith) (omega arith) refl refl refl refl ∙ (column 12 (omega arith)).1;
-      is_next = column_moved x p q r (p + 10 * m) (q + 10 * m) (r + 10 * m) m (m + 13) 13 (omega arith) (omega arith) (omega arith) refl refl refl refl ∙ (column 13 (omega arith)).1;
-      whole = whole_as_sent (column_at sent (i - 11 + 12)) (column_at sent (i - 11 + 13)) (column_at received (i - 11 + 12)) (column_at received (i - 11 + 13))
-          pair (none 12 (omega arith)) (none 13 (omega arith));
     }
   where
     moved : (i j : ℕ) → AreNear i j → AreNear (i + 10 * m) (j + 10 * m)

@@ -112,11 +112,7 @@ good = record {
   blue_green = (omega arith, omega arith);
   green_red = (omega arith, omega arith);
   blue_red = (omega arith, omega arith);
-  here = column_of video_guard;
-  next = column_of video_guard;
-  is_here = here_test;
-  is_next = next_test;
-  announced = announced_test;
+  opens = record { here = column_of video_guard; next = column_of video_guard; is_here = here_test; is_next = next_test; so = announced_test };
 }
 
 -- Sixteen other characters follow.
@@ -161,8 +157,13 @@ unfolding others_at passes_below red ahead received values_of control_words vide
 red_others = refl
 
 whole : IsWholeGoodPeriod fed 363 353 343
-unfolding good
-whole = record { good = good; whole = whole_test; blue_on = goes_on blue 363 blue_others; green_on = goes_on green 353 green_others; red_on = goes_on red 343 red_others }
+whole = record {
+  good = good;
+  band = record { here = column_of video_guard; next = column_of video_guard; is_here = here_test; is_next = next_test; so = whole_test };
+  blue_on = goes_on blue 363 blue_others;
+  green_on = goes_on green 353 green_others;
+  red_on = goes_on red 343 red_others;
+}
 
 again : IsAgain stream sent received 0 (0 ∷ (10 ∷ (20 ∷ []))) (900 ∷ (890 ∷ (880 ∷ []))) x fed (123 ∷ (123 ∷ (123 ∷ []))) 12 363 353 343
 again =

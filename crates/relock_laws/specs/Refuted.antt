@@ -13,6 +13,7 @@ use Rattle.lane_deskew.specs.Aligned.{aligned_column}
 use Rattle.link_sink.specs.Sinks.{Fed}
 use Rattle.link_laws.specs.Laws.{ReceivedFreely, AlignsUntil}
 use Rattle.track_laws.specs.Laws.{Received}
+use Rattle.relock_sink.specs.Bands.{AtEdges}
 use Rattle.relock_sink.specs.Rivals.{IsConfirmed, HaveSameSkew, IsRefuted, columns_before, is_guard_band}
 use Rattle.relock_laws.specs.Settled.{EndsNineteen}
 
@@ -56,11 +57,7 @@ pub record IsWholePeriod (fed : Fed) (d e f : ℕ) : Type 0 where
   pub blue_on : GoesOn fed.blue d
   pub green_on : GoesOn fed.green e
   pub red_on : GoesOn fed.red f
-  pub here : Column
-  pub next : Column
-  pub is_here : aligned_column fed.blue fed.green fed.red d e f 12 ≡ Some here
-  pub is_next : aligned_column fed.blue fed.green fed.red d e f 13 ≡ Some next
-  pub whole : is_guard_band here next ≡ true
+  pub band : AtEdges is_guard_band true fed d e f
 
 -- by an alignment something opens with a column
 pub record OpensAt (fed : Fed) (p q r j : ℕ) : Type 0 where

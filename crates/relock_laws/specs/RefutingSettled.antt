@@ -12,6 +12,7 @@ use Rattle.link_laws.specs.Laws.{IsAccounted}
 use Rattle.link_laws.specs.Local.{twelve_before}
 use Rattle.link_sink.specs.Sinks.{Fed}
 use Rattle.track_sink.specs.Epochs.{EpochRule, rest_of, HasNoEnd}
+use Rattle.relock_sink.specs.Bands.{AtEdges}
 use Rattle.relock_sink.specs.Relocks.{IsUnconfirmed}
 use Rattle.relock_sink.specs.Rivals.{IsConfirmed, HaveSameSkew, columns_before, is_guard_band}
 use Rattle.relock_sink.specs.Refuting.{IsSlipFirst, IsLastUnrefuted, refuting_rule}
@@ -28,7 +29,7 @@ pub data IsStartBy (r : EpochRule) : Fed → ℕ → Type 0 where
 -- a good control period whose guard band is received whole, and no control words follow on any lane; what else the lanes have is free
 pub record IsWholeGoodPeriod (fed : Fed) (d e f : ℕ) : Type 0 where
   pub good : IsGoodPeriod fed d e f
-  pub whole : is_guard_band good.here good.next ≡ true
+  pub band : AtEdges is_guard_band true fed d e f
   pub blue_on : GoesOn fed.blue d
   pub green_on : GoesOn fed.green e
   pub red_on : GoesOn fed.red f

@@ -1,17 +1,18 @@
 -- Whatever came before: from a good control period on the lanes are aligned where a period opens.
-use Rattle.std.specs.Prelude.{◌≡◌, ◌⊎◌, ℕ, ◌+◌, ◌-◌, ◌*◌, ◌<◌, ◌≤◌, min, Bool, true, List, drop, slice_index, Some}
+use Rattle.std.specs.Prelude.{◌≡◌, ◌⊎◌, ℕ, ◌+◌, ◌-◌, ◌*◌, ◌<◌, ◌≤◌, min, Bool, true, List, drop, slice_index}
 use Rattle.tmds_word.specs.Column.{Column}
 use Rattle.tmds_word.specs.Taps.{part_of, AreNear}
 use Rattle.lane_align.specs.Lanes.{HasControl}
 use Rattle.lane_align.specs.Laws.{IsCalm}
 use Rattle.lane_deskew.specs.Triples.{IsFirst}
-use Rattle.lane_deskew.specs.Aligned.{aligned_column, aligned_columns}
+use Rattle.lane_deskew.specs.Aligned.{aligned_columns}
 use Rattle.island_pack.specs.Periods.{Period}
 use Rattle.link_laws.specs.Laws.{EndsControl, IsAccounted}
 use Rattle.link_sink.specs.Sinks.{Fed}
 use Rattle.track_sink.specs.Epochs.{rest_of}
 use Rattle.track_sink.specs.declared.watch.Cause.{Cause}
 use Rattle.track_laws.specs.Laws.{Received}
+use Rattle.relock_sink.specs.Bands.{AtEdges}
 use Rattle.relock_sink.specs.Relocks.{is_announced, IsUnconfirmed, IsLastEpoch, relock_ends}
 
 -- nineteen control characters end at a place: the twelve before an edge, and seven more, as many as lanes may be apart
@@ -27,11 +28,7 @@ pub record IsGoodPeriod (fed : Fed) (d e f : ℕ) : Type 0 where
   pub blue_green : AreNear d e
   pub green_red : AreNear e f
   pub blue_red : AreNear d f
-  pub here : Column
-  pub next : Column
-  pub is_here : aligned_column fed.blue fed.green fed.red d e f 12 ≡ Some here
-  pub is_next : aligned_column fed.blue fed.green fed.red d e f 13 ≡ Some next
-  pub announced : is_announced here next ≡ true
+  pub opens : AtEdges is_announced true fed d e f
 
 -- an epoch ends at a place, for either reason
 abbrev pub EndsEpoch : Fed → ℕ → Type 0

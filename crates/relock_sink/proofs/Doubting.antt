@@ -29,11 +29,11 @@ module _ (fed : Fed) (from to past : ℕ) (none : HasNoAlignment fed.blue fed.gr
         before = omega arith;
         unopposed = λ i j k is less. elim (cases_lt (max i (max j k)) from) [
           | inl sooner ↦ row.unopposed i j k is sooner
-          | inr later ↦ let h = none i j k is.rival.triple (omega arith) in omega arith
+          | inr later ↦ let h = none i j k is.later.triple (omega arith) in omega arith
         ];
         unupheld = λ i j k is less. elim (cases_lt (max i (max j k)) from) [
           | inl sooner ↦ row.unupheld i j k is sooner
-          | inr later ↦ let h = none i j k is.triple (omega arith) in omega arith
+          | inr later ↦ let h = none i j k is.later.triple (omega arith) in omega arith
         ];
       }
 
@@ -43,7 +43,7 @@ module _ (fed : Fed) (from to past : ℕ) (none : HasNoAlignment fed.blue fed.gr
         let h = known p q r i j k is sooner in
         let before = h.before in
         record { blue = h.blue; green = h.green; red = h.red; upheld = h.upheld; after = h.after; before = omega arith }
-    | inr later ↦ let h = none i j k is.rival.triple (omega arith) in absurd (omega arith)
+    | inr later ↦ let h = none i j k is.later.triple (omega arith) in absurd (omega arith)
   ]
 
   pub doubt_until : (doubt : Option (List ℕ)) → KnowsDoubt doubt fed from → KnowsDoubt doubt fed to
@@ -66,10 +66,10 @@ module _ (fed : Fed) (edges : List ℕ) (are_edges : AreEdges fed edges) where
       subst (λ n. P n (slice_index edges 1) (slice_index edges 2)) s.0 (subst (λ n. P i n (slice_index edges 2)) s.1 (subst (λ n. P i j n) s.2 here))
 
   contends_at : (p q r i j k : ℕ) → max i (max j k) ≡ greatest edges → IsContender fed p q r i j k → IsContender fed p q r (slice_index edges 0) (slice_index edges 1) (slice_index edges 2)
-  contends_at p q r i j k same is = at_edges (λ x y z. IsContender fed p q r x y z) i j k is.rival.triple same is
+  contends_at p q r i j k same is = at_edges (λ x y z. IsContender fed p q r x y z) i j k is.later.triple same is
 
   upholds_at : (p q r i j k : ℕ) → max i (max j k) ≡ greatest edges → IsUpheld fed p q r i j k → IsUpheld fed p q r (slice_index edges 0) (slice_index edges 1) (slice_index edges 2)
-  upholds_at p q r i j k same is = at_edges (λ x y z. IsUpheld fed p q r x y z) i j k is.triple same is
+  upholds_at p q r i j k same is = at_edges (λ x y z. IsUpheld fed p q r x y z) i j k is.later.triple same is
 
 module _ (fed : Fed) (edges : List ℕ) (are_edges : AreEdges fed edges)
     (no_contender : (p q r : ℕ) → IsContender fed p q r (slice_index edges 0) (slice_index edges 1) (slice_index edges 2) → ⊥)
@@ -125,29 +125,21 @@ small_doubt fed edges own (Some last) known small =
 
 -- a contender of one list of edges and another
 contends_own : (fed : Fed) (u v w p q r i j k : ℕ) → IsContender fed p q r i j k → (x y z : ℕ) → IsContender fed u v w x y z → IsContender fed u v w i j k
-contends_own fed u v w p q r i j k is x y z other = same_own fed (λ a b c. IsContender fed a b c i j k) p q r u v w is.rival.own other.rival.own is
-
-contends_of : (fed : Fed) (p q r d e f : ℕ) → IsRefuted fed p q r d e f → IsContender fed p q r d e f
-contends_of fed p q r d e f is =
-    let u = is.unopened in
-    record {
-      rival = is.rival;
-      period = record { last = u.last; first = u.first; second = u.second; is_last = u.is_last; is_first = u.is_first; is_second = u.is_second; control = u.control; ends = u.ends };
-    }
+contends_own fed u v w p q r i j k is x y z other = same_own fed (λ a b c. IsContender fed a b c i j k) p q r u v w is.later.own other.later.own is
 
 contender_of : (fed : Fed) (p q r d e f : ℕ) → IsLetGo fed p q r d e f → IsContender fed p q r d e f
-contender_of fed p q r d e f (inl refuted) = contends_of fed p q r d e f refuted
+contender_of fed p q r d e f (inl refuted) = record { later = refuted.later; other_skew = refuted.other_skew; period = refuted.period.ending }
 contender_of fed p q r d e f (inr doubted) = doubted.contender
 
 module _ (fed : Fed) (own edges : List ℕ) (is_own : IsOwn fed own) (are_edges : AreEdges fed edges) where
   -- the alignment that is let go is this one
   contends_here : (p q r : ℕ) → IsContender fed p q r (slice_index edges 0) (slice_index edges 1) (slice_index edges 2) → Contends fed own edges
   contends_here p q r is =
-      same_own fed (λ a b c. IsContender fed a b c (slice_index edges 0) (slice_index edges 1) (slice_index edges 2)) p q r (slice_index own 0) (slice_index own 1) (slice_index own 2) is.rival.own is_own is
+      same_own fed (λ a b c. IsContender fed a b c (slice_index edges 0) (slice_index edges 1) (slice_index edges 2)) p q r (slice_index own 0) (slice_index own 1) (slice_index own 2) is.later.own is_own is
 
   upholds_here : (p q r : ℕ) → IsUpheld fed p q r (slice_index edges 0) (slice_index edges 1) (slice_index edges 2) → Upholds fed own edges
   upholds_here p q r is =
-      same_own fed (λ a b c. IsUpheld fed a b c (slice_index edges 0) (slice_index edges 1) (slice_index edges 2)) p q r (slice_index own 0) (slice_index own 1) (slice_index own 2) is.own is_own is
+      same_own fed (λ a b c. IsUpheld fed a b c (slice_index edges 0) (slice_index edges 1) (slice_index edges 2)) p q r (slice_index own 0) (slice_index own 1) (slice_index own 2) is.later.own is_own is
 
   -- once the alignment is upheld nothing doubts it
   undoubted_upheld : Upholds fed own edges → IsUndoubted fed (greatest edges + 1)
@@ -156,13 +148,13 @@ module _ (fed : Fed) (own edges : List ℕ) (is_own : IsOwn fed own) (are_edges 
       blue = slice_index edges 0;
       green = slice_index edges 1;
       red = slice_index edges 2;
-      upheld = same_own fed (λ a b c. IsUpheld fed a b c (slice_index edges 0) (slice_index edges 1) (slice_index edges 2)) (slice_index own 0) (slice_index own 1) (slice_index own 2) p q r is_own is.rival.own upheld;
+      upheld = same_own fed (λ a b c. IsUpheld fed a b c (slice_index edges 0) (slice_index edges 1) (slice_index edges 2)) (slice_index own 0) (slice_index own 1) (slice_index own 2) p q r is_own is.later.own upheld;
       after = sooner;
       before = omega arith;
     }
     | inr not ↦
         let here = contends_here p q r (contends_at fed edges are_edges p q r i j k (omega arith) is) in
-        absurd (here.rival.other_skew upheld.own_skew)
+        absurd (here.other_skew upheld.own_skew)
   ]
 
   -- these edges are the last contender
@@ -186,7 +178,7 @@ module _ (fed : Fed) (own edges : List ℕ) (is_own : IsOwn fed own) (are_edges 
     red = slice_index last 2;
     earlier = contends_own fed (slice_index own 0) (slice_index own 1) (slice_index own 2) known.blue known.green known.red (slice_index last 0) (slice_index last 1) (slice_index last 2) known.contender
         (slice_index edges 0) (slice_index edges 1) (slice_index edges 2) contends;
-    row = same_own fed (λ a b c. AreInRow fed a b c (greatest last) (greatest edges)) known.blue known.green known.red (slice_index own 0) (slice_index own 1) (slice_index own 2) known.contender.rival.own is_own known.row;
+    row = same_own fed (λ a b c. AreInRow fed a b c (greatest last) (greatest edges)) known.blue known.green known.red (slice_index own 0) (slice_index own 1) (slice_index own 2) known.contender.later.own is_own known.row;
     same_skew = same;
   }
 
@@ -203,7 +195,7 @@ undoubted_at fed edges (Some last) p q r known apart is =
     let there = contends_own fed known.blue known.green known.red p q r is.blue is.green is.red is.earlier (slice_index last 0) (slice_index last 1) (slice_index last 2) known.contender in
     let a = is.row.unopposed (slice_index last 0) (slice_index last 1) (slice_index last 2) here known.row.before in
     let b = known.row.unopposed is.blue is.green is.red there is.row.before in
-    let s = same_greatest fed.blue fed.green fed.red is.blue is.green is.red (slice_index last 0) (slice_index last 1) (slice_index last 2) is.earlier.rival.triple known.contender.rival.triple (omega arith) in
+    let s = same_greatest fed.blue fed.green fed.red is.blue is.green is.red (slice_index last 0) (slice_index last 1) (slice_index last 2) is.earlier.later.triple known.contender.later.triple (omega arith) in
     let x = s.0 in
     let y = s.1 in
     let z = s.2 in
@@ -227,9 +219,9 @@ module _ (fed : Fed) (own edges : List ℕ) (is_own : IsOwn fed own) (doubt : Op
   stands_for Nothing says stays p q r is = says.0 (contends_here fed own edges is_own known.triple p q r (contender_of fed p q r (slice_index edges 0) (slice_index edges 1) (slice_index edges 2) is))
   stands_for Upheld says stays p q r is =
       let contends = contends_here fed own edges is_own known.triple p q r (contender_of fed p q r (slice_index edges 0) (slice_index edges 1) (slice_index edges 2) is) in
-      contends.rival.other_skew says.own_skew
+      contends.other_skew says.own_skew
   stands_for Doubted says stays p q r (inl refuted) =
-      says.1 (same_own fed (λ a b c. IsRefuted fed a b c (slice_index edges 0) (slice_index edges 1) (slice_index edges 2)) p q r (slice_index own 0) (slice_index own 1) (slice_index own 2) refuted.rival.own is_own refuted)
+      says.1 (same_own fed (λ a b c. IsRefuted fed a b c (slice_index edges 0) (slice_index edges 1) (slice_index edges 2)) p q r (slice_index own 0) (slice_index own 1) (slice_index own 2) refuted.later.own is_own refuted)
   stands_for Doubted says stays p q r (inr doubted) = not_doubted stays p q r doubted
   stands_for Refuted says stays p q r is = stays tt
 
@@ -238,7 +230,7 @@ module _ (fed : Fed) (own edges : List ℕ) (is_own : IsOwn fed own) (doubt : Op
       doubt_past fed edges known.triple (λ p q r is. says.0 (contends_here fed own edges is_own known.triple p q r is)) (λ p q r is. says.1 (upholds_here fed own edges is_own known.triple p q r is)) doubt known.doubt
   doubt_next Upheld says = undoubted_upheld fed own edges is_own known.triple says
   doubt_next Doubted says = last_here fed own edges is_own known.triple says.0
-  doubt_next Refuted says = last_here fed own edges is_own known.triple (contends_of fed (slice_index own 0) (slice_index own 1) (slice_index own 2) (slice_index edges 0) (slice_index edges 1) (slice_index edges 2) says)
+  doubt_next Refuted says = last_here fed own edges is_own known.triple (contender_of fed (slice_index own 0) (slice_index own 1) (slice_index own 2) (slice_index edges 0) (slice_index edges 1) (slice_index edges 2) (inl says))
 
   pub known_after : (verdict : Verdict) (next : Option (List ℕ)) → Says verdict fed own edges → (LetsGo verdict doubt edges → ⊥) → next ≡ doubt_after verdict doubt edges → IsKnownAfter (Confirmed own) next fed edges
   known_after verdict next says stays is = record {

@@ -1,13 +1,11 @@
 -- Whether the first alignment of an epoch is confirmed, and where the epoch ends.
-use Rattle.std.proofs.Common.{◌≡◌, ℕ, zero, suc, ◌+◌, ◌-◌, ◌<◌, ◌≤◌, max, Bool, true, false, List, slice_index, length, Option, Some, None, ◌∙◌, sym, subst, arith, inl, inr, length-drop}
+use Rattle.std.proofs.Common.{◌≡◌, ℕ, zero, suc, ◌+◌, ◌-◌, ◌<◌, ◌≤◌, max, Bool, true, false, List, slice_index, length, Option, Some, None, ◌∙◌, subst, arith, inl, inr, length-drop}
 use Rattle.std.specs.Prelude.{MatchBool, MatchOption}
 use Rattle.std.proofs.lemmas.Bool.{cases_lt}
-use Rattle.tmds_word.specs.Bits.{window}
 use Rattle.lane_align.proofs.Controls.{run_within}
 use Rattle.lane_track.specs.Strays.{IsStray}
 use Rattle.lane_track.specs.Scouts.{HasSought}
 use Rattle.lane_deskew.specs.Triples.{IsAlignment}
-use Rattle.lane_deskew.specs.Aligned.{column_from, aligned_column, place}
 use Rattle.alignment_search.specs.Alignments.{greatest, least, IsNextAlignment}
 use Rattle.alignment_search.specs.Searches.{HasSearched}
 use Rattle.alignment_search.proofs.Alignments.{next_is_first}
@@ -23,14 +21,15 @@ use Rattle.track_sink.specs.declared.watch.Cause.{Cause}
 use Rattle.track_sink.specs.declared.watch.Cause.TheVariants.{Slip, Unconfirmed, Refuted}
 use Rattle.track_sink.specs.declared.watch.End.{End}
 use Rattle.track_sink.specs.Ends.{end_within, one_end}
-use Rattle.relock_sink.specs.Relocks.{IsUnconfirmed, IsLastEpoch, relock_ends}
-use Rattle.relock_sink.specs.Columns.{column_here, column_after, IsOpened, IsDoubted}
+use Rattle.relock_sink.specs.Relocks.{is_announced, IsUnconfirmed, IsLastEpoch, relock_ends}
+use Rattle.relock_sink.specs.Columns.{IsOpened, IsDoubted}
 use Rattle.relock_sink.specs.Watches.{IsJudged, HasNoneWhatever, IsSeeking, HasWatched, passed_of, IsDoubt, HasNoDoubt}
 use Rattle.relock_sink.specs.declared.relock.Relock.{Relock}
 use Rattle.relock_sink.specs.Growing.{lane_grows_from, shown_within}
 use Rattle.relock_sink.specs.Ends.{far_edges, end_was}
-use Rattle.relock_sink.specs.Watching.{none_yet, never_unconfirmed}
+use Rattle.relock_sink.specs.Watching.{none_yet, never_so}
 use Rattle.relock_sink.specs.FrontsGrowing.{most_front, front_grows}
+use Rattle.relock_sink.proofs.Places.{so_at_edges, so_here, far_edges as far_alignment}
 
 when_true : (P Q : Type 0) (b : Bool) → b ≡ true → P → MatchBool b P Q
 when_true P Q true e p = p
@@ -57,56 +56,27 @@ is_judged_by w fed flag watched = is_true (IsJudged fed) (IsSeeking w fed) w.is_
 -- The columns at an alignment.
 
 module _ (fed : Fed) (edges : List ℕ) (first : IsAlignment fed.blue fed.green fed.red edges) where
-  first_column : aligned_column fed.blue fed.green fed.red (slice_index edges 0) (slice_index edges 1) (slice_index edges 2) 12 ≡ column_here fed edges
-  unfolding aligned_column
-  first_column =
-      let a = first.triple.blue.past in
-      let b = first.triple.green.past in
-      let c = first.triple.red.past in
-      let x : place (slice_index edges 0) 12 ≡ slice_index edges 0 = omega arith in
-      let y : place (slice_index edges 1) 12 ≡ slice_index edges 1 = omega arith in
-      let z : place (slice_index edges 2) 12 ≡ slice_index edges 2 = omega arith in
-      λ i. column_from (window fed.blue (x i)) (window fed.green (y i)) (window fed.red (z i))
-
-  second_column : aligned_column fed.blue fed.green fed.red (slice_index edges 0) (slice_index edges 1) (slice_index edges 2) 13 ≡ column_after fed edges
-  unfolding aligned_column
-  second_column =
-      let a = first.triple.blue.past in
-      let b = first.triple.green.past in
-      let c = first.triple.red.past in
-      let x : place (slice_index edges 0) 13 ≡ slice_index edges 0 + 10 = omega arith in
-      let y : place (slice_index edges 1) 13 ≡ slice_index edges 1 + 10 = omega arith in
-      let z : place (slice_index edges 2) 13 ≡ slice_index edges 2 + 10 = omega arith in
-      λ i. column_from (window fed.blue (x i)) (window fed.green (y i)) (window fed.red (z i))
-
   -- a period opens there, or the columns are not whole
   opened_stands : IsOpened fed edges → IsUnconfirmed fed (slice_index edges 0) (slice_index edges 1) (slice_index edges 2) → ⊥
   opened_stands opened is =
-      let e = opened is.here is.next (sym first_column ∙ is.is_here) (sym second_column ∙ is.is_next) in
-      let no_guard = is.unannounced in
+      let s = so_here fed edges first.triple is_announced false is.columns in
+      let e = opened s.here s.next s.is_here s.is_next in
+      let no_guard = s.so in
       cc
 
   -- none does
   pub doubt_found : (limit place : ℕ) → greatest edges < limit → IsDoubted fed edges place → IsDoubt fed limit place
   doubt_found limit place before doubted =
-      let is : IsUnconfirmed fed (slice_index edges 0) (slice_index edges 1) (slice_index edges 2) = record {
-        first = first;
-        here = doubted.here;
-        next = doubted.next;
-        is_here = first_column ∙ doubted.is_here;
-        is_next = second_column ∙ doubted.is_next;
-        unannounced = doubted.unannounced;
-      } in
-      let far = far_edges fed (slice_index edges 0) (slice_index edges 1) (slice_index edges 2) is in
+      let far = far_alignment fed edges first.triple in
       let at = doubted.at in
-      record { blue = slice_index edges 0; green = slice_index edges 1; red = slice_index edges 2; unconfirmed = is; before = before; forgets = omega arith }
-
-  pub far_alignment : 120 ≤ least edges
-  far_alignment =
-      let a = first.triple.blue.past in
-      let b = first.triple.green.past in
-      let c = first.triple.red.past in
-      omega arith
+      record {
+        blue = slice_index edges 0;
+        green = slice_index edges 1;
+        red = slice_index edges 2;
+        unconfirmed = record { first = first; columns = so_at_edges fed edges first.triple is_announced false doubted.columns };
+        before = before;
+        forgets = omega arith;
+      }
 
 -- The first alignment is not unconfirmed.
 
@@ -119,9 +89,9 @@ judged_here w fed limit edges flag first before long opened =
       red = slice_index edges 2;
       first = first;
       shown = omega arith;
-      kept = opened_stands fed edges first opened;
+      never = opened_stands fed edges first opened;
     } in
-    record { none = λ p q r is. absurd (never_unconfirmed fed p q r judged is); known = when_true (IsJudged fed) (HasNoneWhatever w fed × (w.alignment.limit ≡ limit)) w.is_judged flag judged }
+    record { none = λ p q r is. absurd (never_so false fed p q r judged is); known = when_true (IsJudged fed) (HasNoneWhatever w fed × (w.alignment.limit ≡ limit)) w.is_judged flag judged }
 
 -- no alignment is found yet
 pub none_here : (w : Relock) (fed : Fed) (limit : ℕ) → w.is_judged ≡ false → w.alignment.past ≡ 0 → w.alignment.limit ≡ limit → limit + 19 ≤ most_of fed → HasSearched w.alignment fed.blue fed.green fed.red → HasNoDoubt w fed limit
@@ -185,12 +155,12 @@ slip_within fed Refuted place end = absurd end
 
 -- it is an end, where the alignment stands
 pub slip_judged : (fed : Fed) (cause : Cause) (place : ℕ) → stray_ends fed cause place → IsJudged fed → relock_ends fed cause place
-slip_judged fed (Slip lane) place end judged = record { end = end; before = λ d e f is. absurd (never_unconfirmed fed d e f judged is) }
+slip_judged fed (Slip lane) place end judged = record { end = end; before = λ d e f is. absurd (never_so false fed d e f judged is) }
 slip_judged fed Unconfirmed place end judged = absurd end
 slip_judged fed Refuted place end judged = absurd end
 
 pub last_judged : (fed : Fed) → HasNoEnd fed → IsJudged fed → IsLastEpoch fed
-last_judged fed none judged = record { no_stray = none; confirmed = λ d e f is. never_unconfirmed fed d e f judged is }
+last_judged fed none judged = record { no_stray = none; confirmed = λ d e f is. never_so false fed d e f judged is }
 
 -- all places that are decided were looked at
 no_stray_left : (xs : List Bool) (seen : ℕ) (lock : Option ℕ) → HasSought xs seen lock → length xs ≤ seen + 119 → (p : ℕ) → IsStray xs p → ⊥

@@ -1,4 +1,5 @@
 mod Fronts
+mod Places
 mod Judging
 mod Refutes
 mod Doubting

@@ -1,5 +1,5 @@
 -- What is known of the edges for which an alignment is let go, as the search of alignments goes on.
-use Rattle.std.proofs.Common.{◌≡◌, ℕ, ◌+◌, ◌-◌, ◌<◌, ◌≤◌, max, List, slice_index, Option, ◌∙◌, sym, subst, arith, inl, inr}
+use Rattle.std.proofs.Common.{◌≡◌, ℕ, ◌+◌, ◌-◌, ◌<◌, ◌≤◌, max, true, List, slice_index, Option, ◌∙◌, sym, subst, arith, inl, inr}
 use Rattle.std.proofs.lemmas.Bool.{cases_lt}
 use Rattle.lane_deskew.specs.Triples.{IsAlignment}
 use Rattle.lane_deskew.proofs.First.{one_first}
@@ -13,15 +13,18 @@ use Rattle.track_sink.specs.Epochs.{most_of}
 use Rattle.track_sink.specs.Tracks.{Grows}
 use Rattle.track_sink.specs.Feds.{same_grows}
 use Rattle.relock_sink.specs.Growing.{lane_grows_from}
+use Rattle.relock_sink.specs.Relocks.{is_announced}
 use Rattle.relock_sink.specs.Rivals.{IsConfirmed}
 use Rattle.relock_sink.specs.Doubts.{IsLetGo}
 use Rattle.relock_sink.specs.Judges.{IsOwn, IsOpening, AreEdges}
-use Rattle.relock_sink.specs.RefutedDecided.{IsFirstRefuted, rival_of}
-use Rattle.relock_sink.specs.RivalSearches.{IsNeverConfirmed, KnowsOwn, KnowsDoubt, HasSoughtRivals, LetGoFor, IsKnownBefore, IsKnownAfter, IsRefutedBefore}
+use Rattle.relock_sink.specs.RefutedDecided.{IsFirstRefuted, later_of}
+use Rattle.relock_sink.specs.Watches.{IsNever}
+use Rattle.relock_sink.specs.Watching.{never_so}
+use Rattle.relock_sink.specs.RivalSearches.{KnowsOwn, KnowsDoubt, HasSoughtRivals, LetGoFor, IsKnownBefore, IsKnownAfter, IsRefutedBefore}
 use Rattle.relock_sink.specs.declared.rivals.Own.{Own}
 use Rattle.relock_sink.specs.declared.rivals.Own.TheVariants.{Sought, Confirmed, Other}
 use Rattle.relock_sink.specs.declared.rivals.RivalSearch.{RivalSearch}
-use Rattle.relock_sink.proofs.Refutes.{aligned_is}
+use Rattle.relock_sink.proofs.Places.{far_edges, so_at_edges, so_here}
 use Rattle.relock_sink.proofs.Doubting.{doubt_until, doubt_past}
 
 -- what is said of lanes whose alignment is sought
@@ -37,26 +40,20 @@ first_apart fed edges p q r first own later =
     let y = s.0 in
     omega arith
 
--- nor is there another than one that is not confirmed
-never_confirmed : (fed : Fed) (p q r : ℕ) → IsNeverConfirmed fed → IsConfirmed fed p q r → ⊥
-never_confirmed fed p q r never own =
-    let s = one_first fed.blue fed.green fed.red p q r never.blue never.green never.red own.first never.first in
-    never.other (subst (λ i. IsConfirmed fed i never.green never.red) s.0 (subst (λ i. IsConfirmed fed p i never.red) s.1 (subst (λ i. IsConfirmed fed p q i) s.2 own)))
-
 -- where no alignment is confirmed before edges, nothing is let go for them, nor is any doubted
 unconfirmed_after : (fed : Fed) (edges : List ℕ) (before now : Own) (doubt : Option (List ℕ)) → IsKnownBefore before doubt fed edges → KnowsOwn now ⊥ fed → ((p q r : ℕ) → IsConfirmed fed p q r → p < slice_index edges 0 → ⊥)
     → IsKnownAfter now doubt fed edges
 unconfirmed_after fed edges before now doubt known own none = record {
   own = own;
-  doubt = doubt_past fed edges known.triple (λ p q r is. none p q r is.rival.own is.rival.blue_later) (λ p q r is. none p q r is.own is.blue_later) doubt known.doubt;
-  stands = λ given. let rival = rival_of fed given.0 given.1 given.2 (slice_index edges 0) (slice_index edges 1) (slice_index edges 2) given.3 in none given.0 given.1 given.2 rival.own rival.blue_later;
+  doubt = doubt_past fed edges known.triple (λ p q r is. none p q r is.later.own is.later.blue_later) (λ p q r is. none p q r is.later.own is.later.blue_later) doubt known.doubt;
+  stands = λ given. let l = later_of fed given.0 given.1 given.2 (slice_index edges 0) (slice_index edges 1) (slice_index edges 2) given.3 in none given.0 given.1 given.2 l.own l.blue_later;
 }
 
 pub first_after : (fed : Fed) (edges : List ℕ) (now : Own) (doubt : Option (List ℕ)) → IsKnownBefore Sought doubt fed edges → KnowsOwn now ⊥ fed → IsKnownAfter now doubt fed edges
 first_after fed edges now doubt known own = unconfirmed_after fed edges Sought now doubt known own (λ p q r is later. first_apart fed edges p q r known.own is later)
 
 pub never_after : (fed : Fed) (edges : List ℕ) (doubt : Option (List ℕ)) → IsKnownBefore Other doubt fed edges → IsKnownAfter Other doubt fed edges
-never_after fed edges doubt known = unconfirmed_after fed edges Other Other doubt known known.own (λ p q r is later. never_confirmed fed p q r known.own is)
+never_after fed edges doubt known = unconfirmed_after fed edges Other Other doubt known known.own (λ p q r is later. never_so true fed p q r known.own is)
 
 -- the search of alignments stays so, whatever follows
 pub whatever : (finder : AlignmentFinder) (fed : Fed) → finder.limit + 9 ≤ most_of fed → HasSearched finder fed.blue fed.green fed.red
@@ -89,8 +86,8 @@ module _ (was : RivalSearch) (fed : Fed) (edges : List ℕ) (sought : HasSoughtR
   none_before p q r d e f is =
       let late = sought.none p q r d e f is in
       let within = (searched_here was fed sought).within in
-      let rival = rival_of fed p q r d e f is in
-      next.least d e f rival.triple (omega arith)
+      let triple = (later_of fed p q r d e f is).triple in
+      next.least d e f triple (omega arith)
 
   pub first_refuted : greatest edges + 90 ≤ most_of fed → (given : LetGoFor fed edges) → IsFirstRefuted fed given.0 given.1 given.2 (slice_index edges 0) (slice_index edges 1) (slice_index edges 2)
   first_refuted long given = record { refuted = given.3; shown = omega arith; least = none_before }
@@ -103,11 +100,11 @@ module _ (was : RivalSearch) (fed : Fed) (edges : List ℕ) (sought : HasSoughtR
     own = knows_by now.own ⊥ (now.alignments.past ≡ 0) fed (λ none. absurd none) after.own;
     none = λ p q r d e f is.
         let late = none_before p q r d e f is in
-        let rival = rival_of fed p q r d e f is in
+        let triple = (later_of fed p q r d e f is).triple in
         elim (cases_lt (greatest edges) (max d (max e f))) [
           | inl past ↦ omega arith
           | inr not ↦
-              let s = same_greatest fed.blue fed.green fed.red d e f (slice_index edges 0) (slice_index edges 1) (slice_index edges 2) rival.triple next.triple (omega arith) in
+              let s = same_greatest fed.blue fed.green fed.red d e f (slice_index edges 0) (slice_index edges 1) (slice_index edges 2) triple next.triple (omega arith) in
               absurd (after.stands (
                 p,
                 q,
@@ -130,8 +127,8 @@ none_sought was now fed limit sought none searched at past more own doubt long =
   none = λ p q r d e f is.
       let late = sought.none p q r d e f is in
       let within = (searched_here was fed sought).within in
-      let rival = rival_of fed p q r d e f is in
-      let h = none d e f rival.triple (omega arith) in
+      let triple = (later_of fed p q r d e f is).triple in
+      let h = none d e f triple (omega arith) in
       omega arith;
   doubt = subst (λ n. KnowsDoubt now.doubt fed n) (sym at) (subst (λ (o : Option (List ℕ)). KnowsDoubt o fed limit) (sym doubt)
       (doubt_until fed was.alignments.limit limit was.alignments.past none more (searched_here was fed sought).within was.doubt sought.doubt));
@@ -142,43 +139,18 @@ none_sought was now fed limit sought none searched at past more own doubt long =
 
 -- a period opens at it
 pub confirmed_at : (fed : Fed) (edges : List ℕ) → IsAlignment fed.blue fed.green fed.red edges → IsOpening fed edges → IsOwn fed edges
-confirmed_at fed edges first opening =
-    let a = first.triple.blue.past in
-    let b = first.triple.green.past in
-    let c = first.triple.red.past in
-    record {
-      first = first;
-      here = opening.here;
-      next = opening.next;
-      is_here = aligned_is fed (slice_index edges 0) (slice_index edges 1) (slice_index edges 2) 12 (slice_index edges 0) (slice_index edges 1) (slice_index edges 2) (omega arith) (omega arith) (omega arith)
-          ∙ opening.is_here;
-      is_next = aligned_is fed (slice_index edges 0) (slice_index edges 1) (slice_index edges 2) 13 (slice_index edges 0 + 10) (slice_index edges 1 + 10) (slice_index edges 2 + 10) (omega arith) (omega arith) (omega arith)
-          ∙ opening.is_next;
-      announced = opening.holds;
-    }
+confirmed_at fed edges first opening = record { first = first; columns = so_at_edges fed edges first.triple is_announced true opening }
 
 -- or none does
-pub never_at : (fed : Fed) (edges : List ℕ) → IsAlignment fed.blue fed.green fed.red edges → greatest edges + 90 ≤ most_of fed → (IsOpening fed edges → ⊥) → IsNeverConfirmed fed
-never_at fed edges first long none =
-    let a = first.triple.blue.past in
-    let b = first.triple.green.past in
-    let c = first.triple.red.past in
-    record {
-      blue = slice_index edges 0;
-      green = slice_index edges 1;
-      red = slice_index edges 2;
-      first = first;
-      shown = omega arith;
-      other = λ is. none (record {
-        here = is.here;
-        next = is.next;
-        is_here = sym (aligned_is fed (slice_index edges 0) (slice_index edges 1) (slice_index edges 2) 12 (slice_index edges 0) (slice_index edges 1) (slice_index edges 2) (omega arith) (omega arith) (omega arith))
-            ∙ is.is_here;
-        is_next = sym (aligned_is fed (slice_index edges 0) (slice_index edges 1) (slice_index edges 2) 13 (slice_index edges 0 + 10) (slice_index edges 1 + 10) (slice_index edges 2 + 10) (omega arith) (omega arith) (omega arith))
-            ∙ is.is_next;
-        holds = is.announced;
-      });
-    }
+pub never_at : (fed : Fed) (edges : List ℕ) → IsAlignment fed.blue fed.green fed.red edges → greatest edges + 90 ≤ most_of fed → (IsOpening fed edges → ⊥) → IsNever true fed
+never_at fed edges first long none = record {
+  blue = slice_index edges 0;
+  green = slice_index edges 1;
+  red = slice_index edges 2;
+  first = first;
+  shown = omega arith;
+  never = λ is. none (so_here fed edges first.triple is_announced true is.columns);
+}
 
 -- Where the epoch is left.
 
@@ -191,10 +163,7 @@ near_edges fed edges t =
     let a = t.blue_green in
     let b = t.green_red in
     let c = t.blue_red in
-    let x = t.blue.past in
-    let y = t.green.past in
-    let z = t.red.past in
-    (omega arith, omega arith)
+    (omega arith, far_edges fed edges t)
 
 pub refuted_before : (fed : Fed) (edges : List ℕ) (limit place : ℕ) → (given : LetGoFor fed edges) → IsFirstRefuted fed given.0 given.1 given.2 (slice_index edges 0) (slice_index edges 1) (slice_index edges 2)
     → greatest edges < limit → place + 120 ≡ least edges → IsRefutedBefore fed limit place

@@ -7,6 +7,7 @@ use Rattle.alignment_search.specs.Alignments.{least}
 use Rattle.link_sink.specs.Sinks.{Fed}
 use Rattle.track_sink.specs.Lents.{HasRoom}
 use Rattle.track_sink.specs.declared.watch.LentLanes.{LentLanes}
+use Rattle.relock_sink.specs.Bands.{AreSo}
 use Rattle.relock_sink.specs.Relocks.{is_announced}
 
 -- the column of the characters at three places
@@ -23,11 +24,7 @@ IsOpened fed edges = (g h : Column) → column_here fed edges ≡ Some g → col
 
 -- both are whole, and none opens: the epoch is left at a place
 pub record IsDoubted (fed : Fed) (edges : List ℕ) (place : ℕ) : Type 0 where
-  pub here : Column
-  pub next : Column
-  pub is_here : column_here fed edges ≡ Some here
-  pub is_next : column_after fed edges ≡ Some next
-  pub unannounced : is_announced here next ≡ false
+  pub columns : AreSo (column_here fed edges) (column_after fed edges) is_announced false
   pub at : place ≡ least edges - 119
 
 pub record HaveRoom (lanes : LentLanes) : Type 0 where

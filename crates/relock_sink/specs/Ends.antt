@@ -1,10 +1,11 @@
 -- The end of an epoch whose alignment is to be confirmed: it has one or none, and what arrives later changes none.
-use Rattle.std.proofs.Common.{◌≡◌, ◌⊎◌, ℕ, ◌+◌, ◌-◌, ◌<◌, ◌≤◌, min, Bool, true, false, [], length, Option, Some, None, refl, ◌∙◌, sym, subst, arith, inl, inr}
+use Rattle.std.proofs.Common.{◌≡◌, ◌⊎◌, ℕ, ◌+◌, ◌-◌, ◌<◌, ◌≤◌, min, Bool, false, [], length, Option, Some, None, refl, sym, subst, arith, inl, inr}
+use native.Mathlib.Decide.{map_dec}
+use Rattle.std.proofs.Math.Bool.{Bool-discrete}
 use Rattle.std.proofs.lemmas.Bool.{cases_lt}
 use Rattle.tmds_word.specs.Column.{Column}
 use Rattle.lane_track.proofs.Strays.{stray_grows}
 use Rattle.lane_track.specs.Strays.{IsStray}
-use Rattle.lane_deskew.specs.Triples.{IsFirst}
 use Rattle.lane_deskew.specs.Aligned.{aligned_column}
 use Rattle.lane_deskew.proofs.First.{one_first}
 use Rattle.link_sink.specs.Sinks.{Fed}
@@ -15,41 +16,31 @@ use Rattle.track_sink.specs.declared.watch.Cause.{Cause}
 use Rattle.track_sink.specs.declared.watch.Cause.TheVariants.{Slip, Unconfirmed, Refuted}
 use Rattle.track_sink.specs.Ends.{end_decided, end_is_far, end_within, one_end}
 use Rattle.track_sink.specs.Staying.{end_stays, was_stray}
-use Rattle.relock_sink.specs.Relocks.{is_announced, IsUnconfirmed, shown_at, IsUnconfirmedEnd, IsLastEpoch, relock_ends}
-use Rattle.relock_sink.specs.Growing.{unconfirmed_stays, unconfirmed_was, shown_within, lane_grows_from}
+use Rattle.relock_sink.specs.Bands.{AreSo, AtEdges}
+use Rattle.relock_sink.specs.Relocks.{is_announced, IsFirstSo, IsUnconfirmed, shown_at, IsUnconfirmedEnd, IsLastEpoch, relock_ends}
+use Rattle.relock_sink.specs.Growing.{first_so_stays, first_so_was, shown_within, lane_grows_from}
 
 -- an epoch has one alignment at most that is unconfirmed: its first
 pub one_unconfirmed : (fed : Fed) (d e f p q r : ℕ) → IsUnconfirmed fed d e f → IsUnconfirmed fed p q r → (d ≡ p) × (e ≡ q) × (f ≡ r)
 one_unconfirmed fed d e f p q r a b = one_first fed.blue fed.green fed.red d e f p q r a.first b.first
 
-unconfirmed_decided : (fed : Fed) → ((d e f : ℕ) × IsUnconfirmed fed d e f) ⊎ ((d e f : ℕ) → IsUnconfirmed fed d e f → ⊥)
-unconfirmed_decided fed = elim (first_decided fed.blue fed.green fed.red) [
+pub so_decided : (a b : Option Column) (test : Column → Column → Bool) (answer : Bool) → Dec (AreSo a b test answer)
+so_decided None b test answer = no (λ h. let k = h.is_here in absurd cc)
+so_decided (Some g) None test answer = no (λ h. let k = h.is_next in absurd cc)
+so_decided (Some g) (Some h) test answer =
+    map_dec (λ is. record { here = g; next = h; is_here = refl; is_next = refl; so = is }) (λ s. let a = s.is_here in let b = s.is_next in let c = s.so in cc)
+    (Bool-discrete (test g h) answer)
+
+pub first_so_decided : (opens : Bool) (fed : Fed) → ((d e f : ℕ) × IsFirstSo opens fed d e f) ⊎ ((d e f : ℕ) → IsFirstSo opens fed d e f → ⊥)
+first_so_decided opens fed = elim (first_decided fed.blue fed.green fed.red) [
   | inr none ↦ inr (λ d e f is. none d e f is.first.triple)
-  | inl h ↦
-      let column : ℕ → Option Column = aligned_column fed.blue fed.green fed.red h.0 h.1 h.2 in
-      by h.0 h.1 h.2 h.3 (column 12) (column 13) refl refl
+  | inl h ↦ elim (so_decided (aligned_column fed.blue fed.green fed.red h.0 h.1 h.2 12) (aligned_column fed.blue fed.green fed.red h.0 h.1 h.2 13) is_announced opens) [
+    | yes so ↦ inl (h.0, h.1, h.2, record { first = h.3; columns = so })
+    | no none ↦ inr (λ d e f is.
+        let s = one_first fed.blue fed.green fed.red d e f h.0 h.1 h.2 is.first h.3 in
+        none (subst (λ i. AtEdges is_announced opens fed i h.1 h.2) s.0 (subst (λ i. AtEdges is_announced opens fed d i h.2) s.1 (subst (λ i. AtEdges is_announced opens fed d e i) s.2 is.columns))))
+  ]
 ]
-  where
-    same : (d e f p q r j : ℕ) → IsFirst fed.blue fed.green fed.red d e f → IsUnconfirmed fed p q r
-        → aligned_column fed.blue fed.green fed.red d e f j ≡ aligned_column fed.blue fed.green fed.red p q r j
-    same d e f p q r j first is =
-        let s = one_first fed.blue fed.green fed.red d e f p q r first is.first in
-        λ i. aligned_column fed.blue fed.green fed.red (s.0 i) (s.1 i) (s.2 i) j
-
-    by_test : (d e f : ℕ) (g h : Column) (b : Bool) → IsFirst fed.blue fed.green fed.red d e f → aligned_column fed.blue fed.green fed.red d e f 12 ≡ Some g → aligned_column fed.blue fed.green fed.red d e f 13 ≡ Some h
-        → is_announced g h ≡ b → ((d e f : ℕ) × IsUnconfirmed fed d e f) ⊎ ((d e f : ℕ) → IsUnconfirmed fed d e f → ⊥)
-    by_test d e f g h false first at_g at_h test = inl (d, e, f, record { first = first; here = g; next = h; is_here = at_g; is_next = at_h; unannounced = test })
-    by_test d e f g h true first at_g at_h test = inr (λ p q r is.
-        let a : Some g ≡ Some is.here = sym at_g ∙ same d e f p q r 12 first is ∙ is.is_here in
-        let b : Some h ≡ Some is.next = sym at_h ∙ same d e f p q r 13 first is ∙ is.is_next in
-        let t = is.unannounced in
-        absurd cc)
-
-    by : (d e f : ℕ) → IsFirst fed.blue fed.green fed.red d e f → (g h : Option Column) → aligned_column fed.blue fed.green fed.red d e f 12 ≡ g → aligned_column fed.blue fed.green fed.red d e f 13 ≡ h
-        → ((d e f : ℕ) × IsUnconfirmed fed d e f) ⊎ ((d e f : ℕ) → IsUnconfirmed fed d e f → ⊥)
-    by d e f first None h at_g at_h = inr (λ p q r is. let a : None ≡ Some is.here = sym at_g ∙ same d e f p q r 12 first is ∙ is.is_here in absurd cc)
-    by d e f first (Some g) None at_g at_h = inr (λ p q r is. let a : None ≡ Some is.next = sym at_h ∙ same d e f p q r 13 first is ∙ is.is_next in absurd cc)
-    by d e f first (Some g) (Some h) at_g at_h = by_test d e f g h (is_announced g h) first at_g at_h refl
 
 -- an unconfirmed alignment that is shown before the first stray's run ends is an end, and where it is not the stray is
 pub unconfirmed_end : (fed : Fed) (d e f place : ℕ) → IsUnconfirmed fed d e f → place + 119 ≡ min d (min e f) → ((lane p : ℕ) → IsEnd fed lane p → shown_at d e f < p + 120) → IsUnconfirmedEnd fed place
@@ -63,7 +54,7 @@ far_edges fed d e f is =
     omega arith
 
 pub decided : (fed : Fed) → ((cause : Cause) × (place : ℕ) × relock_ends fed cause place) ⊎ IsLastEpoch fed
-decided fed = by (end_decided fed) (unconfirmed_decided fed)
+decided fed = by (end_decided fed) (first_so_decided false fed)
   where
     sooner : (l p d e f : ℕ) → IsEnd fed l p → IsUnconfirmed fed d e f → (shown_at d e f < p + 120) ⊎ (p + 120 ≤ shown_at d e f) → ((cause : Cause) × (place : ℕ) × relock_ends fed cause place) ⊎ IsLastEpoch fed
     sooner l p d e f end is (inl first) =
@@ -131,7 +122,7 @@ stays before now (Slip lane) place is grows =
     record {
       end = end_stays before now lane place is.end grows;
       before = λ d e f other. elim (cases_lt (shown_at d e f) (place + 120)) [
-        | inl sooner ↦ is.before d e f (unconfirmed_was before now d e f grows (omega arith) other)
+        | inl sooner ↦ is.before d e f (first_so_was before now grows d e f false (omega arith) other)
         | inr later ↦ later
       ];
     }
@@ -141,7 +132,7 @@ stays before now Unconfirmed place is grows =
       blue = is.blue;
       green = is.green;
       red = is.red;
-      unconfirmed = unconfirmed_stays before now is.blue is.green is.red grows is.unconfirmed;
+      unconfirmed = first_so_stays before now grows is.blue is.green is.red false is.unconfirmed;
       forgets = is.forgets;
       before = λ lane p end. elim (cases_lt (shown_at is.blue is.green is.red) (p + 120)) [
         | inl later ↦ later

@@ -1,5 +1,5 @@
 -- Alignments of lanes that grow: they stay, and what is shown by bits that had arrived was so before.
-use Rattle.std.proofs.Common.{◌≡◌, ℕ, ◌+◌, ◌<◌, ◌≤◌, max, Option, Some, None, refl, sym, subst, arith, inl, inr}
+use Rattle.std.proofs.Common.{◌≡◌, ℕ, ◌+◌, ◌*◌, ◌<◌, ◌≤◌, max, Bool, Option, Some, None, refl, sym, subst, arith, inl, inr}
 use Rattle.std.proofs.lemmas.Bool.{cases_lt}
 use Rattle.tmds_word.specs.Bits.{window}
 use Rattle.tmds_word.specs.Column.{Column}
@@ -13,7 +13,8 @@ use Rattle.link_sink.specs.Sinks.{Fed}
 use Rattle.track_sink.specs.Epochs.{lane_of, most_of}
 use Rattle.track_sink.specs.Tracks.{Grows}
 use Rattle.alignment_search.proofs.Growing.{GrowsFrom, edge_was_there, same_of}
-use Rattle.relock_sink.specs.Relocks.{IsUnconfirmed, shown_at}
+use Rattle.relock_sink.specs.Bands.{OfThree, AtEdges, FromColumn, IsKept, so_kept}
+use Rattle.relock_sink.specs.Relocks.{is_announced, IsFirstSo, IsUnconfirmed, shown_at}
 
 -- a lane that grows has all bits that any had
 pub lane_grows_from : (before now : Fed) (limit : ℕ) → Grows before now → limit + 9 ≤ most_of before → (l : ℕ) → l < 3 → GrowsFrom limit (lane_of before l) (lane_of now l)
@@ -107,31 +108,33 @@ module _ (before now : Fed) (grows : Grows before now) (d e f j : ℕ) (c : Colu
       whole _ _ _ _ _ _ c (λ n. window_had before now grows 0 (place d j) n (omega arith) (omega arith)) (λ n. window_had before now grows 1 (place e j) n (omega arith) (omega arith))
       (λ n. window_had before now grows 2 (place f j) n (omega arith) (omega arith)) h
 
--- an unconfirmed alignment stays so
-pub unconfirmed_stays : (before now : Fed) (d e f : ℕ) → Grows before now → IsUnconfirmed before d e f → IsUnconfirmed now d e f
-unconfirmed_stays before now d e f grows was = record {
-  first = first_stays before now grows d e f was.first;
-  here = was.here;
-  next = was.next;
-  is_here = column_kept before now grows d e f 12 was.here was.is_here;
-  is_next = column_kept before now grows d e f 13 was.next was.is_next;
-  unannounced = was.unannounced;
-}
+module _ (before now : Fed) (grows : Grows before now) (d e f : ℕ) where
+  pub edges_stay : (test : Column → Column → Bool) (answer : Bool) → AtEdges test answer before d e f → AtEdges test answer now d e f
+  edges_stay test answer was = so_kept _ _ _ _ test answer (column_kept before now grows d e f 12) (column_kept before now grows d e f 13) was
 
--- and was so, where the bits that show it had arrived
-pub unconfirmed_was : (before now : Fed) (d e f : ℕ) → Grows before now → shown_at d e f ≤ most_of before → IsUnconfirmed now d e f → IsUnconfirmed before d e f
-unconfirmed_was before now d e f grows shown is =
-    let past = is.first.triple.blue.past in
-    let past2 = is.first.triple.green.past in
-    let past3 = is.first.triple.red.past in
-    record {
-      first = first_was before now grows d e f (omega arith) is.first;
-      here = is.here;
-      next = is.next;
-      is_here = column_had before now grows d e f 12 is.here (omega arith) is.is_here;
-      is_next = column_had before now grows d e f 13 is.next (omega arith) is.is_next;
-      unannounced = is.unannounced;
-    }
+  pub edges_were : (test : Column → Column → Bool) (answer : Bool) → 120 ≤ d → max d (max e f) + 20 ≤ most_of before → AtEdges test answer now d e f → AtEdges test answer before d e f
+  edges_were test answer past shown is =
+      so_kept _ _ _ _ test answer (λ c. column_had before now grows d e f 12 c (omega arith)) (λ c. column_had before now grows d e f 13 c (omega arith)) is
+
+  pub columns_stay : (P : OfThree) → IsKept P → (j : ℕ) → FromColumn P before d e f j → FromColumn P now d e f j
+  columns_stay P kept j was =
+      kept _ _ _ _ _ _ (column_kept before now grows d e f j) (column_kept before now grows d e f (j + 1)) (column_kept before now grows d e f (j + 2)) was
+
+  pub columns_were : (P : OfThree) → IsKept P → (j : ℕ) → 120 ≤ d → max d (max e f) + 10 * j ≤ most_of before + 90
+      → FromColumn P now d e f j → FromColumn P before d e f j
+  columns_were P kept j past shown is =
+      kept _ _ _ _ _ _ (λ c. column_had before now grows d e f j c (omega arith)) (λ c. column_had before now grows d e f (j + 1) c (omega arith))
+      (λ c. column_had before now grows d e f (j + 2) c (omega arith)) is
+
+  -- whether a period opens at the first alignment stays so
+  pub first_so_stays : (opens : Bool) → IsFirstSo opens before d e f → IsFirstSo opens now d e f
+  first_so_stays opens was = record { first = first_stays before now grows d e f was.first; columns = edges_stay is_announced opens was.columns }
+
+  -- and was so, where the bits that show it had arrived
+  pub first_so_was : (opens : Bool) → shown_at d e f ≤ most_of before → IsFirstSo opens now d e f → IsFirstSo opens before d e f
+  first_so_was opens shown is =
+      let past = is.first.triple.blue.past in
+      record { first = first_was before now grows d e f (omega arith) is.first; columns = edges_were is_announced opens (omega arith) shown is.columns }
 
 -- all bits that show it are there
 pub shown_within : (fed : Fed) (d e f : ℕ) → IsUnconfirmed fed d e f → shown_at d e f ≤ most_of fed
@@ -140,7 +143,7 @@ shown_within fed d e f is =
     let past = is.first.triple.blue.past in
     let past2 = is.first.triple.green.past in
     let past3 = is.first.triple.red.past in
-    let at = columns (window fed.blue (place d 13)) (window fed.green (place e 13)) (window fed.red (place f 13)) is.next is.is_next in
+    let at = columns (window fed.blue (place d 13)) (window fed.green (place e 13)) (window fed.red (place f 13)) is.columns.next is.columns.is_next in
     let a = (window_is fed.blue (place d 13) at.0 at.3).0 in
     let b = (window_is fed.green (place e 13) at.1 at.4).0 in
     let c = (window_is fed.red (place f 13) at.2 at.5).0 in

@@ -1,51 +1,19 @@
 -- What is looked at to judge what other edges say of an alignment, of lanes that are lent.
-use Rattle.std.specs.Prelude.{◌≡◌, ℕ, ◌+◌, ◌*◌, ◌-◌, ◌<◌, Bool, true, false, List, [], ◌∷◌, slice_index, Option, Some}
+use Rattle.std.specs.Prelude.{ℕ, ◌+◌, ◌*◌, ◌-◌, ◌<◌, true, List, [], ◌∷◌, slice_index, Option}
 use Rattle.tmds_word.specs.Column.{Column}
-use Rattle.terc4.specs.Columns.{is_control_column}
-use Rattle.period_grammar.specs.Heard.{neither, opened}
 use Rattle.lane_deskew.specs.Triples.{IsTriple}
 use Rattle.link_sink.specs.Sinks.{Fed}
+use Rattle.relock_sink.specs.Bands.{AreSo, AreEnding, AreUnopened}
 use Rattle.relock_sink.specs.Columns.{column_here, column_after}
 use Rattle.relock_sink.specs.Relocks.{is_announced}
 use Rattle.relock_sink.specs.Rivals.{IsConfirmed, IsRefuted, HaveSameSkew, is_guard_band, columns_before}
 
--- two columns are there, and a test of both holds
-pub record AreSo (a b : Option Column) (test : Column → Column → Bool) : Type 0 where
-  pub here : Column
-  pub next : Column
-  pub is_here : a ≡ Some here
-  pub is_next : b ≡ Some next
-  pub holds : test here next ≡ true
-
--- three are there, and a control period ends with the first
-pub record AreEnding (a b c : Option Column) : Type 0 where
-  pub last : Column
-  pub first : Column
-  pub second : Column
-  pub is_last : a ≡ Some last
-  pub is_first : b ≡ Some first
-  pub is_second : c ≡ Some second
-  pub control : is_control_column last ≡ true
-  pub ends : is_control_column first ≡ false
-
--- and no period opens after it
-pub record AreUnopened (a b c : Option Column) : Type 0 where
-  pub last : Column
-  pub first : Column
-  pub second : Column
-  pub is_last : a ≡ Some last
-  pub is_first : b ≡ Some first
-  pub is_second : c ≡ Some second
-  pub control : is_control_column last ≡ true
-  pub ends : is_control_column first ≡ false
-  pub nothing : opened first second ≡ neither
-
 -- at three places of lanes
 abbrev pub IsOpening : Fed → List ℕ → Type 0
-IsOpening fed places = AreSo (column_here fed places) (column_after fed places) is_announced
+IsOpening fed places = AreSo (column_here fed places) (column_after fed places) is_announced true
 
 abbrev pub IsBand : Fed → List ℕ → Type 0
-IsBand fed places = AreSo (column_here fed places) (column_after fed places) is_guard_band
+IsBand fed places = AreSo (column_here fed places) (column_after fed places) is_guard_band true
 
 abbrev pub column_third : Fed → List ℕ → Option Column
 column_third fed places = column_here fed ((slice_index places 0 + 20) ∷ (slice_index places 1 + 20) ∷ (slice_index places 2 + 20) ∷ [])

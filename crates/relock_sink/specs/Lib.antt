@@ -1,3 +1,4 @@
+pub mod Bands
 pub mod Relocks
 pub mod Rivals
 pub mod Doubts

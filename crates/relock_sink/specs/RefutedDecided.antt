@@ -1,5 +1,5 @@
 -- Whether an alignment is let go for what bits that have arrived show, and for which edges first.
-use Rattle.std.proofs.Common.{◌≡◌, ◌⊎◌, ℕ, suc, ◌+◌, ◌-◌, ◌%◌, ◌<◌, ◌≤◌, max, Bool, true, false, List, Option, Some, None, refl, ◌∙◌, subst, arith, inl, inr}
+use Rattle.std.proofs.Common.{◌≡◌, ◌⊎◌, ℕ, suc, ◌+◌, ◌-◌, ◌%◌, ◌<◌, ◌≤◌, max, Bool, true, false, List, Option, Some, None, refl, subst, arith, inl, inr}
 use mathlib.Core.Logic.Dec.{and as both}
 use native.Mathlib.Decide.{map_dec, ℕ_discrete, dec_le}
 use Rattle.std.proofs.Math.Decide.{dec_lt}
@@ -17,13 +17,13 @@ use Rattle.lane_deskew.specs.Triples.{IsTriple}
 use Rattle.lane_deskew.specs.Aligned.{aligned_column}
 use Rattle.lane_deskew.proofs.First.{one_first}
 use Rattle.link_sink.specs.Sinks.{Fed}
-use Rattle.link_sink.proofs.Decided.{IsLeast, least_or_none, lock_of_run, first_decided}
+use Rattle.link_sink.proofs.Decided.{IsLeast, least_or_none, lock_of_run}
 use Rattle.track_sink.specs.Epochs.{most_of}
 use Rattle.track_sink.specs.Ends.{run_decided}
-use Rattle.relock_sink.specs.Relocks.{is_announced}
-use Rattle.relock_sink.specs.Rivals.{is_guard_band, columns_before, HaveSameSkew, IsConfirmed, IsRival, IsRefuted, OpensNothing}
-use Rattle.relock_sink.specs.Doubts.{EndsPeriod, IsContender, IsUpheld, AreInRow, IsDoubted, IsLetGo}
-use Rattle.relock_sink.specs.Judges.{AreSo, AreEnding, AreUnopened}
+use Rattle.relock_sink.specs.Bands.{OfThree, AreEnding, AreUnopened}
+use Rattle.relock_sink.specs.Ends.{so_decided, first_so_decided}
+use Rattle.relock_sink.specs.Rivals.{is_guard_band, columns_before, HaveSameSkew, IsConfirmed, IsLaterBand, IsRival}
+use Rattle.relock_sink.specs.Doubts.{IsContender, IsUpheld, AreInRow, IsDoubted, IsLetGo}
 use Rattle.relock_sink.specs.Refuting.{refuted_at}
 
 -- one below a bound, or none
@@ -122,29 +122,10 @@ triple_decided xs ys zs d e f = grind (arith, edge_decided, near_decided)
 
 -- Columns.
 
-so_decided : (a b : Option Column) (test : Column → Column → Bool) → Dec (AreSo a b test)
-so_decided None b test = no (λ h. let k = h.is_here in absurd cc)
-so_decided (Some g) None test = no (λ h. let k = h.is_next in absurd cc)
-so_decided (Some g) (Some h) test = by (test g h) refl
-  where
-    by : (t : Bool) → test g h ≡ t → Dec (AreSo (Some g) (Some h) test)
-    by true is = yes (record { here = g; next = h; is_here = refl; is_next = refl; holds = is })
-    by false is = no (λ s. let a = s.is_here in let b = s.is_next in let c = s.holds in absurd cc)
-
 neither_decided : (k : Kind) → Dec (k ≡ neither)
 neither_decided video = no (λ e. cc)
 neither_decided island = no (λ e. cc)
 neither_decided neither = yes refl
-
-unopened_decided : (a b c : Option Column) → Dec (AreUnopened a b c)
-unopened_decided None b c = no (λ h. let k = h.is_last in absurd cc)
-unopened_decided (Some g) None c = no (λ h. let k = h.is_first in absurd cc)
-unopened_decided (Some g) (Some h) None = no (λ u. let k = u.is_second in absurd cc)
-unopened_decided (Some g) (Some h) (Some i) =
-    map_dec
-    (λ t. record { last = g; first = h; second = i; is_last = refl; is_first = refl; is_second = refl; control = t.0; ends = t.1.0; nothing = t.1.1 })
-    (λ u. let a = u.is_last in let b = u.is_first in let c = u.is_second in let x = u.control in let y = u.ends in let z = u.nothing in (cc, (cc, cc)))
-    (both (Bool-discrete (is_control_column g) true) (both (Bool-discrete (is_control_column h) false) (neither_decided (opened h i))))
 
 ending_decided : (a b c : Option Column) → Dec (AreEnding a b c)
 ending_decided None b c = no (λ h. let k = h.is_last in absurd cc)
@@ -155,109 +136,41 @@ ending_decided (Some g) (Some h) (Some i) =
     (λ u. let a = u.is_last in let b = u.is_first in let x = u.control in let y = u.ends in (cc, cc))
     (both (Bool-discrete (is_control_column g) true) (Bool-discrete (is_control_column h) false))
 
-period_decided : (fed : Fed) (p q r j : ℕ) → Dec (EndsPeriod fed p q r j)
-period_decided fed p q r j =
-    let column : ℕ → Option Column = aligned_column fed.blue fed.green fed.red p q r in
-    map_dec
-    (λ u. record { last = u.last; first = u.first; second = u.second; is_last = u.is_last; is_first = u.is_first; is_second = u.is_second; control = u.control; ends = u.ends })
-    (λ u. record { last = u.last; first = u.first; second = u.second; is_last = u.is_last; is_first = u.is_first; is_second = u.is_second; control = u.control; ends = u.ends })
-    (ending_decided (column j) (column (j + 1)) (column (j + 2)))
-
-nothing_decided : (fed : Fed) (p q r j : ℕ) → Dec (OpensNothing fed p q r j)
-nothing_decided fed p q r j =
-    let column : ℕ → Option Column = aligned_column fed.blue fed.green fed.red p q r in
-    map_dec
-    (λ u. record {
-      last = u.last;
-      first = u.first;
-      second = u.second;
-      is_last = u.is_last;
-      is_first = u.is_first;
-      is_second = u.is_second;
-      control = u.control;
-      ends = u.ends;
-      nothing = u.nothing;
-    })
-    (λ u. record {
-      last = u.last;
-      first = u.first;
-      second = u.second;
-      is_last = u.is_last;
-      is_first = u.is_first;
-      is_second = u.is_second;
-      control = u.control;
-      ends = u.ends;
-      nothing = u.nothing;
-    })
-    (unopened_decided (column j) (column (j + 1)) (column (j + 2)))
+unopened_decided : (a b c : Option Column) → Dec (AreUnopened a b c)
+unopened_decided a b c = elim (ending_decided a b c) [
+  | no none ↦ no (λ u. none u.ending)
+  | yes e ↦
+      map_dec (λ n. record { ending = e; nothing = n })
+      (λ u. let v = u.ending in let g = e.is_first in let h = e.is_second in let i = v.is_first in let j = v.is_second in let n = u.nothing in cc)
+      (neither_decided (opened e.first e.second))
+]
 
 -- Rivals of an alignment.
-
--- the columns at edges are a guard band
-abbrev HasBand : Fed → ℕ → ℕ → ℕ → Type 0
-HasBand fed d e f = AreSo (aligned_column fed.blue fed.green fed.red d e f 12) (aligned_column fed.blue fed.green fed.red d e f 13) is_guard_band
 
 skew_decided : (p q r d e f : ℕ) → Dec (HaveSameSkew p q r d e f)
 skew_decided p q r d e f = both (ℕ_discrete (d + q) (e + p)) (ℕ_discrete (d + r) (f + p))
 
 module _ (fed : Fed) (p q r : ℕ) (own : IsConfirmed fed p q r) where
-  rival_decided : (d e f : ℕ) → Dec (IsRival fed p q r d e f)
-  rival_decided d e f =
-      map_dec
-      (λ h. record {
-        own = own;
-        triple = h.0;
-        blue_later = h.1.0;
-        green_later = h.1.1.0;
-        red_later = h.1.1.1.0;
-        other_skew = h.1.1.1.1.0;
-        here = h.1.1.1.1.1.here;
-        next = h.1.1.1.1.1.next;
-        is_here = h.1.1.1.1.1.is_here;
-        is_next = h.1.1.1.1.1.is_next;
-        whole = h.1.1.1.1.1.holds;
-      })
-      (λ h. (
-        h.triple,
-        (h.blue_later, (h.green_later, (h.red_later, (h.other_skew, record { here = h.here; next = h.next; is_here = h.is_here; is_next = h.is_next; holds = h.whole })))),
-      ))
-      (both (triple_decided fed.blue fed.green fed.red d e f)
-      (both (dec_lt p d) (both (dec_lt q e) (both (dec_lt r f)
-      (both (not_so (skew_decided p q r d e f)) (so_decided (aligned_column fed.blue fed.green fed.red d e f 12) (aligned_column fed.blue fed.green fed.red d e f 13) is_guard_band))))))
+  later_decided : (d e f : ℕ) → Dec (IsLaterBand fed p q r d e f)
+  later_decided d e f =
+      map_dec (λ h. record { own = own; triple = h.0; blue_later = h.1.0; green_later = h.1.1.0; red_later = h.1.1.1.0; band = h.1.1.1.1 })
+      (λ h. (h.triple, (h.blue_later, (h.green_later, (h.red_later, h.band)))))
+      (both (triple_decided fed.blue fed.green fed.red d e f) (both (dec_lt p d) (both (dec_lt q e) (both (dec_lt r f)
+      (so_decided (aligned_column fed.blue fed.green fed.red d e f 12) (aligned_column fed.blue fed.green fed.red d e f 13) is_guard_band true)))))
 
-  pub refuted_decided : (d e f : ℕ) → Dec (IsRefuted fed p q r d e f)
-  refuted_decided d e f =
-      map_dec (λ h. record { rival = h.0; unopened = h.1 }) (λ h. (h.rival, h.unopened))
-      (both (rival_decided d e f) (nothing_decided fed p q r (11 + columns_before p q r d e f)))
+  rival_decided : (P : OfThree) → ((a b c : Option Column) → Dec (P a b c)) → (d e f : ℕ) → Dec (IsRival P fed p q r d e f)
+  rival_decided P decided d e f =
+      let column : ℕ → Option Column = aligned_column fed.blue fed.green fed.red p q r in
+      let j = 11 + columns_before p q r d e f in
+      map_dec (λ h. record { later = h.0; other_skew = h.1.0; period = h.1.1 }) (λ h. (h.later, (h.other_skew, h.period)))
+      (both (later_decided d e f) (both (not_so (skew_decided p q r d e f)) (decided (column j) (column (j + 1)) (column (j + 2)))))
 
   contender_decided : (d e f : ℕ) → Dec (IsContender fed p q r d e f)
-  contender_decided d e f =
-      map_dec (λ h. record { rival = h.0; period = h.1 }) (λ h. (h.rival, h.period))
-      (both (rival_decided d e f) (period_decided fed p q r (11 + columns_before p q r d e f)))
+  contender_decided d e f = rival_decided AreEnding ending_decided d e f
 
   upheld_decided : (d e f : ℕ) → Dec (IsUpheld fed p q r d e f)
   upheld_decided d e f =
-      map_dec
-      (λ h. record {
-        own = own;
-        triple = h.0;
-        blue_later = h.1.0;
-        green_later = h.1.1.0;
-        red_later = h.1.1.1.0;
-        own_skew = h.1.1.1.1.0;
-        here = h.1.1.1.1.1.here;
-        next = h.1.1.1.1.1.next;
-        is_here = h.1.1.1.1.1.is_here;
-        is_next = h.1.1.1.1.1.is_next;
-        whole = h.1.1.1.1.1.holds;
-      })
-      (λ h. (
-        h.triple,
-        (h.blue_later, (h.green_later, (h.red_later, (h.own_skew, record { here = h.here; next = h.next; is_here = h.is_here; is_next = h.is_next; holds = h.whole })))),
-      ))
-      (both (triple_decided fed.blue fed.green fed.red d e f)
-      (both (dec_lt p d) (both (dec_lt q e) (both (dec_lt r f)
-      (both (skew_decided p q r d e f) (so_decided (aligned_column fed.blue fed.green fed.red d e f 12) (aligned_column fed.blue fed.green fed.red d e f 13) is_guard_band))))))
+      map_dec (λ h. record { later = h.0; own_skew = h.1 }) (λ h. (h.later, h.own_skew)) (both (later_decided d e f) (skew_decided p q r d e f))
 
   row_decided : (from to : ℕ) → Dec (AreInRow fed p q r from to)
   row_decided from to =
@@ -283,44 +196,23 @@ module _ (fed : Fed) (p q r : ℕ) (own : IsConfirmed fed p q r) where
       both (contender_decided i j k) (both (row_decided (max i (max j k)) (max d (max e f))) (skew_decided i j k d e f)))))
 
   pub let_go_decided : (d e f : ℕ) → Dec (IsLetGo fed p q r d e f)
-  let_go_decided d e f = either (refuted_decided d e f) (doubted_decided d e f)
+  let_go_decided d e f = either (rival_decided AreUnopened unopened_decided d e f) (doubted_decided d e f)
 
 -- The alignment that is confirmed.
 
-pub confirmed_decided : (fed : Fed) → ((p q r : ℕ) × IsConfirmed fed p q r) ⊎ ((p q r : ℕ) → IsConfirmed fed p q r → ⊥)
-confirmed_decided fed = elim (first_decided fed.blue fed.green fed.red) [
-  | inr none ↦ inr (λ p q r is. none p q r is.first.triple)
-  | inl h ↦ elim (so_decided (aligned_column fed.blue fed.green fed.red h.0 h.1 h.2 12) (aligned_column fed.blue fed.green fed.red h.0 h.1 h.2 13) is_announced) [
-    | yes so ↦ inl (h.0, h.1, h.2, record { first = h.3; here = so.here; next = so.next; is_here = so.is_here; is_next = so.is_next; announced = so.holds })
-    | no none ↦ inr (λ p q r is.
-        let s = one_first fed.blue fed.green fed.red h.0 h.1 h.2 p q r h.3 is.first in
-        none (record {
-          here = is.here;
-          next = is.next;
-          is_here = (λ i. aligned_column fed.blue fed.green fed.red (s.0 i) (s.1 i) (s.2 i) 12) ∙ is.is_here;
-          is_next = (λ i. aligned_column fed.blue fed.green fed.red (s.0 i) (s.1 i) (s.2 i) 13) ∙ is.is_next;
-          holds = is.announced;
-        }))
-  ]
-]
-
--- an epoch has one that is confirmed at most
-pub one_confirmed : (fed : Fed) (p q r d e f : ℕ) → IsConfirmed fed p q r → IsConfirmed fed d e f → (p ≡ d) × (q ≡ e) × (r ≡ f)
-one_confirmed fed p q r d e f a b = one_first fed.blue fed.green fed.red p q r d e f a.first b.first
-
--- what is so of the one is so of the other
+-- an epoch has one that is confirmed at most: what is so of one is so of another
 pub same_own : (fed : Fed) (P : ℕ → ℕ → ℕ → Type 0) (u v w p q r : ℕ) → IsConfirmed fed u v w → IsConfirmed fed p q r → P u v w → P p q r
 same_own fed P u v w p q r is own here =
-    let s = one_confirmed fed u v w p q r is own in
+    let s = one_first fed.blue fed.green fed.red u v w p q r is.first own.first in
     subst (λ i. P i q r) s.0 (subst (λ i. P u i r) s.1 (subst (λ i. P u v i) s.2 here))
 
--- edges for which an alignment is let go are a rival's
-pub rival_of : (fed : Fed) (p q r d e f : ℕ) → IsLetGo fed p q r d e f → IsRival fed p q r d e f
-rival_of fed p q r d e f (inl refuted) = refuted.rival
-rival_of fed p q r d e f (inr doubted) = doubted.contender.rival
+-- edges for which an alignment is let go are later
+pub later_of : (fed : Fed) (p q r d e f : ℕ) → IsLetGo fed p q r d e f → IsLaterBand fed p q r d e f
+later_of fed p q r d e f (inl refuted) = refuted.later
+later_of fed p q r d e f (inr doubted) = doubted.contender.later
 
 pub let_go_own : (fed : Fed) (p q r u v w d e f : ℕ) → IsConfirmed fed p q r → IsLetGo fed u v w d e f → IsLetGo fed p q r d e f
-let_go_own fed p q r u v w d e f own is = same_own fed (λ i j k. IsLetGo fed i j k d e f) u v w p q r (rival_of fed u v w d e f is).own own is
+let_go_own fed p q r u v w d e f own is = same_own fed (λ i j k. IsLetGo fed i j k d e f) u v w p q r (later_of fed u v w d e f is).own own is
 
 -- Of the edges for which it is let go those whose greatest is least.
 
@@ -367,8 +259,8 @@ abbrev pub IsUnrefuted : Fed → Type 0
 IsUnrefuted fed = (p q r d e f : ℕ) → IsLetGo fed p q r d e f → most_of fed < refuted_at d e f
 
 pub refuted_or_not : (fed : Fed) → ((p q r d e f : ℕ) × IsFirstRefuted fed p q r d e f) ⊎ IsUnrefuted fed
-refuted_or_not fed = elim (confirmed_decided fed) [
-  | inr none ↦ inr (λ p q r d e f is. absurd (none p q r (rival_of fed p q r d e f is).own))
+refuted_or_not fed = elim (first_so_decided true fed) [
+  | inr none ↦ inr (λ p q r d e f is. absurd (none p q r (later_of fed p q r d e f is).own))
   | inl c ↦ elim (least_or_none (HasRefuted fed c.0 c.1 c.2) (most_of fed - 89) (λ m. has_decided fed c.0 c.1 c.2 m c.3)) [
     | inl l ↦ let first = first_of fed c.0 c.1 c.2 l.0 c.3 l.1 in inl (c.0, c.1, c.2, first.0, first.1, first.2, first.3)
     | inr none ↦ inr (λ p q r d e f is. elim (cases_lt (most_of fed) (refuted_at d e f)) [

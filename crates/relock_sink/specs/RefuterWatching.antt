@@ -1,5 +1,5 @@
 -- What was looked at of an epoch, when more bits arrive, and that it has no end there.
-use Rattle.std.proofs.Common.{◌≡◌, ◌⊎◌, ℕ, ◌+◌, ◌<◌, ◌≤◌, sym, subst, arith, inl, inr}
+use Rattle.std.proofs.Common.{◌≡◌, ◌⊎◌, ℕ, ◌+◌, ◌<◌, ◌≤◌, false, sym, subst, arith, inl, inr}
 use Rattle.std.proofs.lemmas.Bool.{cases_lt}
 use Rattle.link_sink.specs.Sinks.{Fed}
 use Rattle.track_sink.specs.Epochs.{most_of, front_of, IsEnd}
@@ -8,12 +8,12 @@ use Rattle.track_sink.specs.Feds.{most_grows}
 use Rattle.track_sink.specs.declared.watch.Cause.{Cause}
 use Rattle.track_sink.specs.declared.watch.Cause.TheVariants.{Slip, Unconfirmed, Refuted}
 use Rattle.relock_sink.specs.Relocks.{IsUnconfirmed, IsUnconfirmedEnd, IsLastEpoch, shown_at}
-use Rattle.relock_sink.specs.Growing.{unconfirmed_was}
+use Rattle.relock_sink.specs.Growing.{first_so_was}
 use Rattle.relock_sink.specs.Ends.{end_was}
 use Rattle.relock_sink.specs.FrontsGrowing.{most_front, front_grows, front_stays}
 use Rattle.relock_sink.specs.Watches.{HasWatched}
 use Rattle.relock_sink.specs.Refuting.{IsRefutedEnd, refuting_ends}
-use Rattle.relock_sink.specs.RefutedDecided.{rival_of}
+use Rattle.relock_sink.specs.RefutedDecided.{later_of}
 use Rattle.relock_sink.specs.Refuters.{HasLooked, refuter_passed}
 use Rattle.relock_sink.specs.RivalSearching.{rivals_on}
 use Rattle.relock_sink.specs.declared.refuter.Refuter.{Refuter}
@@ -48,7 +48,7 @@ no_doubt_shown fed shown d e f long last is = elim (cases_lt shown (shown_at d e
   | inl past ↦ past
   | inr within ↦
       let most = most_front shown fed in
-      absurd (last.confirmed d e f (unconfirmed_was (front_of shown fed) fed d e f (front_grows shown fed) (omega arith) is))
+      absurd (last.confirmed d e f (first_so_was (front_of shown fed) fed (front_grows shown fed) d e f false (omega arith) is))
 ]
 
 unconfirmed_past : (w : Refuter) (fed : Fed) (place : ℕ) → HasLooked w fed → IsUnconfirmedEnd fed place → refuter_passed w ≤ place
@@ -63,7 +63,7 @@ unconfirmed_past w fed place looked is =
 
 refuted_past : (w : Refuter) (fed : Fed) (place : ℕ) → HasLooked w fed → IsRefutedEnd fed place → refuter_passed w ≤ place
 refuted_past w fed place looked is =
-    let t = (rival_of fed is.own_blue is.own_green is.own_red is.blue is.green is.red is.refuted).triple in
+    let t = (later_of fed is.own_blue is.own_green is.own_red is.blue is.green is.red is.refuted).triple in
     let late = looked.rivals.none is.own_blue is.own_green is.own_red is.blue is.green is.red is.refuted in
     let limit = looked.limit in
     let a = t.blue_green in

@@ -18,7 +18,7 @@ use Rattle.relock_sink.specs.Doubts.{IsLetGo}
 use Rattle.relock_sink.specs.Ends.{decided as relock_decided, excludes as relock_excludes, one as one_relock, stays as relock_stays, within as relock_within, end_was}
 use Rattle.relock_sink.specs.Refuting.{refuted_at, IsSlipFirst, IsRefutedEnd, IsLastUnrefuted, refuting_ends}
 use Rattle.relock_sink.specs.RefutedGrowing.{let_go_stays, let_go_was}
-use Rattle.relock_sink.specs.RefutedDecided.{IsFirstRefuted, IsUnrefuted, rival_of, refuted_or_not}
+use Rattle.relock_sink.specs.RefutedDecided.{IsFirstRefuted, IsUnrefuted, later_of, refuted_or_not}
 
 -- an alignment is confirmed or unconfirmed, not both
 pub not_both : (fed : Fed) (p q r d e f : ℕ) → IsConfirmed fed p q r → IsUnconfirmed fed d e f → ⊥
@@ -26,24 +26,26 @@ not_both fed p q r d e f is other =
     let s = one_first fed.blue fed.green fed.red p q r d e f is.first other.first in
     let here : aligned_column fed.blue fed.green fed.red p q r 12 ≡ aligned_column fed.blue fed.green fed.red d e f 12 = λ i. aligned_column fed.blue fed.green fed.red (s.0 i) (s.1 i) (s.2 i) 12 in
     let next : aligned_column fed.blue fed.green fed.red p q r 13 ≡ aligned_column fed.blue fed.green fed.red d e f 13 = λ i. aligned_column fed.blue fed.green fed.red (s.0 i) (s.1 i) (s.2 i) 13 in
-    let a = is.is_here in
-    let b = is.is_next in
-    let c = other.is_here in
-    let e = other.is_next in
-    let t = is.announced in
-    let u = other.unannounced in
+    let a = is.columns in
+    let b = other.columns in
+    let g = a.is_here in
+    let h = a.is_next in
+    let i = b.is_here in
+    let j = b.is_next in
+    let t = a.so in
+    let u = b.so in
     cc
 
 -- the least edge of those for which an alignment is let go lies past a run
 pub far_refuted : (fed : Fed) (p q r d e f : ℕ) → IsLetGo fed p q r d e f → 121 ≤ min d (min e f)
 far_refuted fed p q r d e f is =
-    let rival = rival_of fed p q r d e f is in
-    let a = rival.own.first.triple.blue.past in
-    let b = rival.own.first.triple.green.past in
-    let c = rival.own.first.triple.red.past in
-    let x = rival.blue_later in
-    let y = rival.green_later in
-    let z = rival.red_later in
+    let l = later_of fed p q r d e f is in
+    let a = l.own.first.triple.blue.past in
+    let b = l.own.first.triple.green.past in
+    let c = l.own.first.triple.red.past in
+    let x = l.blue_later in
+    let y = l.green_later in
+    let z = l.red_later in
     omega arith
 
 -- the first edges for which it is let go end the epoch where the run before them begins, if no stray is shown before
@@ -109,15 +111,15 @@ slip_or_refuted fed lane p q slip is =
 
 unconfirmed_or_refuted : (fed : Fed) (p q : ℕ) → IsUnconfirmedEnd fed p → IsRefutedEnd fed q → ⊥
 unconfirmed_or_refuted fed p q other is =
-    let rival = rival_of fed is.own_blue is.own_green is.own_red is.blue is.green is.red is.refuted in
-    not_both fed is.own_blue is.own_green is.own_red other.blue other.green other.red rival.own other.unconfirmed
+    let l = later_of fed is.own_blue is.own_green is.own_red is.blue is.green is.red is.refuted in
+    not_both fed is.own_blue is.own_green is.own_red other.blue other.green other.red l.own other.unconfirmed
 
 one_refuted : (fed : Fed) (p q : ℕ) → IsRefutedEnd fed p → IsRefutedEnd fed q → p ≡ q
 one_refuted fed p q a b =
     let x = a.least b.own_blue b.own_green b.own_red b.blue b.green b.red b.refuted in
     let y = b.least a.own_blue a.own_green a.own_red a.blue a.green a.red a.refuted in
-    let t = (rival_of fed a.own_blue a.own_green a.own_red a.blue a.green a.red a.refuted).triple in
-    let w = (rival_of fed b.own_blue b.own_green b.own_red b.blue b.green b.red b.refuted).triple in
+    let t = (later_of fed a.own_blue a.own_green a.own_red a.blue a.green a.red a.refuted).triple in
+    let w = (later_of fed b.own_blue b.own_green b.own_red b.blue b.green b.red b.refuted).triple in
     let s = same_greatest fed.blue fed.green fed.red a.blue a.green a.red b.blue b.green b.red t w (omega arith) in
     let u = a.begins in
     let v = b.begins in

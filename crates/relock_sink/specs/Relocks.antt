@@ -1,28 +1,28 @@
 -- When an alignment is used: where a period opens at its edges. After each control period a video data period or a data island
 -- begins with a guard band of two columns (HDMI 1.4, section 5.2); an edge that a damaged control character made has none. That
 -- an alignment without one is let go is this project's own rule.
-use Rattle.std.specs.Prelude.{◌≡◌, ℕ, ◌+◌, ◌<◌, ◌≤◌, max, min, Bool, false, ◌&&◌, ◌||◌, nat_le, Some}
+use Rattle.std.specs.Prelude.{◌≡◌, ℕ, ◌+◌, ◌<◌, ◌≤◌, max, min, Bool, false, ◌&&◌, ◌||◌, nat_le}
 use Rattle.tmds_word.specs.Column.{Column}
 use Rattle.terc4.specs.Columns.{video_words, island_words}
 use Rattle.lane_deskew.specs.Triples.{IsFirst}
-use Rattle.lane_deskew.specs.Aligned.{aligned_column}
 use Rattle.link_sink.specs.Sinks.{Fed}
 use Rattle.track_sink.specs.Epochs.{EpochRule, IsEnd, HasNoEnd}
 use Rattle.track_sink.specs.declared.watch.Cause.{Cause}
 use Rattle.track_sink.specs.declared.watch.Cause.TheVariants.{Slip, Unconfirmed, Refuted}
+use Rattle.relock_sink.specs.Bands.{AtEdges}
 
 -- whether two columns are the guard band of a period, the first of them as it is sent, of the second all characters but one
 unfoldable pub is_announced : Column → Column → Bool
 is_announced g h = (nat_le 3 (video_words g) && nat_le 2 (video_words h)) || (nat_le 3 (island_words g) && nat_le 2 (island_words h))
 
--- lanes are first aligned at edges at which no period opens: both columns from there on have arrived, and are no guard band
-pub record IsUnconfirmed (fed : Fed) (d e f : ℕ) : Type 0 where
+-- lanes are first aligned at edges from which on two columns have arrived, and a period opens there or none does
+pub record IsFirstSo (opens : Bool) (fed : Fed) (d e f : ℕ) : Type 0 where
   pub first : IsFirst fed.blue fed.green fed.red d e f
-  pub here : Column
-  pub next : Column
-  pub is_here : aligned_column fed.blue fed.green fed.red d e f 12 ≡ Some here
-  pub is_next : aligned_column fed.blue fed.green fed.red d e f 13 ≡ Some next
-  pub unannounced : is_announced here next ≡ false
+  pub columns : AtEdges is_announced opens fed d e f
+
+-- none does
+abbrev pub IsUnconfirmed : Fed → (d e f : ℕ) → Type 0
+IsUnconfirmed fed d e f = IsFirstSo false fed d e f
 
 -- the end of the bits of the two columns
 abbrev pub shown_at : ℕ → ℕ → ℕ → ℕ

@@ -1,34 +1,24 @@
 -- How far edges were looked for, for which the alignment of an epoch is let go.
-use Rattle.std.specs.Prelude.{◌≡◌, ◌⊎◌, ℕ, ◌+◌, ◌<◌, ◌≤◌, max, min, List, slice_index, Option, Some, None}
-use Rattle.lane_deskew.specs.Triples.{IsFirst, IsAlignment}
+use Rattle.std.specs.Prelude.{◌≡◌, ◌⊎◌, ℕ, ◌+◌, ◌<◌, ◌≤◌, max, min, true, List, slice_index, Option, Some, None}
+use Rattle.lane_deskew.specs.Triples.{IsAlignment}
 use Rattle.alignment_search.specs.Alignments.{greatest}
 use Rattle.alignment_search.specs.Searches.{HasSearched}
 use Rattle.link_sink.specs.Sinks.{Fed}
 use Rattle.track_sink.specs.Epochs.{most_of}
 use Rattle.track_sink.specs.Tracks.{Grows}
-use Rattle.relock_sink.specs.Relocks.{shown_at}
-use Rattle.relock_sink.specs.Rivals.{IsConfirmed}
 use Rattle.relock_sink.specs.Doubts.{IsContender, IsUpheld, AreInRow, IsLetGo}
 use Rattle.relock_sink.specs.Judges.{IsOwn, AreEdges}
+use Rattle.relock_sink.specs.Watches.{IsNever}
 use Rattle.relock_sink.specs.RefutedDecided.{IsFirstRefuted}
 use Rattle.relock_sink.specs.declared.rivals.Own.{Own}
 use Rattle.relock_sink.specs.declared.rivals.Own.TheVariants.{Sought, Confirmed, Other}
 use Rattle.relock_sink.specs.declared.rivals.RivalSearch.{RivalSearch}
 
--- an epoch is aligned, and all bits have arrived that could show a period open there: they do not
-pub record IsNeverConfirmed (fed : Fed) : Type 0 where
-  pub blue : ℕ
-  pub green : ℕ
-  pub red : ℕ
-  pub first : IsFirst fed.blue fed.green fed.red blue green red
-  pub shown : shown_at blue green red ≤ most_of fed
-  pub other : IsConfirmed fed blue green red → ⊥
-
--- what is known of its first alignment, where something is said of lanes where it is sought still
+-- what is known of an epoch's first alignment, where something is said of lanes where it is sought still
 abbrev pub KnowsOwn : Own → Type 0 → Fed → Type 0
 KnowsOwn Sought sought fed = sought
 KnowsOwn (Confirmed own) sought fed = IsOwn fed own
-KnowsOwn Other sought fed = IsNeverConfirmed fed
+KnowsOwn Other sought fed = IsNever true fed
 
 -- edges between two places uphold the alignment
 pub record IsUpheldBetween (fed : Fed) (p q r from to : ℕ) : Type 0 where

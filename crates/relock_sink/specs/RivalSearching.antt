@@ -1,13 +1,14 @@
 -- What is known of the edges for which an alignment is let go, when bits arrive.
-use Rattle.std.proofs.Common.{◌≡◌, ◌⊎◌, ℕ, ◌+◌, ◌≤◌, max, List, slice_index, Option, Some, None, arith, inl, inr}
+use Rattle.std.proofs.Common.{◌≡◌, ◌⊎◌, ℕ, ◌+◌, ◌≤◌, max, true, List, slice_index, Option, Some, None, arith, inl, inr}
 use Rattle.std.proofs.lemmas.Bool.{cases_lt}
 use Rattle.link_sink.specs.Sinks.{Fed}
 use Rattle.alignment_search.specs.Alignments.{greatest}
 use Rattle.track_sink.specs.Epochs.{most_of}
 use Rattle.track_sink.specs.Tracks.{Grows}
 use Rattle.track_sink.specs.Feds.{most_grows, grows_twice}
-use Rattle.relock_sink.specs.Growing.{first_stays}
-use Rattle.relock_sink.specs.RefutedGrowing.{confirmed_stays, confirmed_was, contender_stays, contender_was, upheld_stays, row_stays, let_go_was}
+use Rattle.relock_sink.specs.Growing.{first_so_stays}
+use Rattle.relock_sink.specs.RefutedGrowing.{contender_stays, contender_was, upheld_stays, row_stays, let_go_was}
+use Rattle.relock_sink.specs.Watching.{never_on}
 use Rattle.relock_sink.specs.RivalSearches.{IsUndoubted, IsLastContender, KnowsOwn, KnowsDoubt, HasSoughtRivals}
 use Rattle.relock_sink.specs.declared.rivals.Own.{Own}
 use Rattle.relock_sink.specs.declared.rivals.Own.TheVariants.{Sought, Confirmed, Other}
@@ -15,18 +16,8 @@ use Rattle.relock_sink.specs.declared.rivals.RivalSearch.{RivalSearch}
 
 knows_on : (own : Own) (P : Type 0) (before now : Fed) → Grows before now → KnowsOwn own P before → KnowsOwn own P now
 knows_on Sought P before now grows known = known
-knows_on (Confirmed own) P before now grows known = confirmed_stays before now grows (slice_index own 0) (slice_index own 1) (slice_index own 2) known
-knows_on Other P before now grows known =
-    let more = most_grows before now grows in
-    let shown = known.shown in
-    record {
-      blue = known.blue;
-      green = known.green;
-      red = known.red;
-      first = first_stays before now grows known.blue known.green known.red known.first;
-      shown = omega arith;
-      other = λ is. known.other (confirmed_was before now grows known.blue known.green known.red shown is);
-    }
+knows_on (Confirmed own) P before now grows known = first_so_stays before now grows (slice_index own 0) (slice_index own 1) (slice_index own 2) true known
+knows_on Other P before now grows known = never_on true before now grows known
 
 module _ (before now : Fed) (grows : Grows before now) (limit : ℕ) where
   undoubted_on : limit + 89 ≤ most_of before → IsUndoubted before limit → IsUndoubted now limit

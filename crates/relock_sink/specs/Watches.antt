@@ -1,22 +1,26 @@
 -- How far an epoch was looked through for its end.
-use Rattle.std.specs.Prelude.{◌≡◌, ◌⊎◌, ℕ, ◌+◌, ◌-◌, ◌<◌, ◌≤◌, max, min, MatchBool}
+use Rattle.std.specs.Prelude.{◌≡◌, ◌⊎◌, ℕ, ◌+◌, ◌-◌, ◌<◌, ◌≤◌, max, min, Bool, false, MatchBool}
 use Rattle.link_sink.specs.Sinks.{Fed}
 use Rattle.lane_deskew.specs.Triples.{IsFirst}
 use Rattle.alignment_search.specs.Searches.{HasSearched}
 use Rattle.track_sink.specs.Epochs.{most_of}
 use Rattle.track_sink.specs.Tracks.{Grows}
 use Rattle.track_sink.specs.Seeking.{IsSought}
-use Rattle.relock_sink.specs.Relocks.{IsUnconfirmed, shown_at}
+use Rattle.relock_sink.specs.Relocks.{IsFirstSo, IsUnconfirmed, shown_at}
 use Rattle.relock_sink.specs.declared.relock.Relock.{Relock}
 
--- an epoch is aligned, and all bits have arrived that could show the alignment unconfirmed: they do not
-pub record IsJudged (fed : Fed) : Type 0 where
+-- an epoch is aligned, and all bits have arrived that could show that a period opens there, or that none does: they do not show that
+pub record IsNever (opens : Bool) (fed : Fed) : Type 0 where
   pub blue : ℕ
   pub green : ℕ
   pub red : ℕ
   pub first : IsFirst fed.blue fed.green fed.red blue green red
   pub shown : shown_at blue green red ≤ most_of fed
-  pub kept : IsUnconfirmed fed blue green red → ⊥
+  pub never : IsFirstSo opens fed blue green red → ⊥
+
+-- the alignment stands
+abbrev pub IsJudged : Fed → Type 0
+IsJudged fed = IsNever false fed
 
 -- none was answered, and whatever follows, no alignment has all edges before the limit of the search
 abbrev pub HasNoneWhatever : Relock → Fed → Type 0

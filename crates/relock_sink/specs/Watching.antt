@@ -11,13 +11,13 @@ use Rattle.track_sink.specs.StrayRule.{stray_is_watch}
 use Rattle.track_sink.specs.declared.watch.Cause.{Cause}
 use Rattle.track_sink.specs.declared.watch.Cause.TheVariants.{Slip, Unconfirmed, Refuted}
 use Rattle.track_sink.specs.Feds.{grows_twice, same_grows, most_grows}
-use Rattle.relock_sink.specs.Relocks.{IsUnconfirmed, relock_ends}
-use Rattle.relock_sink.specs.Watches.{IsJudged, HasNoneWhatever, IsSeeking, HasWatched, passed_of}
+use Rattle.relock_sink.specs.Relocks.{IsFirstSo, relock_ends}
+use Rattle.relock_sink.specs.Watches.{IsNever, IsJudged, HasNoneWhatever, IsSeeking, HasWatched, passed_of}
 use Rattle.relock_sink.specs.declared.relock.Relock.{Relock}
-use Rattle.relock_sink.specs.Growing.{first_stays, unconfirmed_was}
+use Rattle.relock_sink.specs.Growing.{first_stays, first_so_was}
 
-judged_on : (before now : Fed) → Grows before now → IsJudged before → IsJudged now
-judged_on before now grows was =
+pub never_on : (opens : Bool) (before now : Fed) → Grows before now → IsNever opens before → IsNever opens now
+never_on opens before now grows was =
     let more = most_grows before now grows in
     let shown = was.shown in
     record {
@@ -26,7 +26,7 @@ judged_on before now grows was =
       red = was.red;
       first = first_stays before now grows was.blue was.green was.red was.first;
       shown = omega arith;
-      kept = λ is. was.kept (unconfirmed_was before now was.blue was.green was.red grows was.shown is);
+      never = λ is. was.never (first_so_was before now grows was.blue was.green was.red opens was.shown is);
     }
 
 pub whatever_on : (w : Relock) (before now : Fed) → Grows before now → HasNoneWhatever w before → HasNoneWhatever w now
@@ -43,14 +43,14 @@ looks_on w before now was grows = record {
 }
   where
     by : (b : Bool) → MatchBool b (IsJudged before) (IsSeeking w before) → MatchBool b (IsJudged now) (IsSeeking w now)
-    by true judged = judged_on before now grows judged
+    by true judged = never_on false before now grows judged
     by false seeking = record { searched = whatever_on w before now grows seeking.searched; far = seeking.far }
 
--- an alignment that was judged is not unconfirmed
-pub never_unconfirmed : (fed : Fed) (d e f : ℕ) → IsJudged fed → IsUnconfirmed fed d e f → ⊥
-never_unconfirmed fed d e f judged is =
-    let s = one_first fed.blue fed.green fed.red d e f judged.blue judged.green judged.red is.first judged.first in
-    judged.kept (subst (λ p. IsUnconfirmed fed p judged.green judged.red) s.0 (subst (λ q. IsUnconfirmed fed d q judged.red) s.1 (subst (λ r. IsUnconfirmed fed d e r) s.2 is)))
+-- no other alignment is the first
+pub never_so : (opens : Bool) (fed : Fed) (d e f : ℕ) → IsNever opens fed → IsFirstSo opens fed d e f → ⊥
+never_so opens fed d e f never is =
+    let s = one_first fed.blue fed.green fed.red d e f never.blue never.green never.red is.first never.first in
+    never.never (subst (λ p. IsFirstSo opens fed p never.green never.red) s.0 (subst (λ q. IsFirstSo opens fed d q never.red) s.1 (subst (λ r. IsFirstSo opens fed d e r) s.2 is)))
 
 pub not_before : (w : Relock) (fed : Fed) (cause : Cause) (place : ℕ) → HasWatched w fed → relock_ends fed cause place → passed_of w ≤ place
 not_before w fed (Slip lane) place looked is =
@@ -59,7 +59,7 @@ not_before w fed (Slip lane) place looked is =
 not_before w fed Unconfirmed place looked is = by w.is_judged looked.judged
   where
     by : (b : Bool) → MatchBool b (IsJudged fed) (IsSeeking w fed) → w.strays.seen - 90 ≤ place
-    by true judged = absurd (never_unconfirmed fed is.blue is.green is.red judged is.unconfirmed)
+    by true judged = absurd (never_so false fed is.blue is.green is.red judged is.unconfirmed)
     by false seeking =
         let t = is.unconfirmed.first.triple in
         let late = none_yet w fed seeking.searched is.blue is.green is.red t in

@@ -17,10 +17,12 @@ returns-then-is_announced c = λ fed lent g h here next.
 
 pub returns-else-is_announced : goal.returns-else-is_announced
 returns-else-is_announced c = λ fed lent. record {
-  here = column_of c.in_ok-here.here;
-  next = column_of c.in_ok-next.next;
-  is_here = c.in_ok-here.ensures fed lent;
-  is_next = c.in_ok-next.ensures fed lent;
-  unannounced = sym c.is_announced.ensures ∙ c.if-is_announced.false;
+  columns = record {
+    here = column_of c.in_ok-here.here;
+    next = column_of c.in_ok-next.next;
+    is_here = c.in_ok-here.ensures fed lent;
+    is_next = c.in_ok-next.ensures fed lent;
+    so = sym c.is_announced.ensures ∙ c.if-is_announced.false;
+  };
   at = omega (arith, c.min.ensures, c.min-else-is_announced.ensures);
 }

@@ -1,5 +1,4 @@
-use Rattle.std.proofs.Common.{◌<◌, subst, arith, List, ℕ}
-use Rattle.std.specs.Prelude.{MatchBool}
+use Rattle.std.proofs.Common.{subst, arith, List, ℕ}
 use Rattle.std.proofs.lemmas.Bool.{MatchBool-at_true, MatchBool-at_false}
 use Rattle.relock_sink.specs.Judges.{IsBand, IsEnding, IsUnopened, AreLater, HaveOneSkew}
 use Rattle.relock_sink.proofs.Refutes.{not_later, no_band, own_skew, no_end, nothing_opens, something_opens}

@@ -1,7 +1,8 @@
 use Rattle.std.proofs.Common.{true, refl, ◌∙◌, arith}
 use Rattle.track_sink.specs.Feds.{same_grows}
 use Rattle.relock_sink.specs.declared.relock.Relock.{Relock}
-use Rattle.relock_sink.proofs.Judging.{judged_by, none_here, first_found, edges_lent, far_alignment}
+use Rattle.relock_sink.proofs.Judging.{judged_by, none_here, first_found, edges_lent}
+use Rattle.relock_sink.proofs.Places.{far_edges}
 use Rattle.relock_sink.proofs.relock.Relock.unconfirmed.Goals as goal
 
 pub seek-requires-clause-searched : goal.seek-requires-clause-searched
@@ -27,7 +28,7 @@ pub doubt_at-requires-clause-far : goal.doubt_at-requires-clause-far
 doubt_at-requires-clause-far c =
     let l = c.requires.lent in
     let found = c.in-Some.ensures.found l.0.blue l.0.green l.0.red (c.parts_of.ensures.parts l.0 l.1) (l.2.1 l.0 (same_grows l.0)) in
-    let far = far_alignment l.0 c.in-Some.edges (first_found c.args.self.now l.0 c.in-Some.edges l.2.0 found) in
+    let far = far_edges l.0 c.in-Some.edges (first_found c.args.self.now l.0 c.in-Some.edges l.2.0 found).triple in
     omega arith
 
 pub returns-in-Some-clause-found : goal.returns-in-Some-clause-found

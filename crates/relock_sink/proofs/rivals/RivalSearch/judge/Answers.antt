@@ -1,4 +1,4 @@
-use Rattle.std.proofs.Common.{◌+◌, ◌<◌, ◌≤◌, sym, subst, arith}
+use Rattle.std.proofs.Common.{sym, subst}
 use Rattle.std.proofs.lemmas.Bool.{MatchBool-at_true, MatchBool-at_false}
 use Rattle.relock_sink.specs.Verdicts.{LetsGo}
 use Rattle.relock_sink.specs.RivalSearches.{IsKnownBefore, IsKnownAfter}
