@@ -7,7 +7,7 @@ import shutil
 import sys
 import tempfile
 from collections.abc import Callable, Generator, Iterable, Iterator, Sequence
-from contextlib import closing, contextmanager
+from contextlib import closing, contextmanager, suppress
 from io import BufferedReader
 from pathlib import Path
 from typing import Any, BinaryIO, Protocol, TypeVar, cast
@@ -20,9 +20,9 @@ from vabgrot import capture, library, listing, place, program
 from vabgrot.batch import Batch, Gathering
 from vabgrot.errors import Refused
 from vabgrot.events import BLOCKED, FAULTS, LANED, NAMES, Kind
-from vabgrot.formats.characters import LANES, PACKET, TEN
+from vabgrot.formats.characters import PACKET
 from vabgrot.formats.faults import NEXT
-from vabgrot.lanes.strays import Strays
+from vabgrot.library import Grammar
 from vabgrot.link import CLOSE, CONTROL, CUT, FAULT, ISLAND_PACKET, OPEN, SLIP, SURE, VIDEO, Columns, Ints, Thing
 from vabgrot.receiving import Arrays, Receiver
 
@@ -31,7 +31,8 @@ BLOCKS = 240  # of a capture that are read at a time: a multiple of 80 bytes of 
 EVENTS, BYTES = 1 << 17, 1 << 22  # room for what a piece tells
 SIZE = BLOCKS * capture.BLOCK  # bytes of a lane in a piece
 KINDS = np.array([CONTROL, VIDEO, OPEN, ISLAND_PACKET, CLOSE, CUT] + [FAULT] * len(FAULTS) + [SLIP] * 2, np.uint8)  # of the library's
-HEARD = frozenset(("link", "track"))  # what the library hears; of lanes that slip the program
+HEARD: dict[str, Grammar] = {"link": "link", "track": "track", "relock": "relock"}  # what the library hears
+NAMES_OF_SLIPS = {Kind.SLIP: "slip", Kind.RELOCKED: "relock"}
 RELOCK = ["recover", "relock"]
 ANEW = "read anew: an alignment was wrong"
 IN_A_ROW = 3  # so many openings without a whole guard band, one after another, are seldom but at a wrong alignment
@@ -58,10 +59,6 @@ class Reading(Protocol):
 
     def batches(self) -> Generator[Batch, None, None]:
         """The lines, batch by batch."""
-
-
-class Slipped(Exception):
-    """A lane lost bits, which the library does not follow."""
 
 
 class ByProgram:
@@ -95,83 +92,41 @@ def batches_of(lines: Iterable[listing.Line], columns: Columns, has_pixels: bool
 
 
 class ByLibrary:
-    """What the C library hears, with the columns at which it reports each event. Raises NoLibrary at once, and Slipped among the batches
-    where `words` follow slips and a lane has one; not `looks` says that none has. `shows` is whether a terminal shows how far it is.
+    """What the C library hears, with the columns at which it reports each event. Raises NoLibrary at once. `shows` is whether a terminal
+    shows how far it is."""
 
-    A stray is at least ten characters in a row of which each has six changes between its bits or more, and none is a control character.
-    No other character of a conforming link has more than five, so a stray that lies among the aligned columns is reported as some fault:
-    as long as there is none, only what stands before these columns and behind them is looked through."""
-
-    def __init__(self, words: Words, path: Path, shows: bool = True, looks: bool = True) -> None:
+    def __init__(self, words: Words, path: Path, shows: bool = True) -> None:
         self.words, self.path, self.is_quiet = words, path, None if shows else True
-        self.strays = [Strays() for _ in LANES] if looks and words[1] == "track" else []
-        self.is_clean = False  # whether the lanes are aligned, and nothing was wrong since
         self.columns = Columns(is_dvi=False)
         self.status: int | None = None
         self.note = ""
-        self.receiver = Receiver(events=EVENTS, size=BYTES)
-        self.made = Making()
+        self.receiver = Receiver(HEARD[words[1]], events=EVENTS, size=BYTES)
 
     def batches(self) -> Generator[Batch, None, None]:
         """The lines, batch by batch."""
+        made = Making(self.columns)
         with self.receiver:
             for piece in self.pieces():
-                arrays = self.receiver.feed_arrays(*piece)
-                if len(arrays.records):
-                    batch = self.made.batch(arrays)
-                    self.judge()
-                    yield batch
+                yield from made.batches(self.receiver.feed_arrays(*piece))
             rest, end = self.receiver.finish_arrays()
-        cut = rest.records["named"][rest.records["kind"] == Kind.CUT]
-        self.look_behind(min([end.columns, *cut.tolist()]))
-        if len(rest.records):
-            yield self.made.batch(rest)
-        self.columns.column = self.made.end
-        self.status = program.NO_ALIGNMENT if not end.aligned else int(self.made.has_faults)
+        yield from made.batches(rest)
+        self.status = program.NO_ALIGNMENT if not end.aligned else int(made.has_faults)
         self.note = "" if end.aligned else NOT_ALIGNED
 
     def pieces(self) -> Iterator[Piece]:
-        """The bits of the lanes, some blocks at a time. Raises Slipped."""
+        """The bits of the lanes, some blocks at a time."""
         with open(self.path, "rb") as file:
             counts, start = capture.header_of(file.read(capture.HEADER))
             with tqdm(total=max(counts) // 8, unit="B", unit_scale=True, disable=self.is_quiet) as shown:
                 for piece in pieces_of(file, start, counts):
-                    if not self.is_clean:
-                        self.look(piece)
                     shown.update(max(piece[3]) // 8)
                     yield piece
 
-    def look(self, piece: Piece) -> None:
-        """Raises Slipped where the next bytes of a lane have a stray."""
-        if any([one.has(lane) for one, lane in zip(self.strays, piece[:3])]):
-            raise Slipped
 
-    def judge(self) -> None:
-        """Some events came. With the first fault all is looked through, once. Raises Slipped."""
-        self.is_clean = not self.made.has_faults
-        if self.strays and not self.is_clean:
-            self.strays = []
-            if has_slips(self.path):
-                raise Slipped
-
-    def look_behind(self, column: int) -> None:
-        """Looks through what stands behind the columns before this one, where these had no fault. Raises Slipped."""
-        if not self.is_clean:
-            return
-        first = max(TEN * column // 8 - capture.BLOCK, 0) // SIZE
-        for one in self.strays:
-            one.move(first * SIZE)
-        with open(self.path, "rb") as file:
-            counts, start = capture.header_of(file.read(capture.HEADER))
-            for piece in pieces_of(file, start, counts, first * SIZE):
-                self.look(piece)
-
-
-def pieces_of(file: BufferedReader, start: int, counts: Sequence[int], byte: int = 0) -> Iterator[Piece]:
-    """The bytes and the bits of three lanes of a capture that begin at a place of its file, some blocks of each at a time, from a byte of
-    each on."""
-    size, lengths, at = SIZE, [(count + 7) // 8 for count in counts], byte
-    file.seek(capture.place_of(start, lengths, 0, byte))
+def pieces_of(file: BufferedReader, start: int, counts: Sequence[int]) -> Iterator[Piece]:
+    """The bytes and the bits of three lanes of a capture that begin at a place of its file, some blocks of each at a time."""
+    size, lengths, at = SIZE, [(count + 7) // 8 for count in counts], 0
+    file.seek(start)
     block = np.empty((BLOCKS, 3, capture.BLOCK), np.uint8)
     room = memoryview(cast(Any, block)).cast("B")
     while at + size <= min(lengths):
@@ -191,19 +146,36 @@ def pieces_of(file: BufferedReader, start: int, counts: Sequence[int], byte: int
 
 
 class Making:
-    """Makes batches of the events of a link, each of which is a line of its listing."""
+    """Makes batches of the events of a link, each of which is a line of its listing. `columns` tells which epoch it is, and how many
+    columns stand before it."""
 
-    def __init__(self) -> None:
+    def __init__(self, columns: Columns) -> None:
+        self.columns = columns
         self.lines, self.end = 0, 0  # the lines before, and the column behind them
         self.opened = 0  # the column behind the last control period
         self.is_closing, self.has_faults = False, False
 
-    def batch(self, arrays: Arrays) -> Batch:
-        """The lines of some events."""
+    def batches(self, arrays: Arrays) -> Iterator[Batch]:
+        """The lines of some events; behind a slip another batch begins."""
         records, data = arrays
-        kinds = KINDS[records["kind"]]
+        slips = np.flatnonzero(KINDS[records["kind"]] == SLIP)
+        for begin, stop in zip([0, *slips + 1], [*slips + 1, len(records)]):
+            if begin < stop:
+                batch = self.batch(Arrays(records[begin:stop], data))
+                self.columns.column = self.end - self.columns.before
+                if batch.kinds[-1] == SLIP:
+                    self.columns.epoch, self.columns.before = self.columns.epoch + 1, self.end
+                    self.columns.restart()
+                yield batch
+                self.opened, self.end = max(self.opened, self.columns.before), self.columns.before + self.columns.column
+
+    def batch(self, arrays: Arrays) -> Batch:
+        """The lines of some events of one epoch."""
+        records, data = arrays
+        before, kinds = self.columns.before, KINDS[records["kind"]]
         columns, values, at = (records[name].astype(np.int64) for name in ("count", "value", "named"))
-        reported, offsets = np.ascontiguousarray(records["column"]), np.ascontiguousarray(records["offset"])
+        reported, offsets = records["column"] + before, np.ascontiguousarray(records["offset"])
+        at += before
         runs, rows = kinds == CONTROL, np.flatnonzero(kinds == VIDEO)
         opened = np.maximum.accumulate(np.where(runs, reported, self.opened))
         at[runs] = (reported - columns)[runs]
@@ -214,7 +186,8 @@ class Making:
         values[packets] = np.frombuffer(data, np.uint8)[offsets[packets]] if len(packets) else 0
         columns[~runs] = 0
         columns[rows], columns[guards], columns[packets] = values[rows] + GUARDS, 2, PACKET
-        found = Batch(self.lines + 1, kinds, at, columns, values, np.full(len(kinds), SURE, np.uint8), offsets, data, self.end)
+        sure = np.full(len(kinds), SURE, np.uint8)
+        found = Batch(self.lines + 1, kinds, at, columns, values, sure, offsets, data, self.end, epoch=self.columns.epoch, before=before)
         self.opened = int(opened[-1])
         self.tell(found, records)
         self.lines += len(kinds)
@@ -237,18 +210,20 @@ class Making:
         batch.end = self.end
 
     def special(self, batch: Batch, at: int, numbers: tuple[int, ...], regular: Ints) -> Thing:
-        """The thing of a fault or a cut."""
+        """The thing of a fault, a slip or a cut."""
         _, named, count, _, _, number, value, second = numbers
-        line = batch.first + at
+        line, epoch, before = batch.first + at, batch.epoch, batch.before
         if number == Kind.CUT:
-            return Thing("cut", line, 0, named, named, 0, True, ())
+            return Thing("cut", line, epoch, named, before + named, 0, True, ())
         kind, self.has_faults = Kind(number), True
-        fields: list[int] = [value] if kind in LANED else []
+        fields: list[int] = [value] if kind in LANED or kind == Kind.SLIP else []
         fields += [named] + [value] * (kind in BLOCKED) + [second] * (kind == Kind.MENDED) + [count] * (kind == Kind.SYMBOLS)
+        if kind in (Kind.SLIP, Kind.RELOCKED):
+            return Thing("slip", line, epoch, self.end - before, self.end, 0, True, (NAMES_OF_SLIPS[kind], *fields))
         columns = ALONE.get(NAMES[kind], 0)
         if kind == Kind.EMPTY and self.closes(batch, at, regular):
             columns = 0
-        return Thing("fault", line, 0, named, named, columns, True, (NAMES[kind], *fields))
+        return Thing("fault", line, epoch, named, before + named, columns, True, (NAMES[kind], *fields))
 
     def closes(self, batch: Batch, at: int, regular: Ints) -> bool:
         """Whether the last line before a place that is no fault closes an island."""
@@ -283,37 +258,17 @@ def has_library() -> bool:
     return True
 
 
-def is_heard(words: Words, path: Path) -> bool:
-    """Whether the library is there and hears such a capture."""
-    return words[1] in HEARD and has_library() and os.path.isfile(path) and is_whole(path)
+def opened(words: Words, path: Path, has_pixels: bool = True, shows: bool = True) -> ByLibrary | ByProgram:
+    """A capture that is to be heard by a command: by the C library where it is there and hears such a capture, else by the program."""
+    if words[1] in HEARD and os.path.isfile(path) and is_whole(path):
+        with suppress(library.NoLibrary):
+            return ByLibrary(words, path, shows)
+    return ByProgram(words, path, has_pixels, shows)
 
 
 def read(words: Words, path: Path, hear: Callable[[Reading], Got], has_pixels: bool = True, shows: bool = True) -> Got:
-    """What `hear` makes of a capture: it takes all batches. Where the library is there and hears such a capture it is asked, and else
-    the program; where a lane has lost bits `hear` is called once more."""
-    if is_heard(words, path):
-        try:
-            return hear(ByLibrary(words, path, shows))
-        except Slipped:
-            pass
-    return hear(ByProgram(words, path, has_pixels, shows))
-
-
-def has_slips(path: Path) -> bool:
-    """Whether a lane of a capture slips, by its bits alone."""
-    try:
-        for _ in ByLibrary(["recover", "track"], path, shows=False).pieces():
-            pass
-    except Slipped:
-        return True
-    return False
-
-
-def opened(words: Words, path: Path) -> ByLibrary | ByProgram:
-    """The same for what writes while it takes the batches, which are told once: slips are looked for before."""
-    if is_heard(words, path) and not (words[1] == "track" and has_slips(path)):
-        return ByLibrary(words, path, looks=False)
-    return ByProgram(words, path)
+    """What `hear` makes of such a capture: it takes all batches."""
+    return hear(opened(words, path, has_pixels, shows))
 
 
 def check_whole(it: Reading) -> None:

@@ -54,9 +54,9 @@ class Tally:
 
 def judged(path: Path, timing: bool) -> Row | None:
     """The verdict on a capture, its counts, and where it is asked the timing; None where the library does not hear such a file."""
-    if not reading.is_heard(WORDS, path):
+    it, tally, meter = reading.opened(WORDS, path, shows=False), Tally(), Meter()
+    if not isinstance(it, reading.ByLibrary):
         return None
-    it, tally, meter = reading.ByLibrary(WORDS, path, shows=False), Tally(), Meter()
     for batch in it.batches():
         tally.take(batch)
         if timing:
@@ -70,9 +70,15 @@ def judged(path: Path, timing: bool) -> Row | None:
     return row | timing_row(meter) if timing else row
 
 
+def slips_of(path: Path) -> int:
+    """How many slips `recover track` tells of a capture."""
+    it = reading.opened(["recover", "track"], path, has_pixels=False, shows=False)
+    return sum(thing.fault == "slip" for batch in it.batches() for _, thing in batch.special)
+
+
 def relocked(path: Path, timing: bool) -> Row:
     """The row of a capture that is read anew. What came before the alignments that are used had a fault, whatever is counted behind it."""
-    it, tally, meter = reading.ByProgram(reading.RELOCK, path, shows=False), Tally(), Meter()
+    it, tally, meter = reading.opened(reading.RELOCK, path, shows=False), Tally(), Meter()
     for batch in it.batches():
         tally.take(batch)
         if timing:

@@ -184,11 +184,10 @@ def test_timings(each, folder, compare):
 
 
 def test_the_library_is_asked(each, folder, monkeypatch):
-    """It hears what is a whole capture of HDMI, and the program what is none, DVI, and lanes that slip."""
+    """It hears what is a whole capture of HDMI, and the program what is none, and DVI."""
     asked = []
     batches = reading.ByProgram.batches
     monkeypatch.setattr(reading.ByProgram, "batches", lambda self: asked[-1].add(self.path.stem) or batches(self))
     for name in ("bars", "damaged-bars", "empty", "slipped", "short"):
         each(lambda path: [asked.append(set()), told(report.main, path, "--json")], folder / f"{name}.tmc")
-    told_by_both = [{"slipped"}, {"slipped"}, {"short"}, {"short"}]
-    assert asked == [set(), {"bars"}, set(), {"damaged-bars"}, set(), {"empty"}, *told_by_both]
+    assert asked == [set(), {"bars"}, set(), {"damaged-bars"}, set(), {"empty"}, set(), {"slipped"}, {"short"}, {"short"}]

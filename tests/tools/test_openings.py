@@ -45,11 +45,12 @@ def packed(tool, lanes, paths):
 
 @pytest.fixture
 def old(executable, tmp_path, monkeypatch):
-    """Has the tools run a program without `recover relock`."""
+    """Has the tools run a program without `recover relock`, and no library."""
     path = tmp_path / "old"
     path.write_text(f'#!/bin/sh\n[ "$2" = relock ] && exit 2\nexec {executable} "$@"\n')
     path.chmod(0o755)
     monkeypatch.setenv("VABGROT_PROGRAM", str(path))
+    monkeypatch.setenv("VABGROT_LIBRARY", str(tmp_path / "none"))
 
 
 @pytest.fixture

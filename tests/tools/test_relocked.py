@@ -68,6 +68,7 @@ def test_a_program_without_the_command(executable, astray, chosen, tmp_path, mon
     old.write_text(f'#!/bin/sh\n[ "$2" = relock ] && exit 2\nexec {executable} "$@"\n')
     old.chmod(0o755)
     monkeypatch.setenv("VABGROT_PROGRAM", str(old))
+    monkeypatch.setenv("VABGROT_LIBRARY", str(tmp_path / "none"))
     assert chosen(astray(4)) == "track"
 
 

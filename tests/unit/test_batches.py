@@ -1,15 +1,11 @@
-"""vabgrot.batch: what is taken in batches is what is taken line by line; and vabgrot.lanes.strays, beside a search at each place."""
+"""vabgrot.batch: what is taken in batches is what is taken line by line."""
 
 import random
 
-import numpy as np
 import pytest
 
 from vabgrot.batch import Gathering
 from vabgrot.contents import Contents
-from vabgrot.formats.characters import CONTROL
-from vabgrot.lanes.looking import IS_CONTROL, words_at_all
-from vabgrot.lanes.strays import Strays
 from vabgrot.link import Columns, Frames, Vsync
 from vabgrot.video.timings import Meter
 
@@ -92,35 +88,3 @@ def test_contents():
     for batch, _ in batches_of(lines, iter(lambda: 1, None)):
         contents.take(batch)
     assert contents.told == {"parity": 1, "ragged": 1, "vic": 1}
-
-
-def random_lane(rng):
-    """Bits with runs of control characters of any phase."""
-    found, size = [], rng.integers(1, 6000)
-    while sum(map(len, found)) < size:
-        kind = rng.integers(8)
-        words = rng.choice(CONTROL, rng.integers(1, 30)) if kind else rng.integers(0, 1024, rng.integers(1, 30))
-        found.append((words[:, None] >> np.arange(10) & 1).astype(np.uint8).reshape(-1))
-        if kind == 7 and rng.integers(4) == 0:
-            found.append(np.zeros(rng.integers(1, 9), np.uint8))
-    return np.concatenate(found)
-
-
-def has_stray(bits):
-    """The same by FORMATS, at each place."""
-    control = IS_CONTROL[words_at_all(bits)]
-    size = max(0, len(control) - 110)
-    places = np.flatnonzero(np.logical_and.reduce([control[10 * step : 10 * step + size] for step in range(12)]))
-    return bool(len(places)) and bool(((places - places[0]) % 10).any())
-
-
-def test_strays():
-    rng = np.random.default_rng(1)
-    wanted = []
-    for _ in range(200):
-        data = np.packbits(random_lane(rng), bitorder="little")
-        wanted.append(has_stray(np.unpackbits(data, bitorder="little")))
-        for size in (80, 160, 800):
-            strays = Strays()
-            assert any([strays.has(data[at : at + size]) for at in range(0, len(data), size)]) == wanted[-1]
-    assert 20 < sum(wanted) < 180

@@ -167,8 +167,8 @@ def judged_dvi(path: str, program: str, on: Sequence[str]) -> Row:
 
 def judged_here(path: str, program: str, on: Sequence[str], asked: Asked) -> Row:
     """The verdict over one capture by the C library, in this process and in one reading; by the program what the library does not hear:
-    what is no whole capture, DVI, and lanes that slip where slips are counted."""
-    from vabgrot import reading, surveyed
+    what is no whole capture, and DVI."""
+    from vabgrot import surveyed
 
     began = time.monotonic()
     try:
@@ -179,9 +179,8 @@ def judged_here(path: str, program: str, on: Sequence[str], asked: Asked) -> Row
     if row is None:
         return judged(path, program, on, asked)
     row |= {"path": path, "bytes": found.st_size, "modified": found.st_mtime_ns}
-    if asked.slips and not row.get("relocked") and reading.has_slips(Path(path)):
-        with open(path, "rb") as capture:
-            row |= run_over([*on, program, "recover", "track"], capture, slips_counted)[1]
+    if asked.slips and not row.get("relocked"):
+        row["slips"] = surveyed.slips_of(Path(path))
     return {"format": ""} | row | {"seconds": f"{time.monotonic() - began:.2f}"}
 
 
