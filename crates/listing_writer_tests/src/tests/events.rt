@@ -1,71 +1,30 @@
-//! Events that are reported, from their words.
-ghost use Rattle.std.specs.Prelude.{◌≡◌, ◌≤◌, ◌<◌, ◌%◌, length};
+//! What is reported to a lister.
+ghost use Rattle.std.specs.Prelude.{◌≡◌, ◌≤◌, ◌%◌, length};
 
 use bch_block::Verdict;
 use island_pack::{Packet, PacketRef, PacketVerdicts, is_packet_in_range};
 use link_sink::Ear;
 use outside_io::Failed;
 use period_grammar::{EventRef, Fault};
-use std::alloc::Global;
 use std::process::Abort;
-use std::test::Fail;
 
-/// Up to three numbers with spaces between them, and 0 for those that are not there.
-fn three_numbers(words: &str) -> Result<[u64; 3], Fail> {
-    let mut numbers = [0; 3];
-    for (i, word) in words.split(' ').enumerate() {
-        if i < 3 {
-            numbers[i] = word.parse()?;
-        }
-    }
-    Ok(numbers)
-}
-
-/// A number as a byte.
-fn byte(number: u64) -> u8 {
-    u8::try_from(number).unwrap_or(255)
-}
-
-/// The fault of a name, with its numbers in the order of its line.
-fn fault_of(name: &str, numbers: [u64; 3]) -> Option<Fault> {
-    let [a, b, c] = numbers;
-    Some(match name {
-        "word" => Fault::Word {
-            lane: byte(a),
-            column: b,
-        },
-        "short" => Fault::Short { column: a },
-        "preamble" => Fault::Preamble { column: a },
-        "noise" => Fault::Noise { column: a },
-        "empty" => Fault::Empty { column: a },
-        "code" => Fault::Code {
-            lane: byte(a),
-            column: b,
-        },
-        "longline" => Fault::LongLine { column: a },
-        "symbols" => Fault::Symbols {
-            column: a,
-            count: byte(b),
-        },
-        "mended" => Fault::Mended {
-            column: a,
-            block: byte(b),
-            bit: byte(c),
-        },
-        "lost" => Fault::Lost {
-            column: a,
-            block: byte(b),
-        },
-        "longisland" => Fault::LongIsland { column: a },
-        "broken" => Fault::Broken { column: a },
-        "guard" => Fault::Guard { column: a },
-        _ => return None,
-    })
-}
-
-/// Reports a fault.
-fn tell_fault<E: Ear>(ear: &mut E, fault: Fault) -> Result<(), Failed> {
-    ear.hear(0, EventRef::Fault(fault))
+/// A step of a lister: an event that is reported to it, or another call.
+#[derive(Clone, Copy)]
+pub(crate) enum Step {
+    /// So many control columns of a value.
+    Run(u8, u64),
+    Line(&'static [u8]),
+    Open(u8, u8),
+    Packet(Packet),
+    /// The packet of an AVI InfoFrame: its checksum, its video identification code, and the verdict on its first block.
+    Avi(u8, u8, Verdict),
+    Close(u8, u8),
+    Cut(u64),
+    Wrong(Fault),
+    /// A lane that slipped at a place.
+    Slip(u8, u64),
+    Relock(u64),
+    End,
 }
 
 /// Reports a line of whole pixels.
@@ -75,6 +34,11 @@ pub(crate) fn tell_line<E: Ear>(ear: &mut E, pixels: &[u8]) -> Result<(), Failed
     requires few { length pixels.now ≤ 12288 }
 {
     ear.hear(0, EventRef::Line { pixels })
+}
+
+/// Reports a fault.
+fn tell_fault<E: Ear>(ear: &mut E, fault: Fault) -> Result<(), Failed> {
+    ear.hear(0, EventRef::Fault(fault))
 }
 
 /// Reports a packet at column 14, with this verdict on its first block.
@@ -91,104 +55,46 @@ fn tell_packet<E: Ear>(ear: &mut E, packet: &Packet, verdict: Verdict) -> Result
     ear.hear(0, EventRef::Packet { packet, column: 14 })
 }
 
-/// Reports a run of control columns.
-fn tell_run<E: Ear>(rt: &impl Abort, ear: &mut E, value: u8, count: u64) -> Result<(), Failed> {
-    assert!(rt; value < 64 && count >= 1);
-    ear.hear(0, EventRef::Run { value, count })
-}
-
-/// Reports the guard that opens a data island.
-fn tell_open<E: Ear>(rt: &impl Abort, ear: &mut E, a: u8, b: u8) -> Result<(), Failed> {
-    assert!(rt; a < 4 && b < 4);
-    ear.hear(0, EventRef::Open { sync: [a, b] })
-}
-
-/// Reports the guard that closes a data island.
-fn tell_close<E: Ear>(rt: &impl Abort, ear: &mut E, a: u8, b: u8) -> Result<(), Failed> {
-    assert!(rt; a < 4 && b < 4);
-    ear.hear(0, EventRef::Close { sync: [a, b] })
-}
-
-/// Reports something that two numbers say: a run, a guard or a cut.
-fn tell_numbers<E: Ear>(
-    rt: &impl Abort,
-    ear: &mut E,
-    name: &str,
-    a: u64,
-    b: u64,
-) -> Option<Result<(), Failed>> {
-    Some(match name {
-        "run" => tell_run(rt, ear, byte(a), b),
-        "open" => tell_open(rt, ear, byte(a), byte(b)),
-        "close" => tell_close(rt, ear, byte(a), byte(b)),
-        "cut" => ear.hear(0, EventRef::Cut { column: a }),
-        _ => return None,
-    })
-}
-
-/// The packet of three fields of hexadecimal digits: the header, the first bytes of the bodies, and the first sync values.
-fn packet_of(alloc: Global, words: &str) -> Result<Packet, Fail> {
-    let (header, rest) = words.split_once(' ').ok_or("a packet of no bodies")?;
-    let (bodies, sync) = rest.split_once(' ').unwrap_or((rest, ""));
-    let mut packet = Packet {
-        header: [0; 3],
-        bodies: [0; 28],
-        sync: [0; 32],
-    };
-    lay(&mut packet.header, &hex::decode(alloc, header)?);
-    lay(&mut packet.bodies, &hex::decode(alloc, bodies)?);
-    lay_digits(&mut packet.sync, sync);
-    Ok(packet)
-}
-
-/// Lays bytes at the front of others.
-fn lay(all: &mut [u8], bytes: &[u8]) {
-    for (place, byte) in all.iter_mut().zip(bytes.iter()) {
+/// The packet of a header and of the first bytes of its bodies.
+pub(crate) fn packet_of(header: [u8; 3], front: &[u8]) -> Packet {
+    let mut bodies = [0; 28];
+    for (place, byte) in bodies.iter_mut().zip(front) {
         *place = *byte;
     }
-}
-
-/// Lays the values of decimal digits at the front of bytes.
-fn lay_digits(all: &mut [u8], digits: &str) {
-    for (place, digit) in all.iter_mut().zip(digits.bytes()) {
-        *place = digit.saturating_sub(b'0');
+    Packet {
+        header,
+        bodies,
+        sync: [0; 32],
     }
 }
 
-/// Reports to an ear the event that words name.
-pub(crate) fn tell<E: Ear>(
-    rt: &impl Abort,
-    alloc: Global,
-    ear: &mut E,
-    words: &str,
-) -> Result<Result<(), Failed>, Fail> {
-    let (name, rest) = words.split_once(' ').ok_or("an event of one word")?;
-    let verdict = match name {
-        "line" => {
-            let pixels = hex::decode(alloc, rest)?;
+/// Reports the event of a step.
+pub(crate) fn tell<E: Ear>(rt: &impl Abort, ear: &mut E, step: &Step) -> Result<(), Failed> {
+    match *step {
+        Step::Run(value, count) => {
+            assert!(rt; value < 64 && count >= 1);
+            ear.hear(0, EventRef::Run { value, count })
+        }
+        Step::Line(pixels) => {
             let size = pixels.len();
             assert!(rt; size % 3 == 0 && size >= 3 && size <= 12_288);
-            return Ok(tell_line(ear, &pixels));
+            tell_line(ear, pixels)
         }
-        "packet" => Verdict::Clean,
-        "mendedpacket" => Verdict::Mended(1),
-        "lostpacket" => Verdict::Lost,
-        _ => return tell_other(rt, ear, name, rest),
-    };
-    Ok(tell_packet(ear, &packet_of(alloc, rest)?, verdict))
-}
-
-/// Reports to an ear a fault, or something that two numbers say.
-fn tell_other<E: Ear>(
-    rt: &impl Abort,
-    ear: &mut E,
-    name: &str,
-    words: &str,
-) -> Result<Result<(), Failed>, Fail> {
-    let numbers = three_numbers(words)?;
-    if let Some(fault) = fault_of(name, numbers) {
-        return Ok(tell_fault(ear, fault));
+        Step::Open(a, b) => {
+            assert!(rt; a < 4 && b < 4);
+            ear.hear(0, EventRef::Open { sync: [a, b] })
+        }
+        Step::Packet(packet) => tell_packet(ear, &packet, Verdict::Clean),
+        Step::Avi(checksum, code, verdict) => {
+            let packet = packet_of([0x82, 0x02, 0x0d], &[checksum, 0, 8, 0, code]);
+            tell_packet(ear, &packet, verdict)
+        }
+        Step::Close(a, b) => {
+            assert!(rt; a < 4 && b < 4);
+            ear.hear(0, EventRef::Close { sync: [a, b] })
+        }
+        Step::Cut(column) => ear.hear(0, EventRef::Cut { column }),
+        Step::Wrong(fault) => tell_fault(ear, fault),
+        Step::Slip(..) | Step::Relock(_) | Step::End => Err(Failed),
     }
-    let [a, b, _] = numbers;
-    Ok(tell_numbers(rt, ear, name, a, b).ok_or("an event of no name")?)
 }
