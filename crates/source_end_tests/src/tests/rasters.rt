@@ -1,6 +1,6 @@
 //! Rasters and refusals of small contents and of two formats, compared with values that were computed
 //! apart from `source_end`.
-use super::rows::{RASTERS, TWO_FRAMES};
+use super::raster_rows::{Frames, RASTERS, TWO_FRAMES};
 use super::{Columns, have, no_columns};
 use island_pack::Packet;
 use source_end::{Content, Mode, RasterFault, Stream, generate, raster, spell_raster};
@@ -8,37 +8,25 @@ use std::alloc::Global;
 use std::process::Abort;
 use std::test::*;
 
-/// Four numbers with a space between them.
-fn four(numbers: &str) -> Result<[u16; 4], Fail> {
-    let mut words = numbers.split(' ');
-    let mut four = [0; 4];
-    for number in &mut four {
-        *number = words.next().ok_or("four numbers")?.parse::<u16>()?;
-    }
-    Ok(four)
-}
-
-/// A content of frames, each of which is how many packets it has, and after a colon how many bytes each of its rows
-/// has: packet i is type i, and the bytes of a row count up from a number of the frame and the row.
-fn content_of(alloc: Global, frames: &str) -> Result<Content, Fail> {
+/// A content of frames: packet i is of type i, and the bytes of a row count up from a number of the frame and the row.
+fn content_of(alloc: Global, frames: Frames) -> Result<Content, Fail> {
     let mut content = Content::new(alloc);
-    for (f, frame) in frames.split_whitespace().enumerate() {
-        let (packets, rows) = frame.split_once(':').ok_or("a frame of no rows")?;
+    for (f, (packets, rows)) in frames.iter().enumerate() {
         add_frame(&mut content)?;
-        for number in 0..packets.parse::<u8>()? {
+        for number in 0..*packets {
             add_packet(&mut content, number)?;
         }
-        add_rows(alloc, &mut content, (f % 256) as u8, rows)?;
+        for (y, length) in rows.iter().enumerate() {
+            add_row(
+                alloc,
+                &mut content,
+                (f % 256) as u8,
+                (y % 256) as u8,
+                *length,
+            )?;
+        }
     }
     Ok(content)
-}
-
-fn add_rows(alloc: Global, content: &mut Content, f: u8, rows: &str) -> Result<(), Fail> {
-    let lengths = rows.split(',').filter(|length| !length.is_empty());
-    for (y, length) in lengths.enumerate() {
-        add_row(alloc, content, f, (y % 256) as u8, length.parse()?)?;
-    }
-    Ok(())
 }
 
 fn add_frame(content: &mut Content) -> Result<(), Fail> {
@@ -101,29 +89,26 @@ fn by_frames(alloc: Global, mode: &Mode, content: Content) -> Result<(u32, u32),
     Ok((count, sum(&columns)))
 }
 
+/// How many columns the stream of a raster has, and a sum over their words; or the refusal.
+fn as_a_whole(alloc: Global, mode: &Mode, content: &Content) -> Result<(u32, u32), RasterFault> {
+    let stream = raster(alloc, mode, content)?;
+    let mut columns = no_columns(alloc);
+    stream.spell(&mut columns)?;
+    Ok((stream.columns(), sum(&columns)))
+}
+
 #[test]
 fn rows(rt: HostRuntime) -> Result<(), Fail> {
     let alloc = rt.alloc();
-    for row in RASTERS.split('\n') {
-        let fields: Vec<&str> = row.split('|').collect(alloc)?;
-        let [wanted, across, down, sync, frames] = *fields.as_slice() else {
-            return Err("five fields")?;
-        };
+    for (wanted, across, down, positive, frames) in &RASTERS {
         let mode = Mode {
-            across: four(across)?,
-            down: four(down)?,
-            positive: sync == "positive",
+            across: *across,
+            down: *down,
+            positive: *positive,
         };
         let content = content_of(alloc, frames)?;
-        let found = match raster(alloc, &mode, &content) {
-            Ok(stream) => Ok((stream.columns(), sum(&columns_of(alloc, &stream)?))),
-            Err(fault) => Err(fault),
-        };
-        let text = format!(in alloc; "{found:?}")?;
-        assert_eq!(rt; text.as_str(), wanted, "{row}");
-        let found = by_frames(alloc, &mode, content);
-        let text = format!(in alloc; "{found:?}")?;
-        assert_eq!(rt; text.as_str(), wanted, "{row}, frame by frame");
+        assert_eq!(rt; as_a_whole(alloc, &mode, &content), *wanted);
+        assert_eq!(rt; by_frames(alloc, &mode, content), *wanted, "frame by frame");
     }
     Ok(())
 }
@@ -147,7 +132,7 @@ fn two_frames(rt: HostRuntime) -> Result<(), Fail> {
     }
     let stream = raster(rt.alloc(), &mode, &content)?;
     assert_eq!(rt; stream.columns(), 222);
-    assert!(rt; have(&columns_of(rt.alloc(), &stream)?, TWO_FRAMES)?);
+    assert!(rt; have(&columns_of(rt.alloc(), &stream)?.words, TWO_FRAMES));
     Ok(())
 }
 
