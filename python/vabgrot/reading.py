@@ -166,6 +166,7 @@ class Making:
                 if batch.kinds[-1] == SLIP:
                     self.columns.epoch, self.columns.before = self.columns.epoch + 1, self.end
                     self.columns.restart()
+                    self.is_closing = False
                 yield batch
                 self.opened, self.end = max(self.opened, self.columns.before), self.columns.before + self.columns.column
 
