@@ -170,17 +170,19 @@ def test_they_are_read_anew(tool, off, advice, tmp_path):
         assert said["says"].startswith("Read anew: an alignment was wrong") and "1 alignment let go" in said["says"]
 
 
-@pytest.mark.parametrize("lost", [5, 10])
-def test_lanes_that_go_too_far_apart(tool, program, sent, advice, tmp_path, lost):
+@pytest.mark.parametrize("slips_of_it", [(5,), (3, 7)])
+def test_lanes_that_go_too_far_apart(tool, program, sent, advice, tmp_path, slips_of_it):
     """A lane that is 70 bits late loses some more, or a whole character, which is no slip."""
-    hurt = program("slip", f"1:{place(5, 9)}:{lost}", source=sent("--skew", "0,70,0"))
+    hurt, lost = sent("--skew", "0,70,0"), sum(slips_of_it)
+    for bits in slips_of_it:
+        hurt = program("slip", f"1:{place(5, 9)}:{bits}", source=hurt)
     lines, verdict = advice(hurt)
     assert verdict == "Faulty" and len(lines) == 1
     far, begin = f"the skew 0,{70 + lost},0", f"rom the place {place(6, 0):,} of lane 0 on openings fit at "
     told = f"{begin}{far}, but lanes more than 70 bits apart are not aligned"
     looked = tool("lanes", "look", tmp_path / "a.tmc").stdout.decode()
     if lost == 10:
-        assert told in lines[0] and f"right as it is: {LINES} of {LINES} openings\nf{told}\n" in looked
+        assert told in lines[0] and "\nright as it is: " in looked and f" openings\nf{told}\n" in looked
     else:
         slip = slips(program("recover", "track", source=hurt, status=1))[0].split()[-1]
         assert f"Behind the place {int(slip):,}, at {far} {LINES - 6} openings have " in lines[0]
