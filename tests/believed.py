@@ -1,12 +1,11 @@
 #!/usr/bin/env python3
-"""Prints what a reader of a theorem must believe: every definition that it rests on, of the crates' folders specs/, lowest crate first.
+"""Prints what a reader of a theorem has to believe: every definition that it uses, from the crates' folders specs/, lowest crate first.
 
     tests/believed.py [THEOREM ..]
 
-A theorem is a field of the record `Promises` of crates/hdmi_cli/specs/Theorem.antt; without one it is `headline`. A line names a
-definition and says what the comment above it says; the last line counts them. A type that code declares is named with its file.
-What a definition cites is found by its names alone, as they are imported, so the list may have a few too many. Status 2 where there is no
-such theorem."""
+A theorem is a field of the record `Promises` in crates/hdmi_cli/specs/Theorem.antt; the default is `headline`. Each line names a
+definition and repeats the comment above it. The last line counts the definitions. A type that code declares is named with its file.
+The list may contain a few too many, because it follows the imported names only. The exit status is 2 if there is no such theorem."""
 import re
 import sys
 from collections.abc import Iterator
@@ -27,7 +26,7 @@ NO_NAMES = re.compile(r"--.*|\.[a-z][\w-]*|(?m:^\s+pub [\w-]+ :)")  # comments, 
 
 @dataclass(frozen=True, order=True)
 class Place:
-    """Where a definition stands: its crate, its file (`src/FILE` of a type that code declares), and its name."""
+    """The place of a definition: its crate, its file (`src/FILE` for a type that code declares), and its name."""
 
     crate: str
     file: str
@@ -36,7 +35,7 @@ class Place:
 
 @dataclass
 class Definition:
-    """A definition: its text, and what the comment above it says."""
+    """A definition: its text and the comment above it."""
 
     text: str
     comment: str
@@ -44,7 +43,7 @@ class Definition:
 
 @dataclass
 class Specs:
-    """A file of definitions: its own ones, which of them a constructor belongs to, and where the names that it imports stand."""
+    """A file of definitions: its own ones, the type of each constructor, and the places of the names that it imports."""
 
     definitions: dict[str, Definition] = field(default_factory=dict)
     owners: dict[str, str] = field(default_factory=dict)
@@ -52,22 +51,22 @@ class Specs:
 
 
 def place_of(crate: str, file: str, name: str) -> Place:
-    """Where an imported name stands: a type that code declares stands in its file, and its variants with it."""
+    """Returns the place of an imported name. A type that code declares, and its variants, are in the file of that code."""
     code = re.fullmatch(r"declared\.(.+)\.(\w+?)(\.TheVariants)?", file)
     return Place(crate, f"src/{code[1].replace('.', '/')}", code[2]) if code else Place(crate, file, name)
 
 
 def imports_of(text: str) -> Iterator[tuple[str, Place]]:
-    """The names that a file imports from crates of the repository, and where each stands."""
+    """Yields the names that a file imports from crates of the repository, each with its place."""
     for path, names in IMPORT.findall(text):
         crate, _, file = path.partition(".specs.")
-        for name in filter(None, (it.strip() for it in names.split(","))):
+        for name in (it.strip() for it in names.split(",") if it.strip()):
             own, _, other = name.partition(" as ")
             yield (other or own), place_of(crate, file, own)
 
 
 def blocks_of(text: str) -> Iterator[tuple[str, str]]:
-    """The comment above each stretch of lines that are not blank and begin in the first column, and these lines."""
+    """Yields each block of lines without a blank one, after the comment above it."""
     for block in re.split(r"\n\s*\n", text):
         lines = block.splitlines()
         at = next((i for i, line in enumerate(lines) if not line.startswith("--")), len(lines))
@@ -77,7 +76,7 @@ def blocks_of(text: str) -> Iterator[tuple[str, str]]:
 
 @cache
 def specs_of(crate: str, file: str) -> Specs:
-    """What a file of definitions holds; nothing where there is none (a library of the kit, or what code declares)."""
+    """Reads a file of definitions. The result is empty if there is no such file (a library of the kit, or a type that code declares)."""
     path = TOP / "crates" / crate / "specs" / (file.replace(".", "/") + ".antt")
     found = Specs()
     if not path.is_file():
@@ -95,12 +94,12 @@ def specs_of(crate: str, file: str) -> Specs:
 
 
 def owner_of(place: Place) -> Place:
-    """The definition that a name belongs to: of a constructor its type."""
+    """Returns the definition that a name belongs to: for a constructor its type."""
     return Place(place.crate, place.file, specs_of(place.crate, place.file).owners.get(place.name, place.name))
 
 
 def cited(place: Place, text: str) -> set[Place]:
-    """The definitions that a text of a file names, but for those of the kit."""
+    """Returns the definitions that a text of a file names, except those of the kit."""
     specs = specs_of(place.crate, place.file)
     names = set(NAME.findall(NO_NAMES.sub(" ", text)))
     own = {Place(place.crate, place.file, name) for name in names & (specs.definitions.keys() | specs.owners.keys())}
@@ -109,7 +108,7 @@ def cited(place: Place, text: str) -> set[Place]:
 
 
 def theorem_text(name: str) -> str | None:
-    """The field of the record of theorems that has this name."""
+    """Returns the text of a theorem, or None if there is no such theorem."""
     crate, file = THEOREMS
     _, _, record = (TOP / "crates" / crate / "specs" / f"{file}.antt").read_text(encoding="utf-8").partition(f"record {RECORD} ")
     parts = FIELD.split(record)
@@ -117,7 +116,7 @@ def theorem_text(name: str) -> str | None:
 
 
 def believed(names: list[str]) -> set[Place] | None:
-    """Every definition that these theorems rest on; none where one of them is no theorem."""
+    """Returns every definition that these theorems use, or None if one of them is no theorem."""
     texts = [theorem_text(name) for name in names]
     if None in texts:
         return None
@@ -154,7 +153,7 @@ def print_believed(places: set[Place]) -> None:
 def main(words: list[str]) -> int:
     places = believed(words or ["headline"])
     if places is None:
-        print(f"believed: of {' '.join(words)} one is no theorem of crates/hdmi_cli/specs/Theorem.antt", file=sys.stderr)
+        print(f"believed: not all are theorems of crates/hdmi_cli/specs/Theorem.antt: {' '.join(words)}", file=sys.stderr)
         return 2
     print_believed(places)
     return 0

@@ -1,13 +1,14 @@
 #!/usr/bin/env python3
-"""Prints what each file of the crates holds and the names that it declares, from the sources: the map of code, definitions and lemmas.
+"""Prints what is in the crates, from their sources: code, definitions, lemmas and laws. Crates are listed lowest first.
 
-    tests/map.py [CRATE ..]           the map of these crates, or of all, lowest first
-    tests/map.py --laws [CRATE ..]    their laws alone: what each says
-    tests/map.py --check              looks whether each file begins with a line that says what it holds, and whether each name stands
+    tests/map.py [CRATE ..]           each file of these crates (or of all): what it contains and which names it declares
+    tests/map.py --crates [CRATE ..]  a table of these crates: what each is for, what a caller may rely on, and how it works
+    tests/map.py --laws [CRATE ..]    the laws of these crates: what each says
+    tests/map.py --check              checks that each file begins with a comment that says what it contains, and that every name exists
                                       that a document cites
 
-The last line of a check is 'N passed, M failed', of the files and the names; the status is 1 where one failed, and 2 for a crate that
-there is not."""
+The last line of a check is 'N passed, M failed', counting files and names. The exit status is 1 if one failed, and 2 if there is no such
+crate."""
 import itertools
 import re
 import sys
@@ -20,10 +21,10 @@ DOCS = TOP / "docs"
 WAY = DOCS / "proof" / "THEOREM.md"
 PAGES = (WAY, DOCS / "proof" / "PROVED.md", DOCS / "dev" / "ARCHITECTURE.md", DOCS / "dev" / "DEVELOPING.md", DOCS / "dev" / "DECISIONS.md")
 STEP = re.compile(r"(?<![\w/])(\w+)/([\w/]+)(\.rt)?:\s+(\w[\w-]*)")  # `crate/File: lemma`, `crate/file.rt: name`
-SHAPES = {("crate", "File", "", "lemma"), ("crate", "file", ".rt", "name")}  # the two ways themselves, where the page says them
+SHAPES = {("crate", "File", "", "lemma"), ("crate", "file", ".rt", "name")}  # the page explains the notation with these two
 CODE = re.compile(r"`([^`\n]+)`")
 PATH = re.compile(r"[a-z]\w*(::\w+)+")
-NAME = re.compile(r"(?=\w*[a-z])(\w+_\w+|[A-Z]\w*[A-Z]\w*|[A-Z][a-z]+[A-Z]\w*)")  # of two words or more: what no plain text is
+NAME = re.compile(r"(?=\w*[a-z])(\w+_\w+|[A-Z]\w*[A-Z]\w*|[A-Z][a-z]+[A-Z]\w*)")  # of two words or more, so never plain text
 PUBLIC = {
     ".rt": re.compile(r"(?m)^(?:    )?pub (?:const |unsafe )*(?:fn|struct|enum|trait|type|const|static) (\w+)"),
     ".antt": re.compile(r"(?m)^(?:(?:abbrev|unfoldable) )?pub (?:(?:record|data) )?([\w-]+)"),
@@ -46,30 +47,43 @@ def text_of(path: Path) -> str:
 
 @cache
 def crates() -> dict[str, str]:
-    """The crates in their order, each with what it stands on."""
+    """Returns the crates in their order, each with the crates that it uses."""
     lines = (re.match(r"(\w+)[^:\n]*:(.*)", line) for line in text_of(TOP / "crates.txt").splitlines() if not line.startswith("#"))
     return {line[1]: line[2].strip() for line in lines if line}
 
 
 def files(crate: str) -> Iterator[Path]:
-    """The files of a crate that say what they hold: code, definitions and lemmas, without the folders of proofs of single functions."""
+    """Yields the files of a crate that begin with a comment: code, definitions and lemmas, but no proofs of single functions."""
     top = TOP / "crates" / crate
     proofs = sorted(path for path in (top / "proofs").glob("*.antt"))
-    below = (path for file in proofs for path in sorted(file.with_suffix("").glob("*.antt")))  # of a file that only names others
+    below = (path for file in proofs for path in sorted(file.with_suffix("").glob("*.antt")))  # parts of a file that only names them
     for path in (*sorted((top / "src").rglob("*.rt")), *sorted((top / "specs").glob("*.antt")), *proofs, *below):
         if any(line.strip() and not re.match(r"(pub )?mod ", line) for line in text_of(path).splitlines()):
             yield path
 
 
-def said(path: Path) -> str:
-    """What a file's first comment says, as one line; nothing for a file that begins without one."""
+def head_of(path: Path) -> list[str]:
+    """Returns the paragraphs of a file's first comment, each as one line. The list is empty if the file begins without a comment."""
     mark = LEAD[path.suffix]
     lines = itertools.takewhile(lambda line: line.startswith(mark), text_of(path).splitlines())
-    return " ".join(line.removeprefix(mark).strip() for line in lines).strip()
+    text = "\n".join(line.removeprefix(mark).strip() for line in lines)
+    return [" ".join(part.split()) for part in text.split("\n\n") if part.strip()]
+
+
+def said(path: Path) -> str:
+    """Returns what a file contains: the first paragraph of its first comment, or nothing."""
+    return next(iter(head_of(path)), "")
+
+
+def purpose_of(crate: str) -> str:
+    """Returns what a crate is for, what a caller may rely on, and how it works: the first two paragraphs of its root file."""
+    source = TOP / "crates" / crate / "src"
+    root = source / "lib.rt"
+    return " ".join(head_of(root if root.is_file() else source / "main.rt")[:2])
 
 
 def laws(crate: str) -> Iterator[tuple[str, str]]:
-    """The laws of a crate, as their paths and what they say."""
+    """Yields the path of each law of a crate, and what the law says."""
     for path in sorted((TOP / "crates" / crate / "src").glob("*.rt")):
         module = "" if path.stem == "lib" else f"{path.stem}::"
         for comment, name in LAW.findall(text_of(path)):
@@ -78,10 +92,17 @@ def laws(crate: str) -> Iterator[tuple[str, str]]:
 
 def print_map(names: list[str]) -> None:
     for crate in names:
-        print(f"\n{crate}: stands on {crates()[crate] or 'nothing'}")
+        print(f"\n{crate}: uses {crates()[crate] or 'no other crate'}")
         for path in files(crate):
             declared = ", ".join(dict.fromkeys(PUBLIC[path.suffix].findall(text_of(path))))
             print(f"  {path.relative_to(TOP / 'crates' / crate)}: {said(path)}" + (f"\n      {declared}" if declared else ""))
+
+
+def print_crates(names: list[str]) -> None:
+    print("| crate | what it is for, what a caller may rely on, how it works |\n|---|---|")
+    for crate in names:
+        if not crate.endswith("_tests"):
+            print(f"| `{crate}` | {purpose_of(crate)} |")
 
 
 def print_laws(names: list[str]) -> None:
@@ -90,7 +111,7 @@ def print_laws(names: list[str]) -> None:
 
 
 def stands(crate: str, file: str, is_code: str, name: str) -> bool:
-    """Whether the crate's file has a function, or a lemma, of that name."""
+    """Returns whether the crate's file has a function or a lemma of that name."""
     path = TOP / "crates" / crate / (f"src/{file}.rt" if is_code else f"proofs/{file}.antt")
     head = rf"(?m)^\s*(pub(\(crate\))? )?fn {name}\b" if is_code else rf"(?m)^pub {name} :"
     return path.is_file() and re.search(head, text_of(path)) is not None
@@ -98,7 +119,7 @@ def stands(crate: str, file: str, is_code: str, name: str) -> bool:
 
 @cache
 def declared(crate: str) -> frozenset[str]:
-    """All names that a crate declares, with those of its modules, files and tests."""
+    """Returns all names that a crate declares, and those of its modules, files and tests."""
     names = {crate}
     for path in (TOP / "crates" / crate).rglob("*"):
         names.add(path.stem)
@@ -108,7 +129,7 @@ def declared(crate: str) -> frozenset[str]:
 
 
 def elsewhere() -> frozenset[str]:
-    """Names of tools and tests: of their files, and those that stand in them."""
+    """Returns the names of tools and tests: of their files, and those inside them."""
     folders = (TOP / name for name in ("tools", "python", "tests", "fuzz", "bench", "docs", ".ci"))
     files = [path for folder in folders for path in folder.rglob("*") if path.suffix in ("", ".py", ".c") and path.is_file()]
     here = Path(__file__).resolve()
@@ -119,7 +140,7 @@ def elsewhere() -> frozenset[str]:
 
 
 def cited(page: Path) -> Iterator[str]:
-    """The names of code, definitions and lemmas that a document cites: paths, and single names of two words or more."""
+    """Yields the names of code, definitions and lemmas that a document cites: paths, and single names of two words or more."""
     for code in CODE.findall(text_of(page)):
         if PATH.fullmatch(code) or NAME.fullmatch(code):
             yield code
@@ -135,7 +156,7 @@ def is_there(name: str, others: frozenset[str]) -> bool:
 
 def check() -> int:
     paths = [path for crate in crates() for path in files(crate)]
-    faults = [f"{path.relative_to(TOP)}: no first line says what it holds" for path in paths if not said(path)]
+    faults = [f"{path.relative_to(TOP)}: it does not begin with a comment that says what it contains" for path in paths if not said(path)]
     steps = sorted(set(STEP.findall(text_of(WAY))) - SHAPES)
     gone = (step for step in steps if not stands(*step))
     faults += [f"{WAY.relative_to(TOP)}: {crate}/{file}{end} has no {name}" for crate, file, end, name in gone]
@@ -148,8 +169,9 @@ def check() -> int:
 def main(words: list[str]) -> int:
     if words == ["--check"]:
         return check()
-    show = print_laws if words[:1] == ["--laws"] else print_map
-    names = words[1:] if show is print_laws else words
+    options = {"--crates": print_crates, "--laws": print_laws}
+    show = options.get(words[0], print_map) if words else print_map
+    names = words if show is print_map else words[1:]
     unknown = [name for name in names if name not in crates()]
     if unknown:
         print(f"map.py: there is no crate {unknown[0]}", file=sys.stderr)

@@ -2,3 +2,4 @@ pub mod Alignments
 pub mod Parts
 pub mod Reached
 pub mod Searches
+pub mod OneAlignment

@@ -10,7 +10,7 @@ use std::marker::Model;
 
 /// The 192 channel status bits of each side of a block, as 24 bytes: the first frame's bit is the
 /// lowest of the first byte (IEC 60958-3, section 5).
-#[derive(Clone, Copy, Debug, PartialEq, Eq)]
+#[derive(Clone, Copy)]
 pub struct BlockStatus {
     pub left: [u8; 24],
     pub right: [u8; 24],
@@ -18,7 +18,7 @@ pub struct BlockStatus {
 
 /// Collects channel status from samples, one after another. Contracts see it as the bits of the last
 /// block that has begun.
-#[derive(Debug, Drop)]
+#[derive(Drop)]
 pub struct Blocks {
     left: [bool; 192],
     right: [bool; 192],

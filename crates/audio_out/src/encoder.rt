@@ -10,7 +10,7 @@ use std::marker::Model;
 
 /// Writes the biphase stream of samples, one after another: it begins with the first that starts a
 /// block. Contracts see it as whether one did.
-#[derive(Debug, Drop)]
+#[derive(Drop)]
 pub struct Encoder {
     started: bool,
 }

@@ -14,7 +14,7 @@ const BORDERS: u64 = 0x2aaa_aaaa_aaaa_aa80;
 const ENDS: u64 = 0xaaaa_aaaa_aaaa_aa80;
 
 /// What begins with a subframe (IEC 60958-1, section 4.3).
-#[derive(Clone, Copy, Debug, PartialEq, Eq)]
+#[derive(Clone, Copy)]
 pub enum Mark {
     /// A block of 192 frames, with the left side of its first frame.
     B,
@@ -25,7 +25,7 @@ pub enum Mark {
 }
 
 /// One side of a sample, and what begins with it.
-#[derive(Clone, Copy, Debug, PartialEq, Eq)]
+#[derive(Clone, Copy)]
 pub struct Subframe {
     /// The preamble.
     pub mark: Mark,
@@ -37,7 +37,7 @@ pub struct Subframe {
 
 /// Writes a subframe of a value of 24 bits and flags of three: 64 half cells, half cell h as bit h % 8
 /// of byte h / 8, after a half cell of level 0. The last one has level 0 again.
-pub(crate) fn write_subframe(sub: &Subframe) -> [u8; 8]
+pub fn write_subframe(sub: &Subframe) -> [u8; 8]
     requires { IsSound sub.now }
     ensures is { IsSubframe sub.now result }
     ensures bytes { result ≡ subframe_bytes sub.now }

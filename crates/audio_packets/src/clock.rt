@@ -7,7 +7,7 @@ use island_pack::{Packet, PacketRef};
 
 /// The numbers by which a sink makes the audio clock of the TMDS clock: 128 times the sampling rate
 /// is the TMDS clock times N divided by CTS (HDMI 1.4, section 7.2).
-#[derive(Clone, Copy, Debug, PartialEq, Eq)]
+#[derive(Clone, Copy)]
 pub struct Acr {
     /// N, of 20 bits.
     pub n: u32,

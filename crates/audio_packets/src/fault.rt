@@ -2,7 +2,7 @@
 use thiserror::Error;
 
 /// Why an audio packet is not read.
-#[derive(Clone, Copy, Debug, PartialEq, Eq, Error)]
+#[derive(Clone, Copy, Debug, Error)]
 pub enum AudioFault {
     /// This block is lost, and none before it: blocks 0 to 3 are the bodies, block 4 is the header.
     #[error("block {0} is lost")]

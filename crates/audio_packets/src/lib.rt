@@ -1,5 +1,8 @@
-//! Audio of an HDMI link: packets of audio clock regeneration and of two-channel samples read and
-//! written (HDMI 1.4, sections 5.3.3 and 5.3.4; IEC 60958-1).
+//! Reads and writes audio packets: clock regeneration and samples (HDMI 1.4, sections 5.3.3 and 5.3.4; IEC 60958-1).
+//!
+//! Clock numbers, two-channel samples and the samples of one pair of channels of either layout are read exactly, with the
+//! parity of each side. A packet is refused because of its first lost block, then for unequal bodies or for its layout. What is
+//! written reads back, with even parity on both sides.
 #![tactic(auto)]
 
 mod clock;
@@ -14,6 +17,3 @@ pub use fault::AudioFault;
 pub use reading::{SampleIter, pair, samples};
 pub use sample::{Sample, SampleNote};
 pub use writing::{side_bits, write_samples};
-
-#[cfg(test)]
-mod tests;

@@ -70,7 +70,7 @@ fn pair_mask(present: u8, pair: u8) -> u8
 
 /// The samples of bodies of a packet, in order. Contracts see it as the list of the samples that are
 /// left.
-#[derive(Debug, Drop)]
+#[derive(Drop)]
 pub struct SampleIter<'a> {
     header: &'a [u8; 3],
     bodies: &'a [u8; 28],

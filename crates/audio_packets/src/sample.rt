@@ -1,7 +1,7 @@
 //! Samples of two channels.
 
 /// A sample of two channels, and the bits of IEC 60958-1 that go with it.
-#[derive(Clone, Copy, Debug, PartialEq, Eq)]
+#[derive(Clone, Copy)]
 pub struct Sample {
     /// The left value, of 24 bits.
     pub left: u32,
@@ -18,7 +18,7 @@ pub struct Sample {
 }
 
 /// A sample that was read.
-#[derive(Clone, Copy, Debug, PartialEq, Eq)]
+#[derive(Clone, Copy)]
 pub struct SampleNote {
     /// The body that has it, 0 to 3.
     pub place: u8,

@@ -41,3 +41,8 @@ pub fn two_wrong_bits_are_lost()
 pub fn one_verdict()
     ensures { (x : List Bool) (v w : Verdict) → length x ≤ 64 → IsVerdict x v → IsVerdict x w → v ≡ w }
 {}
+
+/// Under a verdict, bytes become the same bits by every repair.
+pub fn one_repair()
+    ensures { (old new other : List ℕ) (v : Verdict) → Repairs old new v → Repairs old other v → bits_of_bytes new ≡ bits_of_bytes other }
+{}

@@ -1,7 +1,9 @@
-//! Blocks of a BCH code of distance four, of 32 and of 64 bits: the byte that makes a block, and the repair of one
-//! wrong bit. HDMI 1.4, sections 5.2.3.4 and 5.2.3.5, protects the header and the subpackets of a data island by such
-//! blocks, with the generator polynomial G(x) = 1 + x^6 + x^7 + x^8 (5.2.3.5). The order of the bits, each byte's lowest
-//! first and the first bit as the highest power, is this project's own profile.
+//! Blocks of the BCH code that protects packets (HDMI 1.4, sections 5.2.3.4 and 5.2.3.5).
+//!
+//! `parity32` and `parity64` return the one byte that completes a block. `repair32` and `repair64` return exactly one verdict:
+//! clean, mended at a bit, or lost. One wrong bit is restored and two are noticed, because two different blocks differ in at
+//! least four places. The generator polynomial is G(x) = 1 + x^6 + x^7 + x^8. The order of the bits is this project's own: each
+//! byte's lowest first, and the first bit is the highest power.
 #![tactic(auto)]
 
 ghost use Rattle.std.specs.Prelude.{◌≡◌, ◌≢◌, ◌+◌, ◌*◌, ◌<◌, ◌≤◌, ℕ, Bool, List, [], ◌∷◌, ◌++◌, length, bit_xor, IfSome, Some};
@@ -12,13 +14,11 @@ ghost use Rattle.bch_block.specs.Repair.{IsVerdict, Repairs};
 
 pub mod laws;
 mod tables;
-#[cfg(test)]
-mod tests;
 
 use tables::{POWERS, TIMES_X8};
 
 /// What bytes that should have been a block are found to be.
-#[derive(Clone, Copy, Debug, PartialEq, Eq)]
+#[derive(Clone, Copy)]
 pub enum Verdict {
     /// A block.
     Clean,

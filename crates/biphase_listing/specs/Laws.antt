@@ -9,7 +9,7 @@ use Rattle.audio_packets.specs.declared.sample.Sample.{Sample}
 use Rattle.audio_out.specs.Frames.{biphase, from_start}
 use Rattle.period_grammar.specs.Events.{packet}
 use Rattle.biphase_listing.specs.Groups.{IsStream, most_frames}
-use Rattle.biphase_listing.specs.Refusals.{IsFault}
+use Rattle.biphase_listing.specs.Refusals.{IsFault, IsRefused}
 use Rattle.biphase_listing.specs.StreamText.{samples_at}
 use Rattle.biphase_listing.specs.declared.fault.BiphaseFault.{BiphaseFault}
 
@@ -28,6 +28,10 @@ OneStream = (a b : List Sample) (bytes : List ℕ) → IsStream a bytes → IsSt
 -- what is a stream has no fault
 abbrev pub StreamIsFaultless : Type 0
 StreamIsFaultless = (samples : List Sample) (bytes : List ℕ) (fault : BiphaseFault) → IsStream samples bytes → IsFault bytes fault → ⊥
+
+-- bytes are refused for one fault, after the frames of one list of samples
+abbrev pub OneRefusal : Type 0
+OneRefusal = (bytes : List ℕ) (f g : BiphaseFault) (us vs : List Sample) → IsRefused bytes f us → IsRefused bytes g vs → (f ≡ g) × (us ≡ vs)
 
 -- the samples of a packet that has lost no block are those of its header and its bodies
 abbrev pub SamplesOfPayload : Type 0

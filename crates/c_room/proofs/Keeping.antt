@@ -5,7 +5,7 @@ use Rattle.c_room.specs.declared.kept.Kept.{Kept}
 use Rattle.c_room.specs.declared.kind.Kind.{Kind}
 use Rattle.c_room.specs.declared.lanes.BitCounts.{BitCounts}
 use Rattle.c_room.specs.declared.lanes.CallerLanes.{CallerLanes}
-use Rattle.c_room.specs.Handles.{IsOfKind, Holds}
+use Rattle.c_room.specs.Handles.{Holds}
 use Rattle.c_room.specs.Sinks.{kind_of, goes_on, StandsFor, HasTakenBits}
 use Rattle.c_room.specs.Stands.{Stands}
 use Rattle.c_room.specs.Takes.{most_of, counts_to, plus, grown_to, AreFew}
@@ -26,9 +26,6 @@ stands_after old new fed lanes at is_open e few taken stands h = record {
 pub held_kept : (o : Option Kept) (x y : Kept) (kind : Kind) (fed : Fed) → o ≡ Some x → y ≡ x → Holds o kind fed → (kind_of y.sink ≡ kind) × Stands y fed
 held_kept o x y kind fed e f h =
     subst (λ (k : Kept). (kind_of k.sink ≡ kind) × Stands k fed) (sym f) (subst (λ (p : Option Kept). Holds p kind fed) e h)
-
-pub held_kind : (o : Option Kept) (x y : Kept) → o ≡ Some x → y ≡ x → IsOfKind o (kind_of y.sink)
-held_kind o x y e f = subst (λ (p : Option Kept). IsOfKind p (kind_of y.sink)) (sym e) (ap (λ (k : Kept). kind_of k.sink) (sym f))
 
 -- all bits were taken
 pub all_taken : (at : ℕ) (bits : BitCounts) → most_of bits ≤ at → counts_to at bits ≡ bits

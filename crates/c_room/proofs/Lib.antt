@@ -1,3 +1,4 @@
+pub mod Calling
 pub mod AsBox
 pub mod Bounds
 pub mod Few

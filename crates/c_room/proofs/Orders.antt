@@ -1,5 +1,5 @@
 -- No event is reported at a column below that of the event before it.
-use Rattle.std.proofs.Common.{◌≡◌, ℕ, ◌+◌, ◌≤◌, ◌-◌, Bool, true, false, List, [], ◌∷◌, ◌++◌, length, map, refl, ap, sym, ◌∙◌, subst, arith, append_assoc, ◌⊎◌, inl, inr, All, take}
+use Rattle.std.proofs.Common.{◌≡◌, ℕ, ◌+◌, ◌≤◌, ◌-◌, Bool, true, false, List, [], ◌∷◌, ◌++◌, length, map, refl, ap, sym, ◌∙◌, subst, arith, append_assoc, inl, inr, All, take}
 use Rattle.std.proofs.lemmas.List.{append-nil, length-append, map-append}
 use Rattle.std.proofs.lemmas.List.Elements.{All-append, All-cons, All-get_or, All-nil}
 use Rattle.std.proofs.lemmas.List.Sorted.{IsNonDecreasingBy-push, IsNonDecreasingBy-short}
@@ -18,6 +18,7 @@ use Rattle.link_sink.specs.Sinks.{Fed, IsReportedOf, IsReportedBy, IsGainAt, IsL
 use Rattle.link_sink.specs.declared.hear.Outcome.{Outcome}
 use Rattle.dvi_hearing.specs.DviGrammar.{dvi_grammar, dvi_is_grammar, pushed}
 use Rattle.track_sink.specs.TrackEvents.{TrackEventAt}
+use Rattle.c_room.specs.Calls.{CallState, Finishes}
 use Rattle.c_room.specs.declared.kind.Kind.{Kind}
 use Rattle.c_room.specs.declared.kind.Kind.TheVariants.{Link, Dvi, Track, Relock}
 use Rattle.c_room.specs.declared.ended.EndCounts.{EndCounts}
@@ -26,7 +27,6 @@ use Rattle.c_room.specs.declared.status.Status.{Status}
 use Rattle.c_room.specs.declared.status.Status.TheVariants.{Done, Full, Misuse, TooMany, NoMemory}
 use Rattle.c_room.specs.Orders.{column_of, FollowInOrder, FollowInOrderOf}
 use Rattle.c_room.specs.Reports.{IsColumnGain, IsColumnEnd, IsGainOfKind, IsEndOfKind}
-use Rattle.c_room.specs.Statuses.{IsEndStatus}
 use Rattle.c_room.specs.TrackWritten.{track_writing}
 use Rattle.c_room.specs.TrackWrittenLaws.{rows_of_events}
 use Rattle.c_room.specs.Written.{link_writing, event_bytes, rows_from}
@@ -143,13 +143,13 @@ nothing_in_order g is h fed n records none = λ was reported.
     subst IsNonDecreasing (sym (append-nil (map column_reported was)) ∙ ap (λ k. map column_reported was ++ map column_of (take k records)) (sym none))
     (lanes_ordered g is h fed was reported)
 
-end_in_order : (g : Grammar) → IsGrammar g → IsByColumn g → (fed : Fed) (status : Status) (n : ℕ) (records : List Record)
-    → IsEndStatus status → ((status ≡ Misuse) ⊎ (status ≡ Full) → n ≡ 0) → (status ≡ Done → FollowInOrder g fed (take n records)) → FollowInOrder g fed (take n records)
-end_in_order g is h fed Done n records ends none done = done refl
-end_in_order g is h fed Full n records ends none done = nothing_in_order g is h fed n records (none (inr refl))
-end_in_order g is h fed Misuse n records ends none done = nothing_in_order g is h fed n records (none (inl refl))
-end_in_order g is h fed TooMany n records ends none done = absurd ends
-end_in_order g is h fed NoMemory n records ends none done = absurd ends
+end_in_order : (g : Grammar) → IsGrammar g → IsByColumn g → (fed : Fed) (old : CallState) (status : Status) (new : CallState) (n m : ℕ) (counts : EndCounts) (records : List Record)
+    → Finishes old status new n m counts → (status ≡ Done → FollowInOrder g fed (take n records)) → FollowInOrder g fed (take n records)
+end_in_order g is h fed old Done new n m counts records does done = done refl
+end_in_order g is h fed old Full new n m counts records does done = nothing_in_order g is h fed n records does.2.0.no_events
+end_in_order g is h fed old Misuse new n m counts records does done = nothing_in_order g is h fed n records does.1.0.no_events
+end_in_order g is h fed old TooMany new n m counts records does done = absurd does
+end_in_order g is h fed old NoMemory new n m counts records does done = absurd does
 
 -- Of a kind.
 
@@ -175,9 +175,9 @@ ended_in_order Dvi fed counts told records end are = ends_in_order dvi_grammar d
 ended_in_order Track fed counts told records end are = tt
 ended_in_order Relock fed counts told records end are = tt
 
-pub refused_in_order : (kind : Kind) (fed : Fed) (status : Status) (n : ℕ) (records : List Record)
-    → IsEndStatus status → ((status ≡ Misuse) ⊎ (status ≡ Full) → n ≡ 0) → (status ≡ Done → FollowInOrderOf kind fed (take n records)) → FollowInOrderOf kind fed (take n records)
-refused_in_order Link fed status n records ends none done = end_in_order link_grammar link_is_grammar link_by_column fed status n records ends none done
-refused_in_order Dvi fed status n records ends none done = end_in_order dvi_grammar dvi_is_grammar dvi_by_column fed status n records ends none done
-refused_in_order Track fed status n records ends none done = tt
-refused_in_order Relock fed status n records ends none done = tt
+pub finished_in_order : (kind : Kind) (fed : Fed) (old : CallState) (status : Status) (new : CallState) (n m : ℕ) (counts : EndCounts) (records : List Record)
+    → Finishes old status new n m counts → (status ≡ Done → FollowInOrderOf kind fed (take n records)) → FollowInOrderOf kind fed (take n records)
+finished_in_order Link fed old status new n m counts records does done = end_in_order link_grammar link_is_grammar link_by_column fed old status new n m counts records does done
+finished_in_order Dvi fed old status new n m counts records does done = end_in_order dvi_grammar dvi_is_grammar dvi_by_column fed old status new n m counts records does done
+finished_in_order Track fed old status new n m counts records does done = tt
+finished_in_order Relock fed old status new n m counts records does done = tt

@@ -169,10 +169,15 @@ part_or_all at size rest most e le part =
       | inr over ↦ inl (omega (arith, e, le, over))
     ]
 
-pub even_then : (at size next most : ℕ) → (size ≡ 0) ⊎ (at % 8 ≡ 0) → (at + size ≡ most) ⊎ (size % 8 ≡ 0) → 0 < size → at + size + next ≤ most → (next ≡ 0) ⊎ ((at + size) % 8 ≡ 0)
-even_then at size next most (inl none) last some within = absurd (omega (arith, none, some))
-even_then at size next most (inr even) (inl all) some within = inl (omega (arith, all, within))
-even_then at size next most (inr even) (inr whole) some within = inr (omega (arith, even, whole))
+pub even_then : (at size most : ℕ) → (at ≡ most) ⊎ (at % 8 ≡ 0) → (at + size ≡ most) ⊎ (size % 8 ≡ 0) → 0 < size → at + size ≤ most → (at + size ≡ most) ⊎ ((at + size) % 8 ≡ 0)
+even_then at size most (inl end) last some within = absurd (omega (arith, end, some, within))
+even_then at size most (inr even) (inl all) some within = inl all
+even_then at size most (inr even) (inr whole) some within = inr (omega (arith, even, whole))
+
+-- a place before the end is at whole bytes
+pub even_before : (at most : ℕ) → (at ≡ most) ⊎ (at % 8 ≡ 0) → at < most → at % 8 ≡ 0
+even_before at most (inl end) less = absurd (omega (arith, end, less))
+even_before at most (inr even) less = even
 
 -- where nothing was taken
 pub nothing_grown : (taken : BitCounts) → taken ≡ no_counts → (fed : Fed) (lanes : CallerLanes) → grown_to taken fed lanes ≡ fed

@@ -5,7 +5,6 @@ use Rattle.c_room.specs.declared.handle.Handle.{Handle}
 use Rattle.c_room.specs.declared.kept.Kept.{Kept}
 use Rattle.c_room.specs.declared.kind.Kind.{Kind}
 use Rattle.c_room.specs.declared.lanes.BitCounts.{BitCounts}
-use Rattle.c_room.specs.declared.lanes.CallerLanes.{CallerLanes}
 use Rattle.c_room.specs.Sinks.{kind_of, goes_on}
 use Rattle.c_room.specs.Stands.{Stands}
 use Rattle.c_room.specs.Takes.{MayTakeAll, AreFew}
@@ -37,9 +36,6 @@ IsOpen None = ⊥
 abbrev pub MayFeedAll : Option Kept → List ℕ → List ℕ → List ℕ → BitCounts → Type 0
 MayFeedAll (Some kept) blue green red bits = (goes_on kept.sink ≡ true) × MayTakeAll kept.fed blue green red bits
 MayFeedAll None blue green red bits = ⊥
-
-abbrev pub MayFeed : Option Kept → CallerLanes → Type 0
-MayFeed o lanes = MayFeedAll o lanes.blue.now lanes.green.now lanes.red.now lanes.bits
 
 -- with so many bits more no lane has too many
 abbrev pub AreFewMore : Option Kept → BitCounts → Type 0

@@ -1,15 +1,14 @@
 //! Feeds what C keeps, with room that C lends.
-ghost use Rattle.std.specs.Prelude.{◌≡◌, ◌⊎◌, List, length, true, false};
+ghost use Rattle.std.specs.Prelude.{◌≡◌, List, Some};
 ghost use Rattle.link_sink.specs.Sinks.{Fed};
 ghost use Rattle.track_sink.specs.TrackEvents.{TrackEventAt};
-ghost use Rattle.c_room.specs.KindRooms.{IsFullFor, IsShort};
+ghost use Rattle.c_room.specs.Calls.{Feeds, Finishes, state_of};
 ghost use Rattle.c_room.specs.Reports.{IsGainOfKind, IsEndOfKind};
-ghost use Rattle.c_room.specs.Sinks.{kind_of, goes_on};
+ghost use Rattle.c_room.specs.Sinks.{kind_of};
 ghost use Rattle.c_room.specs.Stands.{Stands};
-ghost use Rattle.c_room.specs.Statuses.{IsFeedStatus, IsEndStatus};
-ghost use Rattle.c_room.specs.Takes.{no_counts, grown_to, MayTakeLanes, AreFew};
+ghost use Rattle.c_room.specs.Takes.{grown_to};
 ghost use Rattle.c_room.specs.TrackWritten.{AreTold};
-ghost use Rattle.c_room.specs.declared.status.Status.TheVariants.{Done, Full, Misuse, TooMany};
+ghost use Rattle.c_room.specs.declared.status.Status.TheVariants.{Done};
 
 use crate::ended::Ended;
 use crate::kept::Kept;
@@ -49,12 +48,8 @@ pub fn feed_into(
     ensures reported { (fed : Fed) → Stands kept.old fed
         → (told : List TrackEventAt) × IsGainOfKind (kind_of kept.old.sink) fed (grown_to result.taken fed lanes.entry) told
         × AreTold told result.events records.new result.bytes bytes.new }
-    ensures done { result.status ≡ Done → result.taken ≡ lanes.entry.bits }
-    ensures full { result.status ≡ Full → IsFullFor (kind_of kept.old.sink) (length records.new) (length bytes.new) result.events result.bytes }
-    ensures misuse { result.status ≡ Misuse → goes_on kept.old.sink ≡ true → MayTakeLanes kept.old.fed lanes.entry → ⊥ }
-    ensures many { result.status ≡ TooMany → AreFew kept.old.fed lanes.entry.bits → ⊥ }
-    ensures refused { (result.status ≡ Misuse) ⊎ (result.status ≡ TooMany) → (kept.new ≡ kept.old) × (result.taken ≡ no_counts) }
-    ensures kinds { IsFeedStatus result.status }
+    ensures does { Feeds lanes.entry.blue.now lanes.entry.green.now lanes.entry.red.now lanes.entry.bits (state_of (Some kept.old) records.old bytes.old)
+        result.status (state_of (Some kept.new) records.new bytes.new) result.events result.bytes result.taken }
 {
     let mut room = EventRoom::open(records, bytes);
     let taken = kept.feed(lanes, &mut room);
@@ -75,11 +70,8 @@ pub fn finish_into(kept: &mut Kept, records: &mut [Record], bytes: &mut [u8]) ->
     ensures reported { (fed : Fed) → Stands kept.old fed → result.ended.status ≡ Done
         → (told : List TrackEventAt) × IsEndOfKind (kind_of kept.old.sink) fed result.ended.counts told
         × AreTold told result.events records.new result.bytes bytes.new }
-    ensures done { result.ended.status ≡ Done → goes_on kept.new.sink ≡ false }
-    ensures full { result.ended.status ≡ Full → IsShort (kind_of kept.old.sink) (length records.new) (length bytes.new) }
-    ensures misuse { result.ended.status ≡ Misuse → goes_on kept.old.sink ≡ false }
-    ensures refused { (result.ended.status ≡ Misuse) ⊎ (result.ended.status ≡ Full) → (kept.new ≡ kept.old) × (result.events ≡ 0) }
-    ensures kinds { IsEndStatus result.ended.status }
+    ensures does { Finishes (state_of (Some kept.old) records.old bytes.old) result.ended.status (state_of (Some kept.new) records.new bytes.new)
+        result.events result.bytes result.ended.counts }
 {
     let mut room = EventRoom::open(records, bytes);
     let ended = kept.finish(&mut room);

@@ -1,5 +1,6 @@
 //! What is said at the end of the lanes.
 ghost use Rattle.std.specs.Prelude.{◌≡◌, cond};
+ghost use Rattle.c_room.specs.Reports.{counted};
 
 use crate::status::Status;
 use link_sink::Outcome;
@@ -48,7 +49,8 @@ pub struct Ended {
 impl Ended {
     /// Nothing was ended.
     pub fn refused(status: Status) -> Ended
-        ensures { result.status ≡ status }
+        ensures status { result.status ≡ status }
+        ensures counts { result.counts ≡ counted 0 0 }
     {
         Ended {
             status,

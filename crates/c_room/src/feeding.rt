@@ -25,6 +25,7 @@ pub fn feed_lanes<H: Hears>(
     requires lanes { (fed : CountsValue) × AreFed (bits_fed sink.old) fed × MayTakeLanes fed lanes × AreFew fed lanes.bits }
     ensures open { sink.new.is_open ≡ true }
     ensures within { result ≤ most_of lanes.entry.bits }
+    ensures whole { result < most_of lanes.entry.bits → result % 8 ≡ 0 }
     ensures full { result < most_of lanes.entry.bits → IsFull room.new }
     ensures taken { (fed : CountsValue) → AreFed (bits_fed sink.old) fed → AreFed (bits_fed sink.new) (plus fed (counts_to result lanes.entry.bits)) }
     ensures stands { (fed : Fed) → StandsBy H.goes_on sink.old fed → StandsBy H.goes_on sink.new (grown_to (counts_to result lanes.entry.bits) fed lanes.entry) }

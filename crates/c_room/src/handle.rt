@@ -1,18 +1,18 @@
 //! What C holds: a receiver, or none.
-ghost use Rattle.std.specs.Prelude.{◌≡◌, ◌⊎◌, List, length, take, true, false, Some, None};
+ghost use Rattle.std.specs.Prelude.{◌≡◌, ◌⊎◌, List, take, None};
 ghost use Rattle.link_sink.specs.Sinks.{Fed};
 ghost use Rattle.link_sink.specs.Pieces.{no_bits};
 ghost use Rattle.track_sink.specs.TrackEvents.{TrackEventAt};
-ghost use Rattle.c_room.specs.Handles.{IsHandle, IsOfKind, Holds, IsOpen, MayFeed, AreFewMore};
-ghost use Rattle.c_room.specs.KindRooms.{IsFullFor, IsShort};
+ghost use Rattle.c_room.specs.Calls.{Feeds, Finishes, Restarts, state_of};
+ghost use Rattle.c_room.specs.Handles.{IsHandle, Holds};
 ghost use Rattle.c_room.specs.Kinds.{number_of, IsNoKind};
 ghost use Rattle.c_room.specs.Orders.{FollowInOrderOf};
 ghost use Rattle.c_room.specs.Reports.{IsGainOfKind, IsEndOfKind};
-ghost use Rattle.c_room.specs.Statuses.{IsOpenStatus, IsFeedStatus, IsEndStatus};
-ghost use Rattle.c_room.specs.Takes.{no_counts, grown_to};
+ghost use Rattle.c_room.specs.Statuses.{IsOpenStatus};
+ghost use Rattle.c_room.specs.Takes.{grown_to};
 ghost use Rattle.c_room.specs.TrackWritten.{AreTold};
 ghost use Rattle.c_room.specs.declared.kind.Kind.{Kind as KindValue};
-ghost use Rattle.c_room.specs.declared.status.Status.TheVariants.{Done, Full, Misuse, TooMany, NoMemory};
+ghost use Rattle.c_room.specs.declared.status.Status.TheVariants.{Done, Misuse};
 
 use crate::calls::{EndAnswer, FeedAnswer, feed_into, finish_into};
 use crate::ended::Ended;
@@ -79,13 +79,9 @@ impl Handle {
         ensures reported { (kind : KindValue) (fed : Fed) → Holds self.old.slot.value kind fed
             → (told : List TrackEventAt) × IsGainOfKind kind fed (grown_to result.taken fed lanes.entry) told
             × AreTold told result.events records.new result.bytes bytes.new }
-        ensures done { result.status ≡ Done → result.taken ≡ lanes.entry.bits }
-        ensures full { result.status ≡ Full → (kind : KindValue) × IsOfKind self.old.slot.value kind × IsFullFor kind (length records.new) (length bytes.new) result.events result.bytes }
-        ensures misuse { result.status ≡ Misuse → MayFeed self.old.slot.value lanes.entry → ⊥ }
-        ensures many { result.status ≡ TooMany → AreFewMore self.old.slot.value lanes.entry.bits → ⊥ }
-        ensures refused { (result.status ≡ Misuse) ⊎ (result.status ≡ TooMany) → (self.new.slot.value ≡ self.old.slot.value) × (result.taken ≡ no_counts) }
+        ensures does { Feeds lanes.entry.blue.now lanes.entry.green.now lanes.entry.red.now lanes.entry.bits (state_of self.old.slot.value records.old bytes.old)
+            result.status (state_of self.new.slot.value records.new bytes.new) result.events result.bytes result.taken }
         ensures in_order { (kind : KindValue) (fed : Fed) → Holds self.old.slot.value kind fed → FollowInOrderOf kind fed (take result.events records.new) }
-        ensures kinds { IsFeedStatus result.status }
     {
         if self.held == 0 {
             return FeedAnswer {
@@ -109,12 +105,9 @@ impl Handle {
         ensures reported { (kind : KindValue) (fed : Fed) → Holds self.old.slot.value kind fed → result.ended.status ≡ Done
             → (told : List TrackEventAt) × IsEndOfKind kind fed result.ended.counts told
             × AreTold told result.events records.new result.bytes bytes.new }
-        ensures done { result.ended.status ≡ Done → IsOpen self.new.slot.value → ⊥ }
-        ensures full { result.ended.status ≡ Full → (kind : KindValue) × IsOfKind self.old.slot.value kind × IsShort kind (length records.new) (length bytes.new) }
-        ensures misuse { result.ended.status ≡ Misuse → IsOpen self.old.slot.value → ⊥ }
-        ensures refused { (result.ended.status ≡ Misuse) ⊎ (result.ended.status ≡ Full) → (self.new.slot.value ≡ self.old.slot.value) × (result.events ≡ 0) }
+        ensures does { Finishes (state_of self.old.slot.value records.old bytes.old) result.ended.status (state_of self.new.slot.value records.new bytes.new)
+            result.events result.bytes result.ended.counts }
         ensures in_order { (kind : KindValue) (fed : Fed) → Holds self.old.slot.value kind fed → FollowInOrderOf kind fed (take result.events records.new) }
-        ensures kinds { IsEndStatus result.ended.status }
     {
         if self.held == 0 {
             return EndAnswer {
@@ -133,9 +126,7 @@ impl Handle {
     pub fn restart(&mut self) -> Status
         requires { IsHandle self.old }
         ensures handle { IsHandle self.new }
-        ensures done { result ≡ Done → (kind : KindValue) × IsOfKind self.old.slot.value kind × Holds self.new.slot.value kind no_bits }
-        ensures misuse { result ≡ Misuse → self.old.slot.value ≡ None }
-        ensures kinds { (result ≡ Done) ⊎ (result ≡ Misuse) }
+        ensures does { Restarts self.old.slot.value result self.new.slot.value }
     {
         if self.held == 0 {
             return Status::Misuse;

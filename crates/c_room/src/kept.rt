@@ -1,14 +1,15 @@
 //! What C keeps from call to call.
-ghost use Rattle.std.specs.Prelude.{◌≡◌, ◌⊎◌, ◌<◌, ◌≤◌, List, [], true, false, IfOk};
+ghost use Rattle.std.specs.Prelude.{◌≡◌, ◌⊎◌, ◌%◌, ◌<◌, ◌≤◌, List, true, false, IfOk};
 ghost use Rattle.link_sink.specs.Sinks.{Fed};
 ghost use Rattle.link_sink.specs.Pieces.{no_bits};
 ghost use Rattle.track_sink.specs.TrackEvents.{TrackEventAt};
-ghost use Rattle.c_room.specs.KindRooms.{IsKindFull, LacksEnd};
-ghost use Rattle.c_room.specs.Reports.{IsGainOfKind, IsEndOfKind};
+ghost use Rattle.c_room.specs.Calls.{IsFirstPart};
+ghost use Rattle.c_room.specs.KindRooms.{IsKindFull, FitsEnd, LacksEnd};
+ghost use Rattle.c_room.specs.Reports.{IsGainOfKind, IsEndOfKind, counted};
 ghost use Rattle.c_room.specs.Sinks.{kind_of, goes_on};
-ghost use Rattle.c_room.specs.Stands.{Stands};
+ghost use Rattle.c_room.specs.Stands.{Stands, IsReady};
 ghost use Rattle.c_room.specs.Statuses.{IsFeedStatus, IsEndStatus};
-ghost use Rattle.c_room.specs.Takes.{no_counts, most_of, counts_to, grown_to, MayTakeLanes, AreFew};
+ghost use Rattle.c_room.specs.Takes.{no_counts, most_of, counts_to, plus, grown_to, MayTakeLanes, AreFew};
 ghost use Rattle.c_room.specs.TrackWritten.{track_writing};
 ghost use Rattle.c_room.specs.Written.{HasTaken};
 ghost use Rattle.c_room.specs.declared.status.Status.TheVariants.{Done, Full, Misuse, TooMany};
@@ -88,11 +89,14 @@ impl Kept {
         ensures stands { (fed : Fed) → Stands self.old fed → Stands self.new (grown_to result.bits fed lanes.entry) }
         ensures reported { (fed : Fed) → Stands self.old fed
             → (told : List TrackEventAt) × IsGainOfKind (kind_of self.old.sink) fed (grown_to result.bits fed lanes.entry) told × HasTaken track_writing room.old room.new told }
+        ensures ready { (result.status ≡ Done) ⊎ (result.status ≡ Full) → IsReady self.old lanes.entry }
         ensures done { result.status ≡ Done → result.bits ≡ lanes.entry.bits }
+        ensures part { result.status ≡ Full → IsFirstPart lanes.entry.bits result.bits }
         ensures full { result.status ≡ Full → IsKindFull (kind_of self.old.sink) room.new }
+        ensures goes_on { result.status ≡ Full → (goes_on self.new.sink ≡ true) × (self.new.fed ≡ plus self.old.fed result.bits) }
         ensures misuse { result.status ≡ Misuse → goes_on self.old.sink ≡ true → MayTakeLanes self.old.fed lanes.entry → ⊥ }
-        ensures many { result.status ≡ TooMany → AreFew self.old.fed lanes.entry.bits → ⊥ }
-        ensures refused { (result.status ≡ Misuse) ⊎ (result.status ≡ TooMany) → (self.new ≡ self.old) × (result.bits ≡ no_counts) }
+        ensures many { result.status ≡ TooMany → (goes_on self.old.sink ≡ true) × MayTakeLanes self.old.fed lanes.entry × (AreFew self.old.fed lanes.entry.bits → ⊥) }
+        ensures refused { (result.status ≡ Misuse) ⊎ (result.status ≡ TooMany) → (self.new ≡ self.old) × (result.bits ≡ no_counts) × (room.new ≡ room.old) }
         ensures kinds { IsFeedStatus result.status }
     {
         if !self.sink.is_open() || !lanes.may_follow(self.fed) {
@@ -112,6 +116,9 @@ impl Kept {
         requires may { MayTakeLanes self.old.fed lanes }
         requires few { AreFew self.old.fed lanes.bits }
         ensures kind { kind_of self.new.sink ≡ kind_of self.old.sink }
+        ensures open { goes_on self.new.sink ≡ true }
+        ensures fed { self.new.fed ≡ plus self.old.fed (counts_to result lanes.entry.bits) }
+        ensures whole { result < most_of lanes.entry.bits → result % 8 ≡ 0 }
         ensures full { result < most_of lanes.entry.bits → IsKindFull (kind_of self.old.sink) room.new }
         ensures stands { (fed : Fed) → Stands self.old fed → Stands self.new (grown_to (counts_to result lanes.entry.bits) fed lanes.entry) }
         ensures reported { (fed : Fed) → Stands self.old fed
@@ -130,10 +137,10 @@ impl Kept {
         ensures stands { (fed : Fed) → Stands self.old fed → Stands self.new fed }
         ensures reported { (fed : Fed) → Stands self.old fed → result.status ≡ Done
             → (told : List TrackEventAt) × IsEndOfKind (kind_of self.old.sink) fed result.counts told × HasTaken track_writing room.old room.new told }
-        ensures done { result.status ≡ Done → goes_on self.new.sink ≡ false }
-        ensures full { result.status ≡ Full → LacksEnd (kind_of self.old.sink) room.old }
+        ensures done { result.status ≡ Done → (goes_on self.old.sink ≡ true) × FitsEnd (kind_of self.old.sink) room.old × (goes_on self.new.sink ≡ false) }
+        ensures full { result.status ≡ Full → (goes_on self.old.sink ≡ true) × LacksEnd (kind_of self.old.sink) room.old }
         ensures misuse { result.status ≡ Misuse → goes_on self.old.sink ≡ false }
-        ensures refused { (result.status ≡ Misuse) ⊎ (result.status ≡ Full) → (self.new ≡ self.old) × HasTaken track_writing room.old room.new [] }
+        ensures refused { (result.status ≡ Misuse) ⊎ (result.status ≡ Full) → (self.new ≡ self.old) × (room.new ≡ room.old) × (result.counts ≡ counted 0 0) }
         ensures kinds { IsEndStatus result.status }
     {
         if !self.sink.is_open() {

@@ -1,5 +1,5 @@
 //! A sink of each kind.
-ghost use Rattle.std.specs.Prelude.{◌≡◌, ◌<◌, List, true, false, IfOk};
+ghost use Rattle.std.specs.Prelude.{◌≡◌, ◌%◌, ◌<◌, List, true, false, IfOk};
 ghost use Rattle.std.specs.Bool.{OnTrue, OnFalse};
 ghost use Rattle.link_sink.specs.Sinks.{Fed};
 ghost use Rattle.link_sink.specs.Pieces.{no_bits};
@@ -81,6 +81,8 @@ impl KindSink {
         requires stands { (fed : Fed) × StandsFor self.old fed }
         requires lanes { (fed : CountsValue) × HasTakenBits self.old fed × MayTakeLanes fed lanes × AreFew fed lanes.bits }
         ensures kind { kind_of self.new ≡ kind_of self.old }
+        ensures open { goes_on self.new ≡ true }
+        ensures whole { result < most_of lanes.entry.bits → result % 8 ≡ 0 }
         ensures full { result < most_of lanes.entry.bits → IsKindFull (kind_of self.old) room.new }
         ensures taken { (fed : CountsValue) → HasTakenBits self.old fed → HasTakenBits self.new (plus fed (counts_to result lanes.entry.bits)) }
         ensures stands { (fed : Fed) → StandsFor self.old fed → StandsFor self.new (grown_to (counts_to result lanes.entry.bits) fed lanes.entry) }

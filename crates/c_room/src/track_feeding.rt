@@ -26,6 +26,7 @@ pub fn feed_epochs<W: Watch>(
     requires lanes { (fed : CountsValue) × AreFed (bits_fed sink.old) fed × MayTakeLanes fed lanes × AreFew fed lanes.bits }
     ensures open { sink.new.is_open ≡ true }
     ensures within { result ≤ most_of lanes.entry.bits }
+    ensures whole { result < most_of lanes.entry.bits → result % 8 ≡ 0 }
     ensures full { result < most_of lanes.entry.bits → IsTrackFull room.new }
     ensures taken { (fed : CountsValue) → AreFed (bits_fed sink.old) fed → AreFed (bits_fed sink.new) (plus fed (counts_to result lanes.entry.bits)) }
     ensures reported { (fed : Fed) (reported : List TrackEventAt) → EpochSinkTells W.rule W.looked W.passed sink.old fed reported

@@ -10,7 +10,7 @@ use outside_io::Failed;
 use source_end::RasterFault;
 
 /// How a run ends.
-#[derive(Clone, Copy, Debug, PartialEq, Eq)]
+#[derive(Clone, Copy)]
 pub enum Ending {
     /// All was done.
     Done,

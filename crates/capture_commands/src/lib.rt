@@ -1,4 +1,9 @@
-//! What the commands do with a capture, a listing or a content: each reads a source, writes a sink and answers how it ends.
+//! The commands of the program, as functions over any source and sink.
+//!
+//! Each command reads its input, writes its output and returns an `Ending`: done, refused, or which device failed. Its contract
+//! compares all three with one definition (`Does`, `Ends`). The program and the C library call the same functions. The caller
+//! chooses who feeds the lanes (`Feeds`): three workers or its own thread. A loop over all blocks drives one lister for each
+//! command.
 #![tactic(auto)]
 
 mod block_gate;

@@ -1,4 +1,10 @@
-//! Captures: the bits of three TMDS lanes as bytes of this project's own layout.
+//! Captures: the bits of three TMDS lanes as a file.
+//!
+//! `write_capture` writes the capture of a tap of the columns, in the named version; if a write fails, its first part. A
+//! `CaptureReader` allocates nothing, reads nothing ahead, and lends a capture block by block (`LaneBits`). It has the bits of
+//! all blocks so far, or the fault at the first place that decides that the bytes are no capture. `damage` copies block by
+//! block without allocating; `slip` writes nothing before everything is read. Bytes are the capture of at most one triple of
+//! lanes, and a capture has no fault.
 #![tactic(auto)]
 
 mod block_damage;

@@ -14,7 +14,7 @@ use outside_io::{Failed, Source};
 use tmds_word::LaneBits;
 
 /// Why a capture was not heard to its end.
-#[derive(Clone, Copy, Debug, PartialEq, Eq)]
+#[derive(Clone, Copy)]
 pub enum ReadCaptureError {
     /// The bytes are no capture.
     Bad(CaptureFault),

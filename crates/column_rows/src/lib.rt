@@ -1,4 +1,8 @@
-//! The columns of a link in rows that are lent: the words of each lane in a row of its own.
+//! Writes the columns of one part of a link into three rows of the caller's.
+//!
+//! For a run, a guard or a packet these are exactly its columns, for a line columns that spell its pixels. They are in the
+//! first places of the rows; the rest keeps its values. If a row is too short, or there is no such part, no row changes
+//! (`Lays`).
 #![tactic(auto)]
 
 mod calls;

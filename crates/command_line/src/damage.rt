@@ -12,7 +12,7 @@ use std::marker::Model;
 use tmds_word::Word;
 
 /// A character that is to stand in place of the ten bits of a lane from a place on.
-#[derive(Clone, Copy, Debug, PartialEq, Eq)]
+#[derive(Clone, Copy)]
 pub struct DamageWord {
     /// The lane: blue is 0, green is 1 and red is 2.
     pub lane: u8,

@@ -1,7 +1,9 @@
-//! The words of the command line: which command they name, and with which options and operands.
+//! Reads the words of the command line.
 //!
-//! The first word is the command. After it stand its operands, in order, and its options, which may stand between
-//! and around them, each as `--name VALUE` or as `--name=VALUE`. After the word `--` each word is an operand.
+//! The first word is the command. Its operands follow, in order, and its options, which may be between and around them, each at
+//! most once, as `--name VALUE` or `--name=VALUE`. After the word `--` each word is an operand. `read_command` accepts exactly
+//! this grammar, and words name at most one command. `clap` takes the words apart; that it agrees with the grammar is proved
+//! for all lists of words.
 #![tactic(auto)]
 
 mod command;

@@ -11,7 +11,7 @@ const FEWEST_BITS: u8 = 1;
 const MOST_BITS: u8 = 9;
 
 /// Bits of one lane that are to be left out.
-#[derive(Clone, Copy, Debug, PartialEq, Eq)]
+#[derive(Clone, Copy)]
 pub struct SlipWord {
     /// The lane: blue is 0, green is 1 and red is 2.
     pub lane: u8,

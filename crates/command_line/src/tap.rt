@@ -20,7 +20,7 @@ pub const SKEW_LIMIT: u32 = 4_095;
 const MAX_VERSION: u32 = 2;
 
 /// Which bits of the lanes the options of `make` ask for, and in which layout.
-#[derive(Clone, Copy, Debug, PartialEq, Eq)]
+#[derive(Clone, Copy)]
 pub struct TapWords {
     /// The version of the capture, 1 or 2: 1 where `--version` is left out.
     pub version: u8,

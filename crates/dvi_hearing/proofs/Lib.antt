@@ -1,3 +1,4 @@
 pub mod Hearings
 pub mod Phases
 pub mod Many
+pub mod OneAnswer

@@ -3,3 +3,4 @@ pub mod DviGains
 pub mod DviGrammar
 pub mod DviSeen
 pub mod DviStands
+pub mod Laws

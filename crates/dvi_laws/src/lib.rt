@@ -1,4 +1,7 @@
-//! What holds of streams without guard columns. The functions do nothing: what they ensure is the law.
+//! Laws about streams without guard bands.
+//!
+//! They are over definitions and give what `dvi_headline` and `dvi_local` promise. Examples with damaged pixels and a skew of
+//! 70 bits meet their premises. There is no code here: each function is a law, and its contract states it.
 #![tactic(auto)]
 
 ghost use Rattle.dvi_laws.specs.DviLaws.{DviLinkLaw, DviEdgesEnd, DviEndsApart, DviFirstEnds, DviTapAccounted, HasDviExample};

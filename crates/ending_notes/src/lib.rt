@@ -1,4 +1,8 @@
-//! The one line that a run writes on standard error, for each way in which it ends.
+//! The line that a run writes to standard error, for each way in which it ends.
+//!
+//! `note` returns it to the byte: `usage: make, recover, check, damage or sample` for status 2; for status 3 `input: ` and one
+//! of `line N CAUSE`, `mode I`, `noroom F P`, `long`, `magic P`, `version V`, `short P`, `padding P`, `trailing P`, `place I`,
+//! `subframe N`; nothing for statuses 0 and 1.
 #![tactic(auto)]
 
 ghost use Rattle.std.specs.Prelude.{◌≡◌, ℕ, ◌+◌, ◌≤◌, ◌++◌, length, codes, decimal};

@@ -1,9 +1,9 @@
-//! Lines into frames: a frame is the lines between two changes of VSYNC.
+//! Groups lines into frames: a frame is the lines between two changes of VSYNC.
 //!
-//! A VSYNC value is heard when three columns in a row have it, with nothing reported between them but faults of one
-//! word, and a change is heard when that value is not the one heard last. The definitions are over the whole list of
-//! events reported (`specs/`); a `Frames` keeps a few numbers, and each call says what it answers for every list that
-//! these stand for.
+//! A VSYNC value counts once three columns in a row have it, with nothing reported between them except faults of one character.
+//! So one or two damaged columns change no frame. A line is ragged if it is not as wide as the first of its frame. The
+//! definitions are over the whole list of reported events; a `Frames` stores a few numbers, and each call says what it returns
+//! for every list that these represent.
 #![tactic(auto)]
 
 ghost use Rattle.std.specs.Prelude.{◌≡◌, ◌++◌, ◌∷◌, [], List, ℕ};
@@ -14,15 +14,13 @@ ghost use Rattle.frame_build.specs.FramesRepresent.{FramesRepresent};
 pub mod laws;
 mod lines;
 mod sync;
-#[cfg(test)]
-mod tests;
 
 use lines::Lines;
 use std::marker::Model;
 use sync::Sync;
 
 /// A frame of a link: how many pixels its first line has, and how many lines it has.
-#[derive(Clone, Copy, Debug, PartialEq, Eq)]
+#[derive(Clone, Copy)]
 pub struct FrameNote {
     pub width: u32,
     pub height: u32,
@@ -30,7 +28,7 @@ pub struct FrameNote {
 
 /// What is said of a line: whether its group counts, whether it is not as wide as the group's first line,
 /// and its number in the group, from 0 on.
-#[derive(Clone, Copy, Debug, PartialEq, Eq)]
+#[derive(Clone, Copy)]
 pub struct LineNote {
     pub counts: bool,
     pub ragged: bool,
@@ -38,7 +36,7 @@ pub struct LineNote {
 }
 
 /// Hears what is reported of a link, and says where frames end. It takes no memory.
-#[derive(Clone, Debug, Drop)]
+#[derive(Drop)]
 pub struct Frames {
     sync: Sync,
     lines: Lines,

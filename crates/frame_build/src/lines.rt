@@ -8,7 +8,7 @@ use super::{FrameNote, LineNote};
 use std::marker::Model;
 
 /// Whether the group counts, its first line's width, and its number of lines, which stops at the greatest `u32`.
-#[derive(Clone, Copy, Debug)]
+#[derive(Clone, Copy)]
 pub struct Lines {
     counts: bool,
     first: Option<u32>,

@@ -11,7 +11,7 @@ use std::marker::Model;
 const ENOUGH: u64 = 3;
 
 /// How many columns in a row, up to three, have had the VSYNC `level`, and the last VSYNC value heard.
-#[derive(Clone, Copy, Debug)]
+#[derive(Clone, Copy)]
 pub struct Sync {
     level: bool,
     streak: u64,

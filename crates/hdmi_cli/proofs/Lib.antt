@@ -25,6 +25,15 @@ pub mod DviLocal
 pub mod RelayLocal
 pub mod LocalPictures
 pub mod TrackLocal
+pub mod RelockLocal
+pub mod RelockSecond
+pub mod SecondStream
+pub mod BurstExample
+pub mod Swapped
+pub mod ChainHits
+pub mod EndToEnd
+pub mod ChainExample
+pub mod RelayChecked
 pub mod OneOutcomeLists
 pub mod OneOutcomeMakes
 pub mod OneOutcomeCopies

@@ -111,23 +111,23 @@ zeros = record { header = replicate 3 0; bodies = replicate 28 0; sync = replica
 abbrev clean : PacketVerdicts
 clean = record { blocks = replicate 5 Clean; symbols = 0 }
 
-abbrev island_and_line : List Event
+abbrev pub island_and_line : List Event
 island_and_line = open_island 0 0 ∷ (packet zeros clean 0 ∷ (close_island 0 0 ∷ (line (replicate 3 16) ∷ [])))
 
-abbrev one_packet : DataIsland
+abbrev pub one_packet : DataIsland
 one_packet = record { opening = record { first = 0; second = 0 }; packets = zeros ∷ []; closing = record { first = 0; second = 0 } }
 
-abbrev announces : ℕ → List ControlRun
+abbrev pub announces : ℕ → List ControlRun
 announces bits = times 0 4 ∷ (times (4 * bits) 8 ∷ [])
 
-abbrev from_line : List Period
+abbrev pub from_line : List Period
 from_line = control (announces VIDEO_PREAMBLE) ∷ (video (replicate 3 16) ∷ (control twelve ∷ []))
 
-are_sent : relayed island_and_line ≡ control (announces ISLAND_PREAMBLE) ∷ (island one_packet ∷ from_line)
+pub are_sent : relayed island_and_line ≡ control (announces ISLAND_PREAMBLE) ∷ (island one_packet ∷ from_line)
 unfolding relayed conformed settled gathered nulled kept kept_from without_faults announcing longest is_data_island is_packet is_video_period first_lost
 are_sent = refl
 
-few_columns : columns_of (relayed island_and_line) ≤ COLUMN_LIMIT
+pub few_columns : columns_of (relayed island_and_line) ≤ COLUMN_LIMIT
 unfolding columns_of period_columns values_of
 few_columns = let e = ap columns_of are_sent in omega (arith, e)
 

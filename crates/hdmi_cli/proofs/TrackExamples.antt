@@ -109,7 +109,7 @@ each_count P a b c p q r (suc zero) lt = q
 each_count P a b c p q r (suc (suc zero)) lt = r
 each_count P a b c p q r (suc (suc (suc i))) lt = absurd (omega arith)
 
-captured : (x y z : List Bool) → length x < 2 ^ 32 → length y < 2 ^ 32 → length z < 2 ^ 32 → IsCaptureOf x y z (layout 2 x y z)
+pub captured : (x y z : List Bool) → length x < 2 ^ 32 → length y < 2 ^ 32 → length z < 2 ^ 32 → IsCaptureOf x y z (layout 2 x y z)
 unfolding layout
 captured x y z small_x small_y small_z = grind arith
 

@@ -16,4 +16,9 @@ pub mod Beside
 pub mod DviLocal
 pub mod RelayLocal
 pub mod LocalPictures
+pub mod RelockLocal
+pub mod RelockSecond
+pub mod Chain
+pub mod EndToEnd
+pub mod RelayChecked
 pub mod Theorem

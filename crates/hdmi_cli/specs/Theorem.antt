@@ -15,6 +15,8 @@ use Rattle.hdmi_cli.specs.LocalPictures.{ArePicturesBy}
 use Rattle.hdmi_cli.specs.TrackSlip.{LineSlip, IsSlippedTap, IsNoticed, IsTrackedAcross}
 use Rattle.hdmi_cli.specs.TrackPasses.{IsUnnoticed, IsTrackedAsOne}
 use Rattle.hdmi_cli.specs.RelockAgain.{AgainStream, ComesAgain, IsRelockedAgain}
+use Rattle.hdmi_cli.specs.RelockLocal.{StaysClear, StaysUncontended}
+use Rattle.hdmi_cli.specs.RelockSecond.{ComesTwice, IsListedOn}
 use Rattle.hdmi_cli.specs.RelayClauses.{IsCleanToEnd, IsPassedOn, IsRelayedAgain, IsSentWithin}
 use Rattle.hdmi_cli.specs.RelayLocal.{IsRelayedBy}
 use Rattle.hdmi_cli.specs.RelaySettles.{IsWritten, IsWrittenButBit3}
@@ -52,7 +54,8 @@ pub record Promises (words : List (List ℕ)) (status : ℕ) (before after : Dev
       → before.left ≡ Some t.bytes
       → Unless (IsHeardBy link_listing t until) status before after
   -- `check` of a capture with a first full alignment ends with `clean`, and the status is 0, where some conforming sender
-  -- could have sent the aligned columns before the cut, and with `faulty`, and it is 1, where none could.
+  -- could have sent the aligned columns before the cut, but for bit 3 of lane 0 in packet columns, which is free; and with
+  -- `faulty`, and it is 1, where none could.
   pub check_exact : IsCommand words Check
       → (blue green red : List Bool) (d e f : ℕ) (bytes : List ℕ) → IsAlignedCapture blue green red d e f bytes
       → before.left ≡ Some bytes
@@ -135,6 +138,16 @@ pub record Promises (words : List (List ℕ)) (status : ℕ) (before after : Dev
       → before.left ≡ Some t.bytes → Unless (IsTrackedAcross link_track_listing t s y) status before after
   pub relock_slip_passes : IsCommand words RecoverRelock → (t : TappedStream) → (s : LineSlip) → (y : Fed) → IsSlippedTap t s y → IsUnnoticed t s
       → before.left ≡ Some t.bytes → Unless (IsTrackedAsOne RecoverLink link_listing t s y) status before after
+  -- Whatever is received after a column until which damage is so, and after the next one: it writes what `recover link` does, with the row
+  -- of each line and each island that stands alone. No lane may have a stray, and near the end of a control period no character may be
+  -- received as a control or guard character that it was not.
+  pub relock_local : IsCommand words RecoverRelock → (t : TappedStream) → (until : ℕ) → IsTappedUntil t until → AlignsBy t until → StaysClear t until
+      → before.left ≡ Some t.bytes
+      → Unless (IsHeardBy link_listing t until) status before after
+  -- The same if no other edges contend with the alignment. That is asked of the bits, and allows more.
+  pub relock_uncontended : IsCommand words RecoverRelock → (t : TappedStream) → (until : ℕ) → IsTappedUntil t until → AlignsBy t until → StaysUncontended t until
+      → before.left ≡ Some t.bytes
+      → Unless (IsHeardBy link_listing t until) status before after
   -- Whatever bits came before: from a control period on of which nineteen characters were received on each lane, and a guard band
   -- after it, the stream is listed as it was sent, where the alignment has the skew of that control period and damage spares one of any two
   -- control periods in a row from there on. It is at that one, or at one before that a guard band confirmed. It has that skew where the
@@ -142,6 +155,10 @@ pub record Promises (words : List (List ℕ)) (status : ℕ) (before after : Dev
   -- skew too, whatever opens by another one.
   pub relock_again : IsCommand words RecoverRelock → (t : AgainStream) → ComesAgain t → before.left ≡ Some t.bytes
       → Unless (λ _ held holds. IsRelockedAgain link_track_listing t held holds) status before after
+  -- Whatever bits came before: from the second of two such control periods of one skew on, it lists all that follows as it was sent. Both
+  -- guard bands were received whole, and each control period that ends between the two on all lanes has their skew.
+  pub relock_at_second : IsCommand words RecoverRelock → (t : AgainStream) → (d e f : ℕ) → ComesTwice t d e f → before.left ≡ Some t.bytes
+      → Unless (λ _ held holds. IsListedOn t held holds) status before after
   -- `recover content relock` writes the text of `recover content`, and so the rows, frames and packets that were received.
   pub content_relock_headline : IsCommand words RecoverContentRelock → (t : TappedStream) → IsTapped t → StaysAligned t → before.left ≡ Some t.bytes
       → Unless (λ status held holds. FromFirst t (λ d e f a. IsRecovered content_listing t d e f a status held holds)) status before after
@@ -151,6 +168,13 @@ pub record Promises (words : List (List ℕ)) (status : ℕ) (before after : Dev
       → Unless (λ status held holds. FromFirst t (λ d e f a. ArePictures mode frames t d e f a held holds)) status before after
   pub content_relock_packets : IsCommand words RecoverContentRelock → (t : TappedStream) → IsTapped t → StaysAligned t → before.left ≡ Some t.bytes
       → Unless (λ status held holds. FromFirst t (λ d e f a. ArePackets t d e f a held holds)) status before after
+  -- By the same premises it lists the content of each line and each island that stands alone, whatever is received around it.
+  pub content_relock_local : IsCommand words RecoverContentRelock → (t : TappedStream) → (until : ℕ) → IsTappedUntil t until → AlignsBy t until → StaysClear t until
+      → before.left ≡ Some t.bytes
+      → Unless (IsHeardBy content_listing t until) status before after
+  pub content_relock_uncontended : IsCommand words RecoverContentRelock → (t : TappedStream) → (until : ℕ) → IsTappedUntil t until → AlignsBy t until → StaysUncontended t until
+      → before.left ≡ Some t.bytes
+      → Unless (IsHeardBy content_listing t until) status before after
   -- Across a slip and after any bits it writes the content of the events and slips that `recover relock` writes.
   pub content_relock_slip : IsCommand words RecoverContentRelock → (t : TappedStream) → (s : LineSlip) → (y : Fed) → IsSlippedTap t s y → IsNoticed t s
       → before.left ≡ Some t.bytes → Unless (IsTrackedAcross content_track_listing t s y) status before after

@@ -1,4 +1,8 @@
-//! Vabgrot: the sender and the receiver of one HDMI TMDS link.
+//! The program: reads the words, runs the command and returns the status.
+//!
+//! `run` is the top function. For all words and all input bytes its contract gives status, output and note, and the theorems of
+//! docs/proof/PROVED.md (the record `Promises`). `main` gets the words of the process and passes it standard input, output and
+//! error.
 #![tactic(auto)]
 
 mod laws;

@@ -8,7 +8,7 @@ ghost use Rattle.infoframe.specs.Written.{fits};
 use crate::fields::kind_of;
 
 /// The InfoFrames whose layout is known, and any other.
-#[derive(Clone, Copy, Debug, PartialEq, Eq)]
+#[derive(Clone, Copy)]
 pub enum InfoKind {
     /// Auxiliary video information: type 0x82, version 2, length 13.
     Avi,
@@ -21,7 +21,7 @@ pub enum InfoKind {
 }
 
 /// Why a packet is read as no InfoFrame.
-#[derive(Clone, Copy, Debug, PartialEq, Eq)]
+#[derive(Clone, Copy)]
 pub enum InfoFault {
     /// The least block that is lost: blocks 0 to 3 are the bodies, block 4 is the header.
     Lost(u8),
@@ -32,7 +32,7 @@ pub enum InfoFault {
 }
 
 /// An AVI InfoFrame of version 2 (CTA-861, section 6.4).
-#[derive(Clone, Copy, Debug, PartialEq, Eq)]
+#[derive(Clone, Copy)]
 pub struct Avi {
     /// Scan information: PB1 bits 0 and 1.
     pub s: u8,
@@ -66,7 +66,7 @@ pub struct Avi {
 }
 
 /// An audio InfoFrame of version 1 (CTA-861, section 6.6).
-#[derive(Clone, Copy, Debug, PartialEq, Eq)]
+#[derive(Clone, Copy)]
 pub struct AudioInfo {
     /// Channel count less one, or 0 where the audio's own header says it: PB1 bits 0 to 2.
     pub cc: u8,
@@ -85,7 +85,7 @@ pub struct AudioInfo {
 }
 
 /// A source product description InfoFrame of version 1 (CTA-861, section 6.5).
-#[derive(Clone, Copy, Debug, PartialEq, Eq)]
+#[derive(Clone, Copy)]
 pub struct Spd {
     /// The vendor's name: PB1 to PB8.
     pub vendor: [u8; 8],
@@ -96,7 +96,7 @@ pub struct Spd {
 }
 
 /// What an InfoFrame says.
-#[derive(Clone, Copy, Debug, PartialEq, Eq)]
+#[derive(Clone, Copy)]
 pub enum Info {
     /// Auxiliary video information.
     Avi(Avi),
@@ -166,7 +166,7 @@ fn raw_fits(kind: u8, version: u8, length: u8, bytes: &[u8; 27]) -> bool
     ensures { result ≡ fits (Info.Raw kind version length bytes.now) }
 {
     kind >= 0x80
-        && kind_of(kind, version) == InfoKind::Raw
+        && matches!(kind_of(kind, version), InfoKind::Raw)
         && length <= 27
         && is_zero(&bytes[usize::from(length)..])
 }

@@ -1,4 +1,10 @@
-//! Packets of a data island laid into 32 columns of TERC4 words, and taken from them (HDMI 1.4, section 5.2.3).
+//! Packets of data islands in 32 columns, and what a conforming stream is (HDMI 1.4, section 5.2.3).
+//!
+//! `lay` returns 32 columns that carry a packet, `lay_packed` their bits. `take`, and `take_kept` for columns that are stored
+//! lane by lane, return for any 32 columns each block repaired, the verdict on it, and the number of characters that are no
+//! TERC4 characters. A packet that was laid is taken unchanged. The crate also defines conforming periods, the sizes that they
+//! may have, the columns that spell them, the kinds of columns, and sparse damage. Every conforming list of periods is spelled
+//! by some columns.
 #![tactic(auto)]
 
 pub mod laws;
@@ -18,6 +24,3 @@ pub use ranges::{
     is_control_in_range, is_island_in_range, is_line_in_range, is_packet_in_range, is_run_in_range,
 };
 pub use taking::{take, take_kept};
-
-#[cfg(test)]
-mod tests;

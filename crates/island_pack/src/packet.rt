@@ -4,7 +4,7 @@ ghost use Rattle.std.specs.Prelude.{◌≡◌, ◌<◌};
 use bch_block::Verdict;
 
 /// A packet of a data island.
-#[derive(Clone, Copy, Debug, PartialEq, Eq)]
+#[derive(Clone, Copy)]
 pub struct Packet {
     /// The three header bytes.
     pub header: [u8; 3],
@@ -15,7 +15,7 @@ pub struct Packet {
 }
 
 /// What was found of a packet's blocks.
-#[derive(Clone, Copy, Debug, PartialEq, Eq)]
+#[derive(Clone, Copy)]
 pub struct PacketVerdicts {
     /// Blocks 0 to 3 are the bodies, block 4 is the header.
     pub blocks: [Verdict; 5],

@@ -1,10 +1,15 @@
 //! Laws on locks and edges. The functions do nothing: what they ensure is the law.
 ghost use Rattle.lane_align.specs.Words.{WordsAreWindows, WordEdges, EdgeWords};
-ghost use Rattle.lane_align.specs.Laws.{OneLock, EdgesApart, RunTurns, NoFalseLock, TapLock, HasExample};
+ghost use Rattle.lane_align.specs.Laws.{OneLock, OneFirstRun, EdgesApart, RunTurns, NoFalseLock, TapLock, HasExample};
 
 /// A row has at most one lock.
 pub fn one_lock()
     ensures { OneLock }
+{}
+
+/// A row has at most one first run of those that `first_run` looks for.
+pub fn one_first_run()
+    ensures { OneFirstRun }
 {}
 
 /// Two edges of one row are at least `EDGE_DISTANCE` bits apart.

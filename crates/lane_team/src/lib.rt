@@ -1,4 +1,8 @@
-//! Three lanes aligned side by side, each by a worker of its own, or one after another.
+//! Aligns three lanes, side by side or one after another.
+//!
+//! A `Team` gives each lane the characters and the lock that an aligner of its own gives it. `feed_three` forks one worker for
+//! each lane and joins all within the call; `feed_in_turn` uses the caller's own thread. The result is the same for every gate
+//! whose `pass` returns. Workers share nothing but the gate, and nothing is allocated.
 #![tactic(auto)]
 
 ghost use Rattle.std.specs.Prelude.{◌≡◌, ◌<◌, List, Bool};
@@ -6,13 +10,12 @@ ghost use Rattle.lane_align.specs.Lanes.{IsLockOf};
 ghost use Rattle.lane_align.specs.Aligners.{AlignerRepresents, lock_of};
 ghost use Rattle.lane_team.specs.Sides.{IsFresh, AreFresh, CanTake, CanTakeLanes, HasTaken, HaveTaken, side_at};
 
+pub mod laws;
+
 use lane_align::{LaneAligner, ROW_WORDS};
 use std::marker::Model;
 use std::thread::{Threads, join_mut};
 use tmds_word::LaneBits;
-
-#[cfg(test)]
-mod tests;
 
 /// What a worker goes through before it searches its lane.
 pub trait Gate: Sync {

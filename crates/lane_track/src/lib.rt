@@ -1,4 +1,7 @@
-//! Strays of a lane: runs of control words that begin where no character of it begins; and the laws on a lane that loses bits.
+//! Finds strays: control characters at another bit phase than the lane's own.
+//!
+//! `Scout::seek` returns exactly the first stray of a lane, over parts of its bits. Laws over definitions say that a lane with
+//! few damaged characters has no stray, and that in a lane that loses bits once the strays are the runs after the loss.
 #![tactic(auto)]
 
 mod ahead;
@@ -7,6 +10,3 @@ mod scout;
 
 pub use ahead::{eight_bytes, next_run};
 pub use scout::Scout;
-
-#[cfg(test)]
-mod tests;

@@ -10,3 +10,4 @@ pub mod Received
 pub mod Streams
 pub mod Progress
 pub mod Pieces
+pub mod Laws

@@ -22,3 +22,4 @@ pub mod Parts
 pub mod Pieces
 pub mod Refused
 pub mod HexPairs
+pub mod OneAnswer

@@ -19,3 +19,4 @@ pub mod ContentFormSeen
 pub mod ContentReported
 pub mod ContentKept
 pub mod HexValues
+pub mod Laws

@@ -1,7 +1,7 @@
 //! What a listing is refused for.
 
 /// The cause of a refused line, tried in this order.
-#[derive(Clone, Copy, Debug, PartialEq, Eq)]
+#[derive(Clone, Copy)]
 pub enum ListCause {
     /// A fault line or a cut line, which only a receiver writes.
     Fault,
@@ -26,14 +26,14 @@ pub enum ListCause {
 }
 
 /// The first wrong line, counted from 1, and its cause.
-#[derive(Clone, Copy, Debug, PartialEq, Eq)]
+#[derive(Clone, Copy)]
 pub struct ListFault {
     pub line: u32,
     pub cause: ListCause,
 }
 
 /// Why a listing was not read.
-#[derive(Clone, Copy, Debug, PartialEq, Eq)]
+#[derive(Clone, Copy)]
 pub enum ListError {
     /// It is no listing.
     Bad(ListFault),

@@ -1,4 +1,8 @@
-//! Listings are read: the text of a link, of a link without guard bands, and of a content.
+//! Reads listings: of a link, of a link without guard bands, and of a content.
+//!
+//! The answer is what the whole text reads as (`reads_as`, `dvi_reads_as`, `content_reads_as`), in whatever pieces the source
+//! gives it. It is the items; or the mode and the frames, or the first fault of their raster. If a line is wrong, it is the
+//! first such line and its first cause. If a read fails, `LineReader` loses no byte.
 #![tactic(auto)]
 
 mod content_digits;
@@ -9,6 +13,7 @@ mod digits;
 mod dvi_reader;
 mod fault;
 mod form;
+pub mod laws;
 mod lines;
 mod packet;
 mod periods;

@@ -19,7 +19,7 @@ const TOO_LONG: usize = LINE_LIMIT + 1;
 const BUFFER_SIZE: usize = 65_536;
 
 /// What `LineReader::next` found.
-#[derive(Clone, Copy, Debug, PartialEq, Eq)]
+#[derive(Clone, Copy)]
 pub enum Piece {
     /// A line that its line feed ends.
     Line,

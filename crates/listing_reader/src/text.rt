@@ -18,7 +18,7 @@ use std::alloc::Global;
 const TEXT_LIMIT: u64 = 4_294_967_295;
 
 /// Where a line begins.
-#[derive(Clone, Copy, Debug, PartialEq, Eq)]
+#[derive(Clone, Copy)]
 struct Place {
     /// The line's number, counted from 1.
     line: u32,

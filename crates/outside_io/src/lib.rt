@@ -1,8 +1,9 @@
-//! Bytes that are read and written: sources and sinks, ones in memory, and adapters of std's readers
-//! and writers.
+//! Reads and writes bytes: sources and sinks.
 //!
-//! A device that fails says only that it failed, and counts it: each failure has its cause in a
-//! count that rose.
+//! A `Source` and a `Sink` are traits with implementations in memory and adapters of std's readers and writers. If the bytes of
+//! a device are known, they are read and written in order; the end of an input is reported exactly if nothing is left. A device
+//! that fails says only that it failed, and counts it: `Failed`, `Wrote` and `Got` are returned only if its count of faults
+//! rose, and no count ever falls. Contracts say what a refusal leaves.
 #![tactic(auto)]
 
 ghost use Rattle.std.specs.Prelude.{◌≡◌, ℕ, ◌^◌, ◌<◌, ◌≤◌, List, [], ◌++◌, length, take, drop, min, Option, Ok, IfOk, IfErr, OnOk};
@@ -41,13 +42,13 @@ impl<T: Drop> From<AllocFailed<T>> for NoMemory {
 }
 
 /// How many bytes of a piece were written before a write failed.
-#[derive(Clone, Copy, Debug, PartialEq, Eq)]
+#[derive(Clone, Copy)]
 pub struct Wrote {
     pub gone: usize,
 }
 
 /// How many bytes were read before a read failed.
-#[derive(Clone, Copy, Debug, PartialEq, Eq)]
+#[derive(Clone, Copy)]
 pub struct Got {
     pub arrived: usize,
 }
@@ -143,6 +144,3 @@ pub fn copy_front(from: &[u8], into: &mut [u8]) -> usize
     into[..count].copy_from_slice(&from[..count]);
     count
 }
-
-#[cfg(test)]
-mod tests;

@@ -5,7 +5,7 @@ ghost use Rattle.page.specs.Endings.{status_of};
 use capture_file::CaptureFault;
 
 /// How the recovery of a capture ended.
-#[derive(Clone, Copy, Debug, PartialEq, Eq)]
+#[derive(Clone, Copy)]
 pub enum Ending {
     /// All was listed and told, and no fault was among it.
     Done,

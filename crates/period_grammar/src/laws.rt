@@ -2,6 +2,7 @@
 ghost use Rattle.period_grammar.specs.Gains.{PushLaw, EndLaw, LinkIsOne};
 ghost use Rattle.period_grammar.specs.Sizes.{Sizes, ValueBelow};
 ghost use Rattle.period_grammar.specs.Before.{ReportedBefore};
+ghost use Rattle.period_grammar.specs.OneReport.{OneReport, OneEnd};
 
 /// All runs, lines, packets and sync digits that are reported are of the sizes that a link can have.
 pub fn sizes()
@@ -31,4 +32,10 @@ pub fn link_is_one()
 /// What is reported of a list at columns before a column is what is reported of its columns before that one so far.
 pub fn reported_before()
     ensures { ReportedBefore }
+{}
+
+/// What a hearing reports at a column is one list of events, and so is what it reports at the end.
+pub fn one_report()
+    ensures column { OneReport }
+    ensures end { OneEnd }
 {}

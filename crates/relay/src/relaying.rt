@@ -31,7 +31,7 @@ use terc4::RUN;
 use thiserror::Error;
 
 /// Why a relay failed.
-#[derive(Clone, Copy, Debug, PartialEq, Eq, Error)]
+#[derive(Clone, Copy, Debug, Error)]
 pub enum RelayFault {
     /// What is relayed takes more than `COLUMN_LIMIT` columns.
     #[error("there are more than 20,000,000 columns")]

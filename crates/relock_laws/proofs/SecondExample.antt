@@ -1,5 +1,5 @@
 -- Lanes one of which has a character more after the first guard band, and two control periods in a row after that.
-use Rattle.std.proofs.Common.{◌≡◌, ℕ, ◌+◌, ◌-◌, ◌*◌, Bool, true, false, not, ◌&&◌, List, [], ◌∷◌, ◌++◌, replicate, refl, ap, ◌∙◌, sym, subst, arith, Option, Some}
+use Rattle.std.proofs.Common.{◌≡◌, ℕ, ◌+◌, ◌-◌, ◌*◌, ◌≤◌, Bool, true, false, not, ◌&&◌, List, [], ◌∷◌, ◌++◌, replicate, refl, ap, ◌∙◌, sym, subst, arith, Option, Some}
 use Rattle.tmds_word.specs.Bits.{bits_of, word_bits, row_bits, number, window}
 use Rattle.tmds_word.specs.Column.{Column, column_of}
 use Rattle.tmds_word.proofs.Below.{passes_below, passes_at}
@@ -12,6 +12,7 @@ use Rattle.relock_sink.specs.Rivals.{IsConfirmed}
 use Rattle.relock_laws.specs.Settled.{IsGoodPeriod}
 use Rattle.relock_laws.specs.Doubted.{IsQuiet}
 use Rattle.relock_laws.specs.RefutingSettled.{IsWholeGoodPeriod, HasSecondExample}
+use Rattle.relock_laws.proofs.Between.{quiet_between}
 use Rattle.relock_laws.proofs.AgainExample.{nineteen_at, nineteen, announced_test}
 use Rattle.relock_laws.proofs.WholeExample.{other, others_at, goes_on, whole_test}
 
@@ -38,11 +39,11 @@ fed = record { blue = blue; green = green; red = red }
 -- One lane.
 
 -- a window that is a control word, and the next one is none
-abbrev ends_at : List Bool → ℕ → Bool
+abbrev pub ends_at : List Bool → ℕ → Bool
 ends_at xs e = has (window xs (e - 10)) && not (has (window xs e))
 
-abbrev quiet_at : List Bool → ℕ → Bool
-quiet_at xs d = passes_below 349 (λ n. not (ends_at xs (d + 1 + n)))
+abbrev pub quiet_at : List Bool → (d many : ℕ) → Bool
+quiet_at xs d many = passes_below many (λ n. not (ends_at xs (d + 1 + n)))
 
 not_has : (o : Option ℕ) (w : ℕ) → o ≡ Some w → is_control w ≡ false → has o ≡ false
 unfolding has
@@ -51,15 +52,15 @@ not_has o w here none = grind arith
 both : (a b : Bool) → a ≡ true → b ≡ false → not (a && not b) ≡ true → ⊥
 both a b h k test = grind arith
 
-quiet : (xs : List Bool) (d : ℕ) → quiet_at xs d ≡ true → IsQuiet xs d (d + 350)
-quiet xs d test e after before ends =
+pub quiet : (xs : List Bool) (d many i : ℕ) → quiet_at xs d many ≡ true → i ≤ d + 1 + many → IsQuiet xs d i
+quiet xs d many i test upto e after before ends =
     let begins = ends.begins in
     let at : d + 1 + (e - (d + 1)) ≡ e = omega arith in
     let last : e - 120 + 10 * 11 ≡ e - 10 = omega arith in
     let control : has (window xs (e - 10)) ≡ true = ap (λ p. has (window xs p)) (sym last) ∙ to_has xs (e - 120 + 10 * 11) (ends.run 11 (omega arith)) in
     let none : has (window xs e) ≡ false = not_has (window xs e) ends.word ends.here ends.no_control in
     both (has (window xs (e - 10))) (has (window xs e)) control none
-    (subst (λ n. not (ends_at xs n) ≡ true) at (passes_at 349 (λ n. not (ends_at xs (d + 1 + n))) (e - (d + 1)) test (omega arith)))
+    (subst (λ n. not (ends_at xs n) ≡ true) at (passes_at many (λ n. not (ends_at xs (d + 1 + n))) (e - (d + 1)) test (omega arith)))
 
 -- the tests of a lane whose second control period ends at a place
 record HasTests (xs : List Bool) (d w : ℕ) : Type 0 where
@@ -71,7 +72,7 @@ record HasTests (xs : List Bool) (d w : ℕ) : Type 0 where
   second_on : others_at xs d ≡ true
   third : nineteen_at xs (d + 350) ≡ true
   third_on : others_at xs (d + 350) ≡ true
-  none_between : quiet_at xs d ≡ true
+  none_between : quiet_at xs d 349 ≡ true
 
 blue_tests : HasTests blue 330 0x2cc
 unfolding passes_below nineteen_at others_at other blue has window row_bits word_bits bits_of number is_control is_in control_words
@@ -172,9 +173,7 @@ second_example = (
     second = second;
     later = omega arith;
     same_skew = (refl, refl);
-    blue_quiet = quiet blue 330 blue_tests.none_between;
-    green_quiet = quiet green 330 green_tests.none_between;
-    red_quiet = quiet red 340 red_tests.none_between;
+    between = quiet_between fed 330 330 340 680 680 690 (quiet blue 330 349 680 blue_tests.none_between (omega arith)) (quiet green 330 349 680 green_tests.none_between (omega arith)) (quiet red 340 349 690 red_tests.none_between (omega arith));
   },
   omega arith,
   omega arith,

@@ -2,16 +2,16 @@
 -- with another one is doubted twice in a row.
 use Rattle.std.proofs.Common.{◌≡◌, ◌⊎◌, ℕ, ◌+◌, ◌-◌, ◌<◌, ◌≤◌, Bool, List, drop, subst, arith, inl, inr}
 use Rattle.std.proofs.lemmas.Bool.{cases_lt}
-use Rattle.lane_align.specs.Lanes.{IsRun, IsEdge}
+use Rattle.lane_align.specs.Lanes.{IsRun}
 use Rattle.lane_align.proofs.Parts.{run_of_rest}
 use Rattle.link_sink.specs.Sinks.{Fed}
 use Rattle.track_sink.specs.Epochs.{rest_of}
 use Rattle.relock_sink.specs.Rivals.{HaveSameSkew}
 use Rattle.relock_sink.specs.Refuting.{refuting_rule}
-use Rattle.relock_laws.specs.Doubted.{EndsRun, IsQuiet, AreTwoPeriods}
+use Rattle.relock_laws.specs.Doubted.{EndsRun, EndTogether, KeepSkewBetween, AreOfOneSkew}
 use Rattle.relock_laws.specs.RefutingSettled.{IsSettledBy, SlipsThere, AreTwoGood, SettlesAtSecond, SecondHasSkew, RecoversAtSecond}
 use Rattle.relock_laws.proofs.Again.{calm_again}
-use Rattle.relock_laws.proofs.Doubting.{run_of_edge, doubts_at_second}
+use Rattle.relock_laws.proofs.Between.{ends_of_edges, lets_go_at_second}
 use Rattle.relock_laws.proofs.RefutingAgain.{same_skew_is_last}
 use Rattle.relock_laws.proofs.RefutingSettling.{EndsLateBy, late_by, rest_period, long_after, confirmed_before, same_or_not, let_go_there, settles_by_refuting, settled_no_stray}
 use Rattle.relock_laws.proofs.Settling.{least_of, HaveLast, have_last, place_of}
@@ -32,17 +32,38 @@ run_back z xs e ends =
       no_control = ends.no_control;
     }
 
-rest_quiet : (z : ℕ) (xs : List Bool) (d i : ℕ) → z ≤ d → IsQuiet xs d i → IsQuiet (drop z xs) (d - z) (i - z)
-rest_quiet z xs d i after quiet e past before ends = quiet (z + e) (omega arith) (omega arith) (run_back z xs e ends)
-
--- an edge before the second is none after the first
-not_after : (z : ℕ) (xs : List Bool) (d i p : ℕ) → IsQuiet xs d i → IsEdge (drop z xs) p → z + p < i → z + p ≤ d
-not_after z xs d i p quiet edge before = elim (cases_lt d (z + p)) [
-  | inl past ↦ absurd (quiet (z + p) past before (run_back z xs p (run_of_edge (drop z xs) p edge)))
-  | inr upto ↦ upto
-]
-
 -- Three lanes.
+
+-- and so on all lanes
+ends_back : (z : ℕ) (fed : Fed) (b g v : ℕ) → EndTogether (rest_of z fed) b g v → EndTogether fed (z + b) (z + g) (z + v)
+ends_back z fed b g v t =
+    let bg0 = t.blue_green.0 in
+    let bg1 = t.blue_green.1 in
+    let gr0 = t.green_red.0 in
+    let gr1 = t.green_red.1 in
+    let br0 = t.blue_red.0 in
+    let br1 = t.blue_red.1 in
+    record {
+      blue = run_back z fed.blue b t.blue;
+      green = run_back z fed.green g t.green;
+      red = run_back z fed.red v t.red;
+      blue_green = (omega arith, omega arith);
+      green_red = (omega arith, omega arith);
+      blue_red = (omega arith, omega arith);
+    }
+
+-- what is later in the rest of a lane, on some lane, is later in the lane
+later_back : (z d e f b g v : ℕ) → (d - z < b) ⊎ ((e - z < g) ⊎ (f - z < v)) → (d < z + b) ⊎ ((e < z + g) ⊎ (f < z + v))
+later_back z d e f b g v (inl past) = inl (omega arith)
+later_back z d e f b g v (inr (inl past)) = inr (inl (omega arith))
+later_back z d e f b g v (inr (inr past)) = inr (inr (omega arith))
+
+rest_between : (z : ℕ) (fed : Fed) (d e f i j k : ℕ) → z ≤ i → z ≤ j → z ≤ k → KeepSkewBetween fed d e f i j k → KeepSkewBetween (rest_of z fed) (d - z) (e - z) (f - z) (i - z) (j - z) (k - z)
+rest_between z fed d e f i j k x y w between b g v t after lb lg lv =
+    let same = between (z + b) (z + g) (z + v) (ends_back z fed b g v t) (later_back z d e f b g v after) (omega arith) (omega arith) (omega arith) in
+    let one = same.0 in
+    let other = same.1 in
+    (omega arith, omega arith)
 
 -- the edges of the first come before those of the second
 least_before : (d e f i j k : ℕ) → d < i → HaveSameSkew d e f i j k → least_of d e f ≤ least_of i j k
@@ -58,7 +79,7 @@ module _ (fed : Fed) (d e f i j k : ℕ) (two : AreTwoGood fed d e f i j k) (z p
 
   -- the two in the epoch
   in_rest : HaveLast fed d e f z → HaveLast fed i j k z → z + 190 ≤ d → z + 190 ≤ e → z + 190 ≤ f
-      → AreTwoPeriods (rest_of z fed) (d - z) (e - z) (f - z) (i - z) (j - z) (k - z)
+      → AreOfOneSkew (rest_of z fed) (d - z) (e - z) (f - z) (i - z) (j - z) (k - z)
   in_rest h g b c a =
       let later = two.later in
       let same0 = two.same_skew.0 in
@@ -68,9 +89,7 @@ module _ (fed : Fed) (d e f i j k : ℕ) (two : AreTwoGood fed d e f i j k) (z p
         second = rest_period fed i j k z two.second g (omega arith) (omega arith) (omega arith);
         later = omega arith;
         same_skew = (omega arith, omega arith);
-        blue_quiet = rest_quiet z fed.blue d i (omega arith) two.blue_quiet;
-        green_quiet = rest_quiet z fed.green e j (omega arith) two.green_quiet;
-        red_quiet = rest_quiet z fed.red f k (omega arith) two.red_quiet;
+        between = rest_between z fed d e f i j k (omega arith) (omega arith) (omega arith) two.between;
       }
 
   -- an alignment with another skew, before the first, is let go at the second
@@ -85,9 +104,9 @@ module _ (fed : Fed) (d e f i j k : ℕ) (two : AreTwoGood fed d e f i j k) (z p
       let same1 = two.same_skew.1 in
       let later = two.later in
       let periods = in_rest h g (omega arith) (omega arith) (omega arith) in
-      let doubted = doubts_at_second (rest_of z fed) p q r (d - z) (e - z) (f - z) (i - z) (j - z) (k - z) own periods (omega arith) (omega arith) (omega arith)
+      let go = lets_go_at_second (rest_of z fed) p q r (d - z) (e - z) (f - z) (i - z) (j - z) (k - z) own periods (omega arith) (omega arith) (omega arith)
       (λ same. let s = same.0 in let t = same.1 in apart (omega arith, omega arith)) in
-      let_go_there fed i j k z p q r two.second is.begins is.ends (inr doubted)
+      let_go_there fed i j k z p q r two.second is.begins is.ends go
 
   pub skew_at_second : HaveSameSkew p q r i j k ⊎ SlipsThere fed i j k z
   skew_at_second = elim is.place [
@@ -102,19 +121,29 @@ module _ (fed : Fed) (d e f i j k : ℕ) (two : AreTwoGood fed d e f i j k) (z p
           let x = before.0 in
           let y = before.1 in
           let v = before.2 in
-          let b = not_after z fed.blue d i p two.blue_quiet t.blue (omega arith) in
-          let g = not_after z fed.green e j q two.green_quiet t.green (omega arith) in
-          let w = not_after z fed.red f k r two.red_quiet t.red (omega arith) in
-          let h = have_last fed d e f z two.first.good (omega arith) (late_by fed z (least_of d e f) late) in
-          elim (place_of fed d e f z p q r two.first.good h is.first) [
-            | inl at ↦
-                let xd = at.0 in
-                let yd = at.1 in
-                let vd = at.2 in
-                let same0 = two.same_skew.0 in
-                let same1 = two.same_skew.1 in
-                absurd (apart (omega arith, omega arith))
-            | inr far ↦ inr (slips_apart h far.0 far.1 far.2 apart)
+          let skew : (d < z + p) ⊎ ((e < z + q) ⊎ (f < z + r)) → HaveSameSkew p q r i j k =
+          λ after. let same = two.between (z + p) (z + q) (z + r) (ends_back z fed p q r (ends_of_edges (rest_of z fed) p q r t)) after (omega arith) (omega arith) (omega arith) in
+          let one = same.0 in let other = same.1 in (omega arith, omega arith) in
+          elim (cases_lt d (z + p)) [
+            | inl after ↦ inl (skew (inl after))
+            | inr b ↦ elim (cases_lt e (z + q)) [
+              | inl after ↦ inl (skew (inr (inl after)))
+              | inr g ↦ elim (cases_lt f (z + r)) [
+                | inl after ↦ inl (skew (inr (inr after)))
+                | inr w ↦
+                    let h = have_last fed d e f z two.first.good (omega arith) (late_by fed z (least_of d e f) late) in
+                    elim (place_of fed d e f z p q r two.first.good h is.first) [
+                      | inl at ↦
+                          let xd = at.0 in
+                          let yd = at.1 in
+                          let vd = at.2 in
+                          let same0 = two.same_skew.0 in
+                          let same1 = two.same_skew.1 in
+                          absurd (apart (omega arith, omega arith))
+                      | inr far ↦ inr (slips_apart h far.0 far.1 far.2 apart)
+                    ]
+              ]
+            ]
           ]
     ]
   ]

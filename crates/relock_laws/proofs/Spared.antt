@@ -24,7 +24,7 @@ use Rattle.relock_laws.proofs.Seen.{HasWord}
 -- The columns.
 
 -- the three columns after a control period are of none
-three_after : (kinds : List Kind) → IsAlternating kinds → (i k : ℕ) → EndsAt kinds i → k < 3 → kind_at kinds (i + 1 + k) ≡ control_column → ⊥
+pub three_after : (kinds : List Kind) → IsAlternating kinds → (i k : ℕ) → EndsAt kinds i → k < 3 → kind_at kinds (i + 1 + k) ≡ control_column → ⊥
 three_after _ (last n long) i k e lt is = grind (arith, ends_alone, length-replicate, get_or_past, length-append)
 three_after _ (more n mid rest long m alternates) i k e lt is =
     let three = m.long in
@@ -87,13 +87,13 @@ abbrev pub IsLaneFrom : List ℕ → List Bool → (p n a : ℕ) → Type 0
 IsLaneFrom words xs p n a = (i j w : ℕ) → n ≤ j → i + n ≡ a + j → window xs (p - 120 + 10 * j) ≡ Some w → HasWord words i w
 
 -- twelve control words end with a character, and none follows
-record RunEnds (words : List ℕ) (m : ℕ) : Type 0 where
-  far : 11 ≤ m
-  within : m + 1 < length words
-  controls : (k : ℕ) → k < 12 → is_control (get_or words (m - 11 + k) 0) ≡ true
-  next : is_control (get_or words (m + 1) 0) ≡ false
+pub record RunEnds (words : List ℕ) (m : ℕ) : Type 0 where
+  pub far : 11 ≤ m
+  pub within : m + 1 < length words
+  pub controls : (k : ℕ) → k < 12 → is_control (get_or words (m - 11 + k) 0) ≡ true
+  pub next : is_control (get_or words (m + 1) 0) ≡ false
 
-run_ends : (words : List ℕ) (xs : List Bool) (p n a e m : ℕ) → IsLaneFrom words xs p n a → IsEdge xs e → 120 ≤ p → p % 10 ≡ e % 10 → p + 10 * n ≤ e → m + n ≡ a + (11 + (e - p) / 10) → RunEnds words m
+pub run_ends : (words : List ℕ) (xs : List Bool) (p n a e m : ℕ) → IsLaneFrom words xs p n a → IsEdge xs e → 120 ≤ p → p % 10 ≡ e % 10 → p + 10 * n ≤ e → m + n ≡ a + (11 + (e - p) / 10) → RunEnds words m
 run_ends words xs p n a e m lane edge past whole later at =
     let c = (e - p) / 10 in
     let e_at : e ≡ p - 120 + 10 * (c + 12) = omega arith in

@@ -64,7 +64,7 @@ next_end kinds i j ends lt = by (least_or_none (λ k. EndsAt kinds (i + 1 + k)) 
 -- The alignment in use.
 
 -- the words of a tap, from the end of a control period on
-lane_from : (words : List ℕ) (xs : List Bool) (from many p a : ℕ) → ((k : ℕ) → k < length words → get_or words k 0 < 1024) → xs ≡ part_of words from many → 120 ≤ p → p + from ≡ 10 * (a + 12)
+pub lane_from : (words : List ℕ) (xs : List Bool) (from many p a : ℕ) → ((k : ℕ) → k < length words → get_or words k 0 < 1024) → xs ≡ part_of words from many → 120 ≤ p → p + from ≡ 10 * (a + 12)
     → IsLaneFrom words xs p 0 a
 lane_from words xs from many p a below is past begins i j w le at here =
     part_word words from many (p - 120 + 10 * j) i w below (subst (λ ys. window ys (p - 120 + 10 * j) ≡ Some w) is here) (omega arith)
@@ -108,7 +108,7 @@ own_first ps sent received reception offset skews counts x tapped small until al
     (subst (λ n. IsOwn ps received offset skews until x t.0 n r) same.1 (subst (λ n. IsOwn ps received offset skews until x t.0 t.1 n) same.2 is))
 
 -- edges as many whole characters after one on each lane have its skew
-same_there : (p q r d e f c : ℕ) → p + 10 * c ≡ d → q + 10 * c ≡ e → r + 10 * c ≡ f → HaveSameSkew p q r d e f
+pub same_there : (p q r d e f c : ℕ) → p + 10 * c ≡ d → q + 10 * c ≡ e → r + 10 * c ≡ f → HaveSameSkew p q r d e f
 same_there p q r d e f c b g v = (omega arith, omega arith)
 
 -- Edges of one skew.

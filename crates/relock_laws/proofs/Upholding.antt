@@ -37,7 +37,7 @@ pub record AreFrom (received : List Column) (x : Fed) (p q r n a : ℕ) : Type 0
   pub red : IsLaneFrom (reds received) x.red r n a
 
 -- so are its columns
-column_there : (received : List Column) (x : Fed) (p q r n a i j : ℕ) (c : Column) → AreFrom received x p q r n a → n ≤ j → i + n ≡ a + j → aligned_column x.blue x.green x.red p q r j ≡ Some c
+pub column_there : (received : List Column) (x : Fed) (p q r n a i j : ℕ) (c : Column) → AreFrom received x p q r n a → n ≤ j → i + n ≡ a + j → aligned_column x.blue x.green x.red p q r j ≡ Some c
     → (i < length received) × (column_at received i ≡ c)
 column_there received x p q r n a i j c are from at is =
     let w = words_of_column x.blue x.green x.red p q r j c is in

@@ -1,17 +1,20 @@
 -- When an alignment is doubted twice in a row: never a true one, and each other one at the second good control period in a row.
-use Rattle.std.specs.Prelude.{◌≡◌, ◌⊎◌, ℕ, ◌+◌, ◌-◌, ◌<◌, ◌≤◌, Bool, false, List, length, Some}
+use Rattle.std.specs.Prelude.{◌≡◌, ◌⊎◌, ℕ, ◌+◌, ◌-◌, ◌<◌, ◌≤◌, Bool, true, false, ◌||◌, List, length, Some}
 use Rattle.tmds_word.specs.Bits.{window}
 use Rattle.tmds_word.specs.Column.{Column}
-use Rattle.tmds_word.specs.Taps.{HasSmallSkew}
-use Rattle.terc4.specs.Tables.{is_control}
+use Rattle.tmds_word.specs.Taps.{IsTap, HasSmallSkew}
+use Rattle.terc4.specs.Columns.{is_control_column, is_twelve_or_more}
+use Rattle.terc4.specs.Tables.{is_control, is_guard, value_in, terc_words}
 use Rattle.lane_align.specs.Lanes.{IsRun}
+use Rattle.lane_deskew.specs.Triples.{AreTriple}
 use Rattle.island_pack.specs.Periods.{Period}
-use Rattle.island_pack.specs.Sparse.{unlike_at, IsSparseInPayload}
+use Rattle.island_pack.specs.Sparse.{column_at, unlike_at, IsSparseInPayload}
 use Rattle.link_sink.specs.Sinks.{Fed}
 use Rattle.link_laws.specs.Laws.{EndsControl, AlignsUntil}
+use Rattle.link_laws.specs.Local.{ReceivedUntil}
 use Rattle.track_laws.specs.Laws.{Received, Slipped, SlipsInVideo}
 use Rattle.relock_sink.specs.Rivals.{IsConfirmed, HaveSameSkew}
-use Rattle.relock_sink.specs.Doubts.{IsContender, IsDoubted}
+use Rattle.relock_sink.specs.Doubts.{IsContender, IsDoubted, IsLetGo}
 use Rattle.relock_laws.specs.Refuted.{IsWholePeriod}
 
 -- A true alignment.
@@ -50,6 +53,35 @@ UntilIsUndoubted =
     → HasSmallSkew skews → (until : ℕ) → AlignsUntil ps sent received offset skews counts until → OneOfTwoIsSpared ps sent received until
     → (p q r d e f : ℕ) → IsDoubted x p q r d e f → ⊥
 
+-- Where any characters are received after the alignment.
+
+-- whether a word is a guard word of some lane: before a video data period, or at a data island
+abbrev pub is_guard_word : ℕ → Bool
+is_guard_word w = is_guard w || is_twelve_or_more (value_in terc_words w)
+
+-- If a word was received as a control word, it was sent as one. A control word was not received as a guard word.
+pub record IsUnmistaken (sent received : ℕ) : Type 0 where
+  pub control : is_control received ≡ true → is_control sent ≡ true
+  pub guard : is_control sent ≡ true → is_guard_word received ≡ true → ⊥
+
+pub record IsUnmistakenColumn (sent received : Column) : Type 0 where
+  pub blue : IsUnmistaken sent.blue received.blue
+  pub green : IsUnmistaken sent.green received.green
+  pub red : IsUnmistaken sent.red received.red
+
+-- This holds of the fifteen columns up to the end of each control period, as it was received, and of the three after it.
+abbrev pub HasClearEnds : List Column → List Column → Type 0
+HasClearEnds sent received =
+    (i k : ℕ) → is_control_column (column_at received i) ≡ true → is_control_column (column_at received (i + 1)) ≡ false → i < k + 15 → k ≤ i + 3
+    → IsUnmistakenColumn (column_at sent k) (column_at received k)
+
+-- Then no other edges contend with the alignment.
+abbrev pub ClearHasNoContender : Type 0
+ClearHasNoContender =
+    (ps : List Period) (sent received : List Column) (offset : ℕ) (skews counts : List ℕ) (x : Fed) (until : ℕ) → ReceivedUntil ps sent received until
+    → IsTap received offset skews counts x.blue x.green x.red → HasSmallSkew skews → AlignsUntil ps sent received offset skews counts until
+    → HasClearEnds sent received → (p q r d e f : ℕ) → IsContender x p q r d e f → ⊥
+
 -- Another alignment.
 
 -- twelve control words end at a place, and no other follows there
@@ -79,6 +111,29 @@ abbrev pub DoubtsAtSecond : Type 0
 DoubtsAtSecond =
     (fed : Fed) (p q r d e f i j k : ℕ) → IsConfirmed fed p q r → AreTwoPeriods fed d e f i j k → p < d → q < e → r < f → (HaveSameSkew p q r d e f → ⊥)
     → IsDoubted fed p q r i j k
+
+-- control words end near each other on all three lanes, in whatever phase
+abbrev pub EndTogether : Fed → (d e f : ℕ) → Type 0
+EndTogether fed d e f = AreTriple (EndsRun fed.blue) (EndsRun fed.green) (EndsRun fed.red) d e f
+
+-- Some end between two control periods: after the first on some lane, and before the second on each. They have the skew of the second.
+abbrev pub KeepSkewBetween : Fed → (d e f i j k : ℕ) → Type 0
+KeepSkewBetween fed d e f i j k =
+    (b g r : ℕ) → EndTogether fed b g r → (d < b) ⊎ ((e < g) ⊎ (f < r)) → b < i → g < j → r < k → HaveSameSkew b g r i j k
+
+-- two control periods of one skew whose guard bands are received whole; other control periods may end between them at this skew
+pub record AreOfOneSkew (fed : Fed) (d e f i j k : ℕ) : Type 0 where
+  pub first : IsWholePeriod fed d e f
+  pub second : IsWholePeriod fed i j k
+  pub later : d < i
+  pub same_skew : HaveSameSkew d e f i j k
+  pub between : KeepSkewBetween fed d e f i j k
+
+-- an earlier alignment with another skew is let go at the second of them
+abbrev pub LetsGoAtSecond : Type 0
+LetsGoAtSecond =
+    (fed : Fed) (p q r d e f i j k : ℕ) → IsConfirmed fed p q r → AreOfOneSkew fed d e f i j k → p < d → q < e → r < f → (HaveSameSkew p q r d e f → ⊥)
+    → IsLetGo fed p q r i j k
 
 -- Examples.
 

@@ -19,7 +19,7 @@ use Rattle.relock_sink.specs.Refuting.{IsSlipFirst, IsLastUnrefuted, refuting_ru
 use Rattle.relock_laws.specs.Settled.{IsGoodPeriod, IsCalmFrom, IsAgain}
 use Rattle.relock_laws.specs.Refuted.{GoesOn, OpensAt}
 use Rattle.relock_laws.specs.RefutingLaws.{EndsBy}
-use Rattle.relock_laws.specs.Doubted.{OneOfTwoIsSpared, IsQuiet}
+use Rattle.relock_laws.specs.Doubted.{OneOfTwoIsSpared, KeepSkewBetween}
 
 -- the places of a capture at which its epochs begin, which end by a rule
 pub data IsStartBy (r : EpochRule) : Fed → ℕ → Type 0 where
@@ -124,18 +124,16 @@ HasWholeExample =
     × IsAgain ps sent received offset skews counts x fed before a d e f × IsWholeGoodPeriod fed d e f × OneOfTwoIsSpared ps sent received (a + 12)
     × EndsBy refuting_rule fed place
 
--- Two good control periods in a row.
+-- Two good control periods of one skew, one after the other.
 
--- they have one skew, their guard bands are received whole, and no run of control words ends between them on any lane; what else the
--- lanes have is free
+-- they have one skew, and their guard bands are received whole; where control words end near each other on all lanes between them, it
+-- is at this skew; what else the lanes have is free
 pub record AreTwoGood (fed : Fed) (d e f i j k : ℕ) : Type 0 where
   pub first : IsWholeGoodPeriod fed d e f
   pub second : IsWholeGoodPeriod fed i j k
   pub later : d < i
   pub same_skew : HaveSameSkew d e f i j k
-  pub blue_quiet : IsQuiet fed.blue d i
-  pub green_quiet : IsQuiet fed.green e j
-  pub red_quiet : IsQuiet fed.red f k
+  pub between : KeepSkewBetween fed d e f i j k
 
 -- an epoch has the last twelve characters of the second, and its alignment has their skew, whatever opens by another one; or it ends
 -- there at a stray
@@ -159,8 +157,15 @@ RecoversAtSecond =
     → (start : ℕ) × IsStartBy refuting_rule fed start
     × ((p q r : ℕ) × IsSettledBy refuting_rule fed i j k start p q r × HaveSameSkew p q r i j k × IsLastUnrefuted (rest_of start fed))
 
--- there are lanes with two such control periods in a row, and before them an alignment of another skew that is confirmed
+-- there are lanes with two such control periods, and before them an alignment of another skew that is confirmed
 abbrev pub HasSecondExample : Type 0
 HasSecondExample =
     (fed : Fed) × (p q r d e f i j k : ℕ) × IsConfirmed fed p q r × AreTwoGood fed d e f i j k
     × (p < d) × (q < e) × (r < f) × (HaveSameSkew p q r d e f → ⊥)
+
+-- there are such a tap, bits before it in which the first of two such control periods ends, and the second one in the tap
+abbrev pub HasTwiceExample : Type 0
+HasTwiceExample =
+    (ps : List Period) × (sent received : List Column) × (offset : ℕ) × (skews counts : List ℕ) × (x fed : Fed) × (before : List ℕ) × (a d e f i j k : ℕ)
+    × IsAgain ps sent received offset skews counts x fed before a i j k × AreTwoGood fed d e f i j k × OneOfTwoIsSpared ps sent received (a + 12)
+    × (length fed.blue + length fed.green + length fed.red < 4000)

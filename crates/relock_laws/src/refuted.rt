@@ -1,6 +1,6 @@
 //! Where the epochs of three lanes end whose alignment is let go too where it is refuted, or doubted twice in a row.
 ghost use Rattle.relock_laws.specs.RefutingLaws.{PayloadIsLastUnrefuted, UntilIsLastUnrefuted, EndsOrIsUnrefuted, OneRefutingEnd, SlipStands, SlipEndsAlone, HasUnrefutedExample, HasSlipFirstExample};
-ghost use Rattle.relock_laws.specs.RefutingSettled.{SettlesByRefuting, SettlesUnrefuted, SettledHasSkew, SameSkewIsLast, SameSkewIsAccounted, RecoversUnrefuted, HasWholeExample, SettlesAtSecond, SecondHasSkew, RecoversAtSecond, HasSecondExample};
+ghost use Rattle.relock_laws.specs.RefutingSettled.{SettlesByRefuting, SettlesUnrefuted, SettledHasSkew, SameSkewIsLast, SameSkewIsAccounted, RecoversUnrefuted, HasWholeExample, SettlesAtSecond, SecondHasSkew, RecoversAtSecond, HasSecondExample, HasTwiceExample};
 
 /// The lanes of a tap whose damage lies in pixels and packets alone have one epoch.
 pub fn payload_is_last_unrefuted()
@@ -73,8 +73,9 @@ pub fn whole_example()
     ensures { HasWholeExample }
 {}
 
-/// At the second of two such control periods in a row, of one skew, the alignment of that epoch has their skew, whatever opens by
-/// another one, or the epoch ends there at a stray; and it has none where few characters are damaged from there on.
+/// At the second of two such control periods of one skew the alignment of that epoch has their skew, whatever opens by
+/// another one, or the epoch ends there at a stray; and it has none where few characters are damaged from there on. Other control
+/// periods may end between them, at this skew.
 pub fn settles_at_second()
     ensures some { SettlesAtSecond }
     ensures skew { SecondHasSkew }
@@ -85,8 +86,13 @@ pub fn recovers_at_second()
     ensures { RecoversAtSecond }
 {}
 
-/// The premise can be met: lanes with two such control periods in a row, one of which gains a character before them, so that an
+/// The premise can be met: lanes with two such control periods, one of which gains a character before them, so that an
 /// earlier alignment, at which a period opens, has another skew.
 pub fn second_example()
     ensures { HasSecondExample }
+{}
+
+/// So can those on a tap that comes after other bits: the first of two such control periods ends in these.
+pub fn twice_example()
+    ensures { HasTwiceExample }
 {}

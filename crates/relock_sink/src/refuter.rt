@@ -27,7 +27,7 @@ const AHEAD: u64 = RUN_BITS as u64 - SHOWN;
 const BACK: u64 = 280;
 
 /// Looks for the first stray of three lanes, whether their first alignment is confirmed, and for edges for which it is let go.
-#[derive(Clone, Copy, Debug)]
+#[derive(Clone, Copy)]
 pub struct Refuter {
     relock: Relock,
     rivals: RivalSearch,

@@ -28,7 +28,7 @@ const AHEAD: u64 = RUN_BITS as u64 - TWO_WORDS;
 const BEHIND: u64 = 90;
 
 /// Looks for the first stray of three lanes, and whether their first alignment is confirmed.
-#[derive(Clone, Copy, Debug)]
+#[derive(Clone, Copy)]
 pub struct Relock {
     strays: Strays,
     alignment: AlignmentFinder,

@@ -28,7 +28,7 @@ const WORD_BITS: u64 = 10;
 const TWO_WORDS: u64 = 20;
 
 /// What later edges say of the alignment in use.
-#[derive(Clone, Copy, Debug)]
+#[derive(Clone, Copy)]
 pub(crate) enum Verdict {
     /// No guard band is received whole at them, or no control period ends there by the alignment.
     Nothing,

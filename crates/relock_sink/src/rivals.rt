@@ -18,7 +18,7 @@ use track_sink::LentLanes;
 const RUN: u64 = RUN_BITS as u64;
 
 /// What is known of an epoch's first alignment.
-#[derive(Clone, Copy, Debug)]
+#[derive(Clone, Copy)]
 pub(crate) enum Own {
     /// None was found yet.
     Sought,
@@ -29,7 +29,7 @@ pub(crate) enum Own {
 }
 
 /// How far an epoch was looked through for edges for which its first alignment is let go.
-#[derive(Clone, Copy, Debug)]
+#[derive(Clone, Copy)]
 pub(crate) struct RivalSearch {
     alignments: AlignmentFinder,
     own: Own,

@@ -15,7 +15,7 @@ type Text = ArrayVec<u8, 512>;
 
 /// What is counted of a content that was sent, damaged and recovered. Each count but `columns` stands still at the
 /// greatest u64.
-#[derive(Clone, Copy, Debug, PartialEq, Eq)]
+#[derive(Clone, Copy)]
 pub struct Counts {
     /// The columns from the first full alignment on.
     pub columns: u64,

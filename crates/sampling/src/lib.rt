@@ -1,4 +1,9 @@
-//! What becomes of the generator's content once it was sent, damaged and recovered.
+//! The generator's content after damage and recovery, counted (`sample`).
+//!
+//! `hits_of` returns the hits that the definition gives for the generator's capture. The counts of a `Tally` are those of the
+//! content listing of all that was reported to it, whatever that is. If a raster is received from after its first sync lines
+//! on, the frames reported are those after the first, in order, if their sync lines are received. The ten lines are written
+//! whole, or a part of them if a write fails.
 #![tactic(auto)]
 
 mod counter;
@@ -11,8 +16,3 @@ mod tally;
 pub use counts::{Counts, write_counts};
 pub use hits::hits_of;
 pub use tally::Tally;
-
-#[cfg(test)]
-mod hits_tests;
-#[cfg(test)]
-mod tests;

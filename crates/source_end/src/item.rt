@@ -10,7 +10,7 @@ use std::alloc::Global;
 use std::marker::Model;
 
 /// Neighbouring control columns of one value.
-#[derive(Clone, Copy, Debug, PartialEq, Eq)]
+#[derive(Clone, Copy)]
 pub struct Run {
     /// HSYNC in bit 0, VSYNC in bit 1, CTL0 to CTL3 in bits 2 to 5: below 64 in a stream.
     pub value: u8,

@@ -13,7 +13,7 @@ use std::marker::{Model, PhantomData};
 use thiserror::Error;
 
 /// Why an item is refused, tried in this order.
-#[derive(Clone, Copy, Debug, PartialEq, Eq, Error)]
+#[derive(Clone, Copy, Debug, Error)]
 pub enum ItemFault {
     /// A control value of 64 or more, a run of no column or of more than 20,000,000, a video data
     /// period of no pixel or of more than 4,096, a sync value of 4 or more, or a data island of no

@@ -1,4 +1,10 @@
-//! The sender: items, the lists of them that conform, and the columns that spell them.
+//! The sender: periods, conforming streams of them, rasters, and the columns that spell them.
+//!
+//! `Items::push` refuses an item exactly if it has a fault, and names the first. A `Stream` conforms, and the columns of
+//! `spell` spell it; after a refusal the sink has taken the first of some columns that spell it. `DviItems` and `DviStream` do
+//! the same without guard bands. `raster` returns the raster of the definition (`raster_of`), or refuses the content exactly by
+//! its first fault. A raster that is not refused conforms and has the columns of all its lines. The generator's content is that
+//! of its definition, and has a raster.
 #![tactic(auto)]
 
 mod content;

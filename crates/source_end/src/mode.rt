@@ -5,7 +5,7 @@ ghost use Rattle.source_end.specs.Raster.{active, front, sync, back, total};
 
 /// A video mode. A raster wants each of its numbers to be 1 to 4,096, and the back porch across to be
 /// at least 14.
-#[derive(Clone, Copy, Debug, PartialEq, Eq)]
+#[derive(Clone, Copy)]
 pub struct Mode {
     /// Columns of a line: active, front porch, sync, back porch.
     pub across: [u16; 4],

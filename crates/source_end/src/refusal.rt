@@ -14,7 +14,7 @@ use outside_io::NoMemory;
 use thiserror::Error;
 
 /// Why there is no raster of a content in a mode, tried in this order over the whole content.
-#[derive(Clone, Copy, Debug, PartialEq, Eq, Error)]
+#[derive(Clone, Copy, Debug, Error)]
 pub enum RasterFault {
     /// The first number of the mode that is out of range, counted active, front, sync and back across
     /// and then down.

@@ -2,12 +2,12 @@
 //! apart from `source_end`.
 ghost use Rattle.std.specs.Prelude.{◌≡◌, []};
 
+use island_pack::Packet;
 use outside_io::NoMemory;
 use parts::{Part, item, null_packet};
-use rows::{LISTS, RUNS, SPELLED};
-use source_end::{Island, ItemFault, Items, Pixels, Run, Runs};
+use rows::{LISTS, ListRow, RUNS, SPELLED};
+use source_end::{Island, ItemFault, Items, Pixels, Run, Runs, Stream};
 use std::alloc::Global;
-use std::process::Abort;
 use std::test::*;
 use tmds_word::{ColumnSink, Word};
 
@@ -20,27 +20,49 @@ mod rows;
 /// What the last item's push answers, and what the list's close then answers, its columns or its fault.
 type Answers = (Result<(), ItemFault>, Result<u32, ItemFault>);
 
-fn answers(rt: &impl Abort, alloc: Global, list: &[Part]) -> Result<Answers, Fail> {
+/// The kind of an answer, and its number.
+fn numbers_of(answer: Result<u32, ItemFault>) -> [u32; 2] {
+    match answer {
+        Ok(columns) => [0, columns],
+        Err(fault) => [1, fault as u32],
+    }
+}
+
+/// Whether two answers are the same.
+fn are_same(one: Answers, other: Answers) -> bool {
+    numbers_of(one.0.map(|_| 0)) == numbers_of(other.0.map(|_| 0))
+        && numbers_of(one.1) == numbers_of(other.1)
+}
+
+/// Whether each item but the last is taken, and what is then answered.
+fn answers(alloc: Global, list: &[Part]) -> (bool, Answers) {
     let mut items = Items::new(alloc);
     let mut last = Ok(());
+    let mut taken = true;
     for part in list {
-        assert!(rt; last.is_ok());
-        last = items.push(item(alloc, part)?);
+        taken = taken && last.is_ok();
+        last = match item(alloc, part) {
+            Ok(item) => items.push(item),
+            Err(fault) => Err(fault),
+        };
     }
-    let closed = match items.close() {
-        Ok(stream) => Ok(stream.columns()),
-        Err(fault) => Err(fault),
-    };
-    Ok((last, closed))
+    match items.close() {
+        Ok(stream) => (taken, (last, Ok(stream.columns()))),
+        Err(fault) => (taken, (last, Err(fault))),
+    }
+}
+
+/// Whether the list of a row is answered so.
+fn is_answered(alloc: Global, (pushed, closed, list): &ListRow) -> bool {
+    let (taken, found) = answers(alloc, list);
+    taken && are_same(found, (*pushed, *closed))
 }
 
 #[test]
-fn lists(rt: HostRuntime) -> Result<(), Fail> {
-    for (pushed, closed, list) in &LISTS {
-        let answers = answers(&rt, rt.alloc(), list)?;
-        assert_eq!(rt; answers, (*pushed, *closed));
+fn lists(rt: HostRuntime) {
+    for row in &LISTS {
+        assert!(rt; is_answered(rt.alloc(), row));
     }
-    Ok(())
 }
 
 /// Keeps the columns that it takes.
@@ -80,19 +102,13 @@ fn no_columns(alloc: Global) -> Columns
     }
 }
 
-/// The columns of a list of items.
-fn columns_of(alloc: Global, list: &[Part]) -> Result<Columns, Fail> {
+/// The stream of a list of items.
+fn stream_of(alloc: Global, list: &[Part]) -> Result<Stream, ItemFault> {
     let mut items = Items::new(alloc);
     for part in list {
         items.push(item(alloc, part)?)?;
     }
-    let stream = items.close()?;
-    let mut columns = no_columns(alloc);
-    stream.spell(&mut columns)?;
-    if columns.words.len() != stream.columns() as usize {
-        return Err("another number of columns")?;
-    }
-    Ok(columns)
+    items.close()
 }
 
 /// Whether columns are spelled so.
@@ -111,11 +127,19 @@ fn have(columns: &[[Word; 3]], spelling: &[(u32, [u16; 3])]) -> bool {
     left.next().is_none()
 }
 
+/// Whether a stream's columns are so many and are spelled so.
+fn spells(alloc: Global, stream: &Stream, spelling: &[(u32, [u16; 3])]) -> bool {
+    let mut columns = no_columns(alloc);
+    stream.spell(&mut columns).is_ok()
+        && columns.words.len() == stream.columns() as usize
+        && have(&columns.words, spelling)
+}
+
 #[test]
 fn spelled(rt: HostRuntime) -> Result<(), Fail> {
     for (spelling, list) in &SPELLED {
-        let columns = columns_of(rt.alloc(), list)?;
-        assert!(rt; have(&columns.words, spelling));
+        let stream = stream_of(rt.alloc(), list)?;
+        assert!(rt; spells(rt.alloc(), &stream, spelling));
     }
     Ok(())
 }
@@ -140,12 +164,27 @@ static LONG_LIST: [Part; 3] = [
     Part::Runs(&[(0, 12)]),
 ];
 
+/// Whether a stream has 289 columns, and those of its line these digests.
+fn has_digests(alloc: Global, stream: &Stream, wanted: [u32; 3]) -> bool {
+    let mut columns = no_columns(alloc);
+    stream.spell(&mut columns).is_ok()
+        && columns.words.len() == 289
+        && stream.columns() == 289
+        && digests(&columns.words[14..277]) == wanted
+}
+
 #[test]
 fn long_line(rt: HostRuntime) -> Result<(), Fail> {
-    let columns = columns_of(rt.alloc(), &LONG_LIST)?;
-    assert!(rt; columns.words.len() == 289);
-    assert_eq!(rt; digests(&columns.words[14..277]), [14041, 50879, 50462]);
+    let stream = stream_of(rt.alloc(), &LONG_LIST)?;
+    assert!(rt; has_digests(rt.alloc(), &stream, [14041, 50879, 50462]));
     Ok(())
+}
+
+/// Whether runs have so many columns, and announce these periods.
+fn are_runs(runs: &Runs, columns: u32, video: bool, island: bool) -> bool {
+    runs.columns() == columns
+        && runs.announces_video() == video
+        && runs.announces_island() == island
 }
 
 #[test]
@@ -153,11 +192,9 @@ fn runs(rt: HostRuntime) -> Result<(), Fail> {
     let mut runs = Runs::new(rt.alloc());
     for ((value, count), (columns, video, island)) in RUNS {
         runs.push(Run { value, count })?;
-        assert_eq!(rt; runs.columns(), columns);
-        assert!(rt; runs.announces_video() == video);
-        assert!(rt; runs.announces_island() == island);
+        assert!(rt; are_runs(&runs, columns, video, island));
     }
-    assert_eq!(rt; runs.as_slice().len(), 8);
+    assert!(rt; runs.as_slice().len() == 8);
     Ok(())
 }
 
@@ -167,8 +204,7 @@ fn pixels(rt: HostRuntime) -> Result<(), Fail> {
     assert!(rt; pixels.is_empty());
     pixels.push(1, 2, 3)?;
     pixels.push(4, 5, 6)?;
-    assert!(rt; pixels.len() == 2);
-    assert!(rt; pixels.as_slice() == [1, 2, 3, 4, 5, 6].as_slice());
+    assert!(rt; pixels.len() == 2 && pixels.as_slice() == [1, 2, 3, 4, 5, 6].as_slice());
     Ok(())
 }
 
@@ -180,13 +216,29 @@ fn add_two(island: &mut Island) -> Result<(), Fail> {
     Ok(())
 }
 
+/// Whether a packet is the Null packet, with a sync value in each column.
+fn is_null(packet: &Packet, sync: u8) -> bool {
+    packet.header == [0; 3] && packet.bodies == [0; 28] && packet.sync == [sync; 32]
+}
+
+/// Whether an island has these two packets and guard columns.
+fn has_two(island: &Island) -> bool {
+    let packets = match island.as_slice() {
+        [first, second] => is_null(first, 3) && is_null(second, 1),
+        _ => false,
+    };
+    packets
+        && !island.is_empty()
+        && island.len() == 2
+        && island.opening() == [1, 2]
+        && island.closing() == [3, 1]
+}
+
 #[test]
 fn island(rt: HostRuntime) -> Result<(), Fail> {
     let mut island = Island::new(rt.alloc(), [1, 2], [0, 0]);
     assert!(rt; island.is_empty());
     add_two(&mut island)?;
-    assert!(rt; !island.is_empty() && island.len() == 2);
-    assert!(rt; island.opening() == [1, 2] && island.closing() == [3, 1]);
-    assert!(rt; island.as_slice() == [null_packet(3), null_packet(1)].as_slice());
+    assert!(rt; has_two(&island));
     Ok(())
 }

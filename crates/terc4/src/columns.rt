@@ -13,7 +13,7 @@ use tmds_word::Word;
 const ENOUGH: u8 = 2;
 
 /// What the three words of a column say together.
-#[derive(Clone, Copy, Debug, PartialEq, Eq)]
+#[derive(Clone, Copy)]
 pub enum ColumnKind {
     /// Two or three of the words are control words.
     Control,

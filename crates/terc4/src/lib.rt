@@ -1,5 +1,8 @@
-//! The characters of a TMDS link that stand for no pixel: control words, TERC4 words and guard words
-//! (HDMI 1.4, chapter 5), and the kinds of columns that they make.
+//! The characters that are not pixels: control, TERC4 and guard characters (HDMI 1.4, chapter 5).
+//!
+//! The tables are those of the standard. No control character is a TERC4 or guard character, and the island guard character of
+//! lanes 1 and 2 is no TERC4 character. `column_kind` returns the kind of a column, and the guard functions return how many of
+//! its characters are correct. Laws give the transitions of these characters, and where two control characters can overlap.
 #![tactic(auto)]
 
 mod columns;
@@ -16,6 +19,3 @@ pub use values::{control, control_of, nibble, nibble_code, terc};
 /// How many control words stand in a row at least in each control period: locks and edges stand on as many (HDMI 1.4,
 /// section 5.4.2).
 pub const RUN: u32 = 12;
-
-#[cfg(test)]
-mod tests;

@@ -11,7 +11,7 @@ const WRONG: usize = 9216;
 
 /// The disparity of a lane all of whose characters are rightly coded so far, or that one was not. Contracts see it as
 /// the number of its step, and `disparity_at` says what that stands for.
-#[derive(Clone, Copy, Debug, PartialEq, Eq)]
+#[derive(Clone, Copy)]
 pub struct Balance {
     /// Where the row of its step begins in the table: 1,024 times the step. A step is half of the disparity, counted from
     /// -4, which is even and from -8 to 8; it is 9 where a character was wrong.

@@ -9,7 +9,7 @@ use tmds_word::Word;
 
 /// Codes the bytes of one lane in order, from a video period's first pixel on. Contracts see it as
 /// the disparity of the characters that it gave.
-#[derive(Debug, Drop)]
+#[derive(Drop)]
 pub struct VideoCoder {
     /// Where the row of the disparity begins in the table: 256 times half of it, counted from -4. The disparity
     /// is even and from -8 to 8.

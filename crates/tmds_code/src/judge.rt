@@ -12,7 +12,7 @@ use tmds_word::Word;
 
 /// Hears the characters of one lane in order, from a video period's first pixel on, and says of each
 /// whether it is rightly coded.
-#[derive(Clone, Copy, Debug, PartialEq, Eq)]
+#[derive(Clone, Copy)]
 pub struct CodeJudge {
     /// How many characters were heard, at most 4,097.
     count: u16,

@@ -1,4 +1,9 @@
-//! TMDS video coding: bytes to characters and back, and whether characters are rightly coded.
+//! TMDS video coding: from bytes to characters and back.
+//!
+//! Coding is the relation of DVI 1.0, in both directions. `encode` returns the one character for a byte and a disparity.
+//! `decode` accepts all 1,024 characters and returns the byte of a coded one. The disparity of a `VideoCoder` is even and from
+//! -8 to 8. A `CodeJudge` says of every character whether it is coded correctly. Characters and bytes are read from tables,
+//! which are proved entry by entry.
 #![tactic(auto)]
 
 mod balance;
@@ -8,8 +13,6 @@ mod judge;
 pub mod laws;
 mod stepping;
 mod tables;
-#[cfg(test)]
-mod tests;
 
 pub use balance::Balance;
 pub use coder::VideoCoder;

@@ -6,7 +6,7 @@ ghost use Rattle.tmds_word.specs.Words.{columns_of};
 use crate::Word;
 
 /// Columns that are lent: the characters of three lanes, as many of each, as numbers.
-#[derive(Clone, Copy, Debug)]
+#[derive(Clone, Copy)]
 pub struct Columns<'a> {
     blue: &'a [u16],
     green: &'a [u16],

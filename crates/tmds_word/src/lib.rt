@@ -1,4 +1,9 @@
-//! TMDS characters, rows of the bits that a lane sends, and what takes columns of three lanes.
+//! Characters, bits and columns of a TMDS link.
+//!
+//! A `Word` is a number below 1,024. A `BitRow` is the list of bits that were pushed, stored as packed bytes; its windows,
+//! copies and cuts are those of the list. `Columns` lends columns as three slices, with equally many characters of each lane,
+//! and a `ColumnSink` takes them singly or many at a time. The crate defines columns, the characters of bits, parts of a lane's
+//! bits, and taps. Its laws are about transitions and balance.
 #![tactic(auto)]
 
 mod column;
@@ -15,9 +20,6 @@ pub use lane_bits::LaneBits;
 pub use packing::pack_four;
 pub use row::BitRow;
 pub use word::Word;
-
-#[cfg(test)]
-mod tests;
 
 /// How many bits two lanes of a link may be apart at most: seven characters, fewer than any run of control characters has.
 pub const GREATEST_SKEW: u32 = 70;

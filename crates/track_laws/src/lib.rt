@@ -1,4 +1,9 @@
-//! What follows from the laws on taps.
+//! Laws about lanes that lose bits: how many epochs there are, where they begin, and what they report.
+//!
+//! If no lane slips, there is one epoch. If one lane slips once within a line, there are at most two, and the second begins on
+//! that lane, at the next control period. The first reports what was sent before the slip, the second all that was sent from
+//! its first full alignment on. Of all bits exactly one list of events is reported. There is no code here: each function is a
+//! law, and its contract states it.
 #![tactic(auto)]
 
 ghost use Rattle.track_laws.specs.Laws.{SecondReported, EndStays, AtMostTwo, CalmHasNoEnd, OneTrack, FirstReported, PayloadHasNoEnd, OneEpoch, SomeTrack, ReportedStarts, FirstEpoch, SecondEpoch, SlipNoticed, SlipPasses, HasSlipExample, HasTrackLocalExample};

@@ -1,5 +1,10 @@
-//! What is reported of three lanes that may lose bits: epochs, each of which begins where one before ends, as where a lane lost
-//! some.
+//! Recovers three lanes that may lose bits, epoch by epoch.
+//!
+//! An `EpochSink` reports to a `TrackEar` the one list of events and slips of the lanes' epochs (`IsTrackBy`), in whatever
+//! feeds the bits arrive. Before the end it may hold back what the last few bits of a lane decide. An ear that uses columns
+//! gets each event at its column of its epoch (`IsTrackAt`; so far `HasTrackedAt`, of which there is one list). An epoch ends
+//! by the rule of the sink's `Watch`. In a `TrackSink` epochs end at strays (`IsTrack`), and at most 126 bits are undecided.
+//! The caller's own thread may feed (`feed_in_turn`). Only opening allocates; `restart` does not.
 #![tactic(auto)]
 
 mod ear;
@@ -17,9 +22,6 @@ pub use ear::{TrackEar, TrackOutcome};
 pub use sink::{EpochSink, TrackSink};
 pub use strays::Strays;
 pub use watch::{Cause, End, LentBits, LentLanes, Watch};
-
-#[cfg(test)]
-mod tests;
 
 /// How many bytes a lane's buffer has: for a feed, for what is held back before it, and for a load of eight bytes behind.
 const ROOM: usize = 4_224;

@@ -18,7 +18,7 @@ const STRETCH: u64 = 2560;
 const SPAN: u32 = RUN_BITS - 1;
 
 /// Looks for the first stray of three lanes.
-#[derive(Clone, Copy, Debug)]
+#[derive(Clone, Copy)]
 pub struct Strays {
     blue: Scout,
     green: Scout,

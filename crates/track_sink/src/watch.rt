@@ -6,7 +6,7 @@ ghost use Rattle.track_sink.specs.Rules.{IsRule, IsWatch};
 ghost use Rattle.track_sink.specs.Lents.{AreLent};
 
 /// Why an epoch ends.
-#[derive(Clone, Copy, Debug, PartialEq, Eq)]
+#[derive(Clone, Copy)]
 pub enum Cause {
     /// A lane lost the places of its characters.
     Slip(u8),
@@ -17,7 +17,7 @@ pub enum Cause {
 }
 
 /// An end of an epoch: why, and the place of the epoch at which the next one begins.
-#[derive(Clone, Copy, Debug, PartialEq, Eq)]
+#[derive(Clone, Copy)]
 pub struct End {
     pub cause: Cause,
     pub place: u64,

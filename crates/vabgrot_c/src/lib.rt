@@ -1,4 +1,47 @@
-//! The receiver and the sender of a link for C: `vabgrot.h` says what each call does, and what C owes.
+//! The calls of `vabgrot.h`. Their contracts hold if C keeps to the header's rules.
+//!
+//! Each call returns only the statuses of the header. `vabgrot_open` allocates; the other calls on a handle get no allocator.
+//! The calls without a handle have no state.
+//!
+//! `vabgrot_open`. OK: there was no receiver, and now there is one, of the kind with that number, fed no bits. MISUSE exactly
+//! if there was one or no kind has the number. Otherwise the handle is unchanged. Never FULL or TOOBIG.
+//!
+//! `vabgrot_feed`. Whatever the status, the receiver keeps its kind and represents the bits before and the first `taken` bits
+//! of each lane. The records and bytes are exactly the events that are reported of these in addition (`IsGainOfKind`), each
+//! with its column; for a link and for DVI no column is below that of an earlier record (`FollowInOrder`). `Feeds` says by the
+//! status what a call does. OK: all bits were taken. FULL: of each lane the bits before one place were taken, whole bytes or all
+//! of the lane, and some bits are left; fewer than 104 records or 12,327 bytes are left, or 400 and 12,622 if lanes may lose
+//! bits (`IsFullFor`); and the rest may be fed (`MayFeedRest`). MISUSE exactly if the receiver may not take the bits, as if it
+//! is not open. TOOBIG exactly if it may, and they are too many. After these two nothing is changed, in the receiver, the
+//! records and the bytes, and all counts are 0. Never NOMEM.
+//!
+//! `vabgrot_finish`. OK: with what is written now, everything is reported of the bits (`IsEndOfKind`), and the receiver is
+//! finished. For a link and for DVI this is the event that is left, at a column not below those before, whether the lanes were
+//! aligned, and how many columns they have. If lanes may lose bits it is all of their epochs, how many there are, and how many
+//! were aligned. `Finishes` says by the status what a call does. MISUSE exactly if the receiver is not open. FULL exactly if it
+//! is open and there is no record, or if lanes may lose bits and there is room for fewer than 392 records or 12,614 bytes
+//! (`IsShort`). A refusal changes nothing, and all counts are 0. Never NOMEM or TOOBIG.
+//!
+//! `vabgrot_restart`. OK exactly if there is a receiver: it is of its kind, fed no bits. Otherwise MISUSE, and nothing is
+//! changed (`Restarts`). `vabgrot_close`: there is none. No clause says that a restart allocates nothing or that closing frees
+//! the memory: tests do.
+//!
+//! `vabgrot_recover`, `vabgrot_check`. There is an outcome of the program's command over the bytes of the capture (`Does`:
+//! `recover link`, `recover dvi`, `recover track` or `recover relock`; `check`). OK, FAULTY, NOCAPTURE, UNALIGNED: its status
+//! is 0, 1, 3, 7, and the first `size` bytes of the buffer are its output. FULL: its output has `size` bytes, which do not fit,
+//! and the buffer has the first. MISUSE exactly if no reader has the number, and never from `vabgrot_check`. NOMEM says nothing
+//! of the buffer.
+//!
+//! `vabgrot_make`. The same for `make link`, `make dvi` and `make content` with the options of the tap (`words_of`). NOLISTING:
+//! the status is 3, and the buffer has the note, of `size` bytes, or as much of it as fits. MISUSE exactly if no maker has the
+//! number or the command line takes no such options (`IsTaken`). No other status.
+//!
+//! `vabgrot_encode_run`, `_video_guard`, `_pixels`, `_island_guard`, `_packet`. OK: `columns` is how many columns the part has,
+//! they are in the first places of the rows, and the rest of each row is unchanged (`Lays`). They are control columns of the
+//! value, two guard columns, or a guard column of the sync value. Of pixels they spell the line, each lane coded from disparity
+//! 0. Of a packet they carry it with the parities of its blocks, as its island's first or a later one. FULL: a row is shorter
+//! than `columns`. MISUSE exactly if there is no such part (`IsRun`, `AreLine`, `sync < 4`, `IsPacket`). Then all rows are
+//! unchanged. No other status.
 #![tactic(auto)]
 
 ghost use Rattle.std.specs.Prelude.{◌≡◌, ◌⊎◌, ◌<◌, ◌/◌, ℤ, pos, List, [], ◌∷◌, length, take, replicate, map, None};
@@ -18,17 +61,17 @@ ghost use Rattle.c_capture.specs.declared.status.ListingStatus.{ListingStatus};
 ghost use Rattle.column_rows.specs.Laid.{AreLine, IsPacket, IsRun, Lays, packet_of, rows_of};
 ghost use Rattle.column_rows.specs.Statuses.{code_of as row_code};
 ghost use Rattle.column_rows.specs.declared.laid.RowStatus.{RowStatus};
-ghost use Rattle.c_room.specs.Handles.{IsHandle, IsOfKind, Holds, IsOpen, MayFeedAll, AreFewMore};
-ghost use Rattle.c_room.specs.KindRooms.{IsFullFor, IsShort};
+ghost use Rattle.c_room.specs.Calls.{Feeds, Finishes, Restarts, state_of};
+ghost use Rattle.c_room.specs.Handles.{IsHandle, Holds};
 ghost use Rattle.c_room.specs.Kinds.{number_of, IsNoKind};
 ghost use Rattle.c_room.specs.Orders.{FollowInOrderOf};
 ghost use Rattle.c_room.specs.Reports.{IsGainOfKind, IsEndOfKind, counted};
-ghost use Rattle.c_room.specs.Statuses.{code_of, IsOpenStatus, IsFeedStatus, IsEndStatus};
+ghost use Rattle.c_room.specs.Statuses.{code_of, IsOpenStatus};
 ghost use Rattle.c_room.specs.Takes.{no_counts, grown_first};
 ghost use Rattle.c_room.specs.TrackWritten.{AreTold};
 ghost use Rattle.c_room.specs.declared.kind.Kind.{Kind as KindValue};
 ghost use Rattle.c_room.specs.declared.status.Status.{Status as StatusValue};
-ghost use Rattle.c_room.specs.declared.status.Status.TheVariants.{Done, Full, Misuse, TooMany, NoMemory};
+ghost use Rattle.c_room.specs.declared.status.Status.TheVariants.{Done, Full, Misuse, TooMany};
 
 use c_capture::{LentTap, check, make, recover};
 use c_room::{BitCounts, CallerLanes, Handle, Record};
@@ -88,14 +131,11 @@ pub extern "C" fn vabgrot_feed(
     ensures reported { (kind : KindValue) (fed : Fed) → Holds handle.old.slot.value kind fed
         → (told : List TrackEventAt) × IsGainOfKind kind fed (grown_first answer.new.taken fed blue.now green.now red.now) told
         × AreTold told answer.new.events events.new answer.new.bytes bytes.new }
-    ensures done { result ≡ code_of Done → answer.new.taken ≡ bits.now }
-    ensures full { result ≡ code_of Full → (kind : KindValue) × IsOfKind handle.old.slot.value kind × IsFullFor kind (length events.new) (length bytes.new) answer.new.events answer.new.bytes }
-    ensures misuse { result ≡ code_of Misuse → MayFeedAll handle.old.slot.value blue.now green.now red.now bits.now → ⊥ }
-    ensures many { result ≡ code_of TooMany → AreFewMore handle.old.slot.value bits.now → ⊥ }
-    ensures refused { (result ≡ code_of Misuse) ⊎ (result ≡ code_of TooMany) → (handle.new.slot.value ≡ handle.old.slot.value) × (answer.new.taken ≡ no_counts) }
+    ensures does { (status : StatusValue) × (result ≡ code_of status)
+        × Feeds blue.now green.now red.now bits.now (state_of handle.old.slot.value events.old bytes.old)
+        status (state_of handle.new.slot.value events.new bytes.new) answer.new.events answer.new.bytes answer.new.taken }
+    ensures counts { (answer.new.columns ≡ 0) × (answer.new.aligned ≡ 0) }
     ensures in_order { (kind : KindValue) (fed : Fed) → Holds handle.old.slot.value kind fed → FollowInOrderOf kind fed (take answer.new.events events.new) }
-    ensures memory { result ≡ code_of NoMemory → ⊥ }
-    ensures kinds { (status : StatusValue) × IsFeedStatus status × (result ≡ code_of status) }
 {
     let lanes = CallerLanes {
         blue,
@@ -129,13 +169,11 @@ pub extern "C" fn vabgrot_finish(
     ensures reported { (kind : KindValue) (fed : Fed) → Holds handle.old.slot.value kind fed → result ≡ code_of Done
         → (told : List TrackEventAt) × IsEndOfKind kind fed (counted answer.new.columns answer.new.aligned) told
         × AreTold told answer.new.events events.new answer.new.bytes bytes.new }
-    ensures done { result ≡ code_of Done → IsOpen handle.new.slot.value → ⊥ }
-    ensures full { result ≡ code_of Full → (kind : KindValue) × IsOfKind handle.old.slot.value kind × IsShort kind (length events.new) (length bytes.new) }
-    ensures misuse { result ≡ code_of Misuse → IsOpen handle.old.slot.value → ⊥ }
-    ensures refused { (result ≡ code_of Misuse) ⊎ (result ≡ code_of Full) → (handle.new.slot.value ≡ handle.old.slot.value) × (answer.new.events ≡ 0) }
+    ensures does { (status : StatusValue) × (result ≡ code_of status)
+        × Finishes (state_of handle.old.slot.value events.old bytes.old) status (state_of handle.new.slot.value events.new bytes.new)
+        answer.new.events answer.new.bytes (counted answer.new.columns answer.new.aligned) }
+    ensures taken { answer.new.taken ≡ no_counts }
     ensures in_order { (kind : KindValue) (fed : Fed) → Holds handle.old.slot.value kind fed → FollowInOrderOf kind fed (take answer.new.events events.new) }
-    ensures others { (result ≡ code_of NoMemory) ⊎ (result ≡ code_of TooMany) → ⊥ }
-    ensures kinds { (status : StatusValue) × IsEndStatus status × (result ≡ code_of status) }
 {
     let said = handle.finish(events, bytes);
     *answer = Answer {
@@ -154,9 +192,7 @@ pub extern "C" fn vabgrot_finish(
 pub extern "C" fn vabgrot_restart(handle: &mut Handle) -> i32
     requires { IsHandle handle.old }
     ensures handle { IsHandle handle.new }
-    ensures done { result ≡ code_of Done → (kind : KindValue) × IsOfKind handle.old.slot.value kind × Holds handle.new.slot.value kind no_bits }
-    ensures misuse { result ≡ code_of Misuse → handle.old.slot.value ≡ None }
-    ensures kinds { (result ≡ code_of Done) ⊎ (result ≡ code_of Misuse) }
+    ensures does { (status : StatusValue) × (result ≡ code_of status) × Restarts handle.old.slot.value status handle.new.slot.value }
 {
     handle.restart().code()
 }

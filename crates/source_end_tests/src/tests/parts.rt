@@ -4,9 +4,8 @@ ghost use Rattle.source_end.specs.DviPeriods.{is_island};
 ghost use Rattle.source_end.specs.ItemPeriods.{period_of};
 
 use island_pack::Packet;
-use source_end::{Island, Item, Pixels, Run, Runs};
+use source_end::{Island, Item, ItemFault, Pixels, Run, Runs};
 use std::alloc::Global;
-use std::test::*;
 
 /// An item of a list.
 pub(crate) enum Part {
@@ -26,7 +25,7 @@ pub(crate) enum Part {
 }
 
 /// A control period.
-fn control(alloc: Global, runs: &[(u8, u32)]) -> Result<Item, Fail>
+fn control(alloc: Global, runs: &[(u8, u32)]) -> Result<Item, ItemFault>
     ensures { IfOk result (λ item. is_island (period_of item) ≡ false) }
 {
     let mut list = Runs::new(alloc);
@@ -40,7 +39,7 @@ fn control(alloc: Global, runs: &[(u8, u32)]) -> Result<Item, Fail>
 }
 
 /// A video data period.
-fn video(alloc: Global, pixels: &[[u8; 3]]) -> Result<Item, Fail>
+fn video(alloc: Global, pixels: &[[u8; 3]]) -> Result<Item, ItemFault>
     ensures { IfOk result (λ item. is_island (period_of item) ≡ false) }
 {
     let mut list = Pixels::new(alloc);
@@ -51,7 +50,7 @@ fn video(alloc: Global, pixels: &[[u8; 3]]) -> Result<Item, Fail>
 }
 
 /// A video data period of so many black pixels.
-fn black(alloc: Global, count: u32) -> Result<Item, Fail>
+fn black(alloc: Global, count: u32) -> Result<Item, ItemFault>
     ensures { IfOk result (λ item. is_island (period_of item) ≡ false) }
 {
     let mut list = Pixels::new(alloc);
@@ -62,7 +61,7 @@ fn black(alloc: Global, count: u32) -> Result<Item, Fail>
 }
 
 /// A video data period of 263 pixels.
-fn long_line(alloc: Global) -> Result<Item, Fail>
+fn long_line(alloc: Global) -> Result<Item, ItemFault>
     ensures { IfOk result (λ item. is_island (period_of item) ≡ false) }
 {
     let mut pixels = Pixels::new(alloc);
@@ -76,7 +75,7 @@ fn long_line(alloc: Global) -> Result<Item, Fail>
 }
 
 /// A control period or a video data period.
-pub(crate) fn period(alloc: Global, part: &Part) -> Result<Item, Fail>
+pub(crate) fn period(alloc: Global, part: &Part) -> Result<Item, ItemFault>
     ensures { IfOk result (λ item. is_island (period_of item) ≡ false) }
 {
     match *part {
@@ -84,7 +83,7 @@ pub(crate) fn period(alloc: Global, part: &Part) -> Result<Item, Fail>
         Part::Pixels(pixels) => video(alloc, pixels),
         Part::Black(count) => black(alloc, count),
         Part::LongLine => long_line(alloc),
-        Part::Island(..) | Part::Nulls(_) => Err("a data island")?,
+        Part::Island(..) | Part::Nulls(_) => Err(ItemFault::Range),
     }
 }
 
@@ -103,7 +102,7 @@ fn null_island(
     opening: [u8; 2],
     syncs: &[u8],
     closing: [u8; 2],
-) -> Result<Item, Fail> {
+) -> Result<Item, ItemFault> {
     let mut island = Island::new(alloc, opening, closing);
     for sync in syncs {
         island.push(null_packet(*sync))?;
@@ -112,7 +111,7 @@ fn null_island(
 }
 
 /// A data island of so many Null packets, each sync value 0.
-fn nulls(alloc: Global, count: u32) -> Result<Item, Fail> {
+fn nulls(alloc: Global, count: u32) -> Result<Item, ItemFault> {
     let mut island = Island::new(alloc, [0; 2], [0; 2]);
     for _ in 0..count {
         island.push(null_packet(0))?;
@@ -121,7 +120,7 @@ fn nulls(alloc: Global, count: u32) -> Result<Item, Fail> {
 }
 
 /// The item of a part.
-pub(crate) fn item(alloc: Global, part: &Part) -> Result<Item, Fail> {
+pub(crate) fn item(alloc: Global, part: &Part) -> Result<Item, ItemFault> {
     match *part {
         Part::Island(opening, syncs, closing) => null_island(alloc, opening, syncs, closing),
         Part::Nulls(count) => nulls(alloc, count),

@@ -15,7 +15,7 @@ invariant-loop-size g l =
       goes_on : l.sink.is_open ≡ true;
       within : l.at + l.size ≤ most;
       small : l.size ≤ 32768;
-      whole : (l.size ≡ 0) ⊎ (l.at % 8 ≡ 0);
+      whole : (l.at ≡ most) ⊎ (l.at % 8 ≡ 0);
       next : (l.at + l.size ≡ most) ⊎ (l.size % 8 ≡ 0);
       fits : 0 < l.size → Fits l.room l.size;
       full : l.size ≡ 0 → l.at < most → IsFull l.room;

@@ -1,10 +1,8 @@
 use Rattle.std.proofs.Common.{refl}
-use Rattle.c_room.specs.TrackWritten.{track_writing}
-use Rattle.c_room.specs.WrittenLaws.{taken_none}
 use Rattle.c_room.proofs.kept.Kept.finish.Goals as goal
 
 pub returns-then-not-is_open-clause-refused : goal.returns-then-not-is_open-clause-refused
-returns-then-not-is_open-clause-refused c = λ _. (refl, taken_none track_writing c.args.room.now)
+returns-then-not-is_open-clause-refused c = λ _. (refl, refl, c.refused.ensures.counts)
 
 pub returns-then-not-can_finish-clause-refused : goal.returns-then-not-can_finish-clause-refused
-returns-then-not-can_finish-clause-refused c = λ _. (refl, taken_none track_writing c.args.room.now)
+returns-then-not-can_finish-clause-refused c = λ _. (refl, refl, c.refused-then-not-can_finish.ensures.counts)

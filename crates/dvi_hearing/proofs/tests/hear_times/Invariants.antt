@@ -1,8 +1,0 @@
-use Rattle.std.proofs.Common.{◌≡◌, ◌+◌, false}
-use Rattle.dvi_hearing.proofs.tests.hear_times.Given as goal
-
-abbrev pub invariant-loop-k : goal.invariant-loop-k
-invariant-loop-k l = record {
-  columns : l.hearing.columns ≡ l.initial.hearing.columns + l.k;
-  finished : l.hearing.finished ≡ false;
-}

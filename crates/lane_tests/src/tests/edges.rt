@@ -1,0 +1,82 @@
+//! Edges of short lanes, compared with values that were computed apart from `lane_edges`.
+
+use lane_edges::EdgeFinder;
+use std::test::*;
+
+/// A lane: its lock, how many bits it has, their bytes and two more, and its edges, with zeros after the last.
+struct Case {
+    lock: u64,
+    bits: u64,
+    bytes: &'static [u8],
+    edges: [u64; 3],
+}
+
+static CASES: [Case; 3] = [
+    // 12 control words, 3 others, 13, 2, 11, 1, 12 and 1
+    Case {
+        lock: 3,
+        bits: 553,
+        bytes: &[
+            0xa5, 0x7a, 0x15, 0xaa, 0x56, 0xa5, 0x7a, 0x15, 0xaa, 0x56, 0xa5, 0x7a, 0x15, 0xaa,
+            0x56, 0x05, 0x70, 0x26, 0x66, 0xa9, 0x5e, 0x85, 0xaa, 0x55, 0xa9, 0x5e, 0x85, 0xaa,
+            0x55, 0xa9, 0x5e, 0x85, 0xaa, 0x55, 0xa9, 0x06, 0x70, 0x26, 0xaa, 0x57, 0xa1, 0x6a,
+            0x55, 0xaa, 0x57, 0xa1, 0x6a, 0x55, 0xaa, 0x57, 0xa1, 0x0a, 0x40, 0xaa, 0x57, 0xa1,
+            0x6a, 0x55, 0xaa, 0x57, 0xa1, 0x6a, 0x55, 0xaa, 0x57, 0xa1, 0x6a, 0x55, 0x00, 0x01,
+            0x00, 0x00,
+        ],
+        edges: [123, 283, 543],
+    },
+    // 14 control words
+    Case {
+        lock: 0,
+        bits: 140,
+        bytes: &[
+            0x54, 0xaf, 0x42, 0xd5, 0xaa, 0x54, 0xaf, 0x42, 0xd5, 0xaa, 0x54, 0xaf, 0x42, 0xd5,
+            0xaa, 0x54, 0xaf, 0x02, 0x00, 0x00,
+        ],
+        edges: [0, 0, 0],
+    },
+    // 12 control words, 1 other, 20, 1 and 3
+    Case {
+        lock: 2,
+        bits: 372,
+        bytes: &[
+            0x51, 0xbd, 0x0a, 0x55, 0xab, 0x52, 0xbd, 0x0a, 0x55, 0xab, 0x52, 0xbd, 0x0a, 0x55,
+            0xab, 0x06, 0x48, 0xf5, 0x2a, 0x54, 0xad, 0x4a, 0xf5, 0x2a, 0x54, 0xad, 0x4a, 0xf5,
+            0x2a, 0x54, 0xad, 0x4a, 0xf5, 0x2a, 0x54, 0xad, 0x4a, 0xf5, 0x2a, 0x54, 0xad, 0x1a,
+            0x01, 0xd5, 0xab, 0x50, 0x05, 0x00, 0x00,
+        ],
+        edges: [122, 332, 0],
+    },
+];
+
+/// Whether a case has its edges where the characters that begin before a place are looked at first.
+fn has_edges(case: &Case, part: u64) -> bool {
+    if case.lock >= 10 || case.bits <= 9 || case.bits >= 1000 || part >= 1000 {
+        return false;
+    }
+    let last = case.bits - 9;
+    if last.max(part) as usize + 23 > 8 * case.bytes.len().min(1000) {
+        return false;
+    }
+    let mut finder = EdgeFinder::after(case.lock);
+    let mut count = 0;
+    for until in [part, part, last, last, last] {
+        if let Some(edge) = finder.seek(case.bytes, 0, 0, until) {
+            if count >= 3 || case.edges[count] != edge {
+                return false;
+            }
+            count += 1;
+        }
+    }
+    count >= 3 || case.edges[count] == 0
+}
+
+#[test]
+fn edges(rt: HostRuntime) {
+    for case in &CASES {
+        for part in [0, 123, 124, 131] {
+            assert!(rt; has_edges(case, part));
+        }
+    }
+}

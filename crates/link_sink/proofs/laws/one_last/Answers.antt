@@ -1,0 +1,5 @@
+use Rattle.link_sink.proofs.OneAnswer.{one_last}
+use Rattle.link_sink.proofs.laws.one_last.Goals as goal
+
+pub returns : goal.returns
+returns c = one_last

@@ -1,5 +1,0 @@
-//! The tests of `listing_reader`.
-#![tactic(auto)]
-
-#[cfg(test)]
-mod tests;

@@ -1,5 +1,0 @@
-use Rattle.listing_writer.proofs.ReportedSizes.{fault_sized}
-use Rattle.listing_writer_tests.proofs.tests.events.tell_fault.Goals as goal
-
-pub hear-requires : goal.hear-requires
-hear-requires g c = fault_sized c.args.fault

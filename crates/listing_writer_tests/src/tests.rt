@@ -1,7 +1,0 @@
-//! Tables of events that are listed.
-
-mod content_rows;
-mod contents;
-mod events;
-mod link_rows;
-mod links;

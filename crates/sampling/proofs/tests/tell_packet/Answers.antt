@@ -1,8 +1,0 @@
-use Rattle.std.proofs.Common.{sym, ap, ◌∙◌}
-use Rattle.island_pack.specs.Conforming.{is_packet}
-use Rattle.listing_writer.proofs.ReportedSizes.{packet_sized}
-use Rattle.sampling.proofs.tests.tell_packet.Goals as goal
-
-pub hear-requires : goal.hear-requires
-hear-requires g c =
-    packet_sized _ (ap is_packet c.new-packet.ensures.packet ∙ sym c.is_packet_in_range.ensures.packet ∙ c.if-not-is_packet_in_range.false)

@@ -1,0 +1,46 @@
+//! Characters, bytes and answers worked out apart from `tmds_code`, by a model of DVI 1.0,
+//! sections 3.2.2 and 3.3.3, in another language.
+
+/// The characters of all bytes at the disparities from the first number to the second.
+pub(super) static CODED: &str = "\
+-8 -1|3ff 1ff 1fe 3fe 1fc 3fc 3fd 1fd 1f8 3f8 3f9 1f9 3fb 1fb 1fa 3fa 1f0 10f 3f1 1f1 3f3 1f3 1f2 3f2 3f7 1f7 1f6 3f6 1f4 3f4 25f 05f 31f 11f 11e 1e1 3e3 1e3 1e2 11d 3e7 1e7 1e6 3e6 1e4 11b 24f 04f 3ef 1ef 1ee 3ee 1ec 3ec 247 2b8 1e8 117 0bc 2bc 0be 2be 2bf 0bf 33f 13f 13e 33e 13c 1c3 33d 13d 3c7 1c7 1c6 139 33b 13b 26f 06f 3cf 1cf 1ce 3ce 1cc 133 267 067 337 137 263 29c 09e 29e 29f 09f 3df 1df 1de 3de 1dc 3dc 277 077 1d8 127 273 073 271 28e 28f 08f 32f 12f 27b 07b 279 079 287 278 27d 07d 07c 27c 07e 27e 27f 07f 37f 17f 17e 37e 17c 37c 37d 17d 178 187 379 179 37b 17b 22f 02f 38f 18f 18e 171 373 173 227 2d8 377 177 0dc 2dc 0de 2de 2df 0df 39f 19f 19e 39e 19c 163 237 037 367 167 233 2cc 0ce 2ce 2cf 0cf 36f 16f 23b 03b 239 2c6 2c7 0c7 23d 03d 2c3 23c 03e 23e 23f 03f 3bf 1bf 1be 3be 1bc 3bc 217 2e8 1b8 147 0ec 2ec 0ee 2ee 2ef 0ef 34f 14f 21b 2e4 0e6 2e6 2e7 0e7 21d 2e2 2e3 0e3 2e1 21e 21f 01f 35f 15f 0f4 2f4 0f6 2f6 2f7 0f7 0f2 2f2 2f3 0f3 2f1 0f1 20f 2f0 0fa 2fa 2fb 0fb 2f9 0f9 0f8 2f8 2fd 0fd 0fc 2fc 0fe 2fe 2ff 0ff
+0 0|100 1ff 1fe 101 1fc 103 102 1fd 1f8 107 106 1f9 104 1fb 1fa 105 1f0 10f 10e 1f1 10c 1f3 1f2 10d 108 1f7 1f6 109 1f4 10b 25f 2a0 1e0 11f 11e 1e1 11c 1e3 1e2 11d 118 1e7 1e6 119 1e4 11b 24f 2b0 110 1ef 1ee 111 1ec 113 247 2b8 1e8 117 243 2bc 241 2be 2bf 240 1c0 13f 13e 1c1 13c 1c3 1c2 13d 138 1c7 1c6 139 1c4 13b 26f 290 130 1cf 1ce 131 1cc 133 267 298 1c8 137 263 29c 261 29e 29f 260 120 1df 1de 121 1dc 123 277 288 1d8 127 273 28c 271 28e 28f 270 1d0 12f 27b 284 279 286 287 278 27d 282 283 27c 281 27e 27f 280 180 17f 17e 181 17c 183 182 17d 178 187 186 179 184 17b 22f 2d0 170 18f 18e 171 18c 173 227 2d8 188 177 223 2dc 221 2de 2df 220 160 19f 19e 161 19c 163 237 2c8 198 167 233 2cc 231 2ce 2cf 230 190 16f 23b 2c4 239 2c6 2c7 238 23d 2c2 2c3 23c 2c1 23e 23f 2c0 140 1bf 1be 141 1bc 143 217 2e8 1b8 147 213 2ec 211 2ee 2ef 210 1b0 14f 21b 2e4 219 2e6 2e7 218 21d 2e2 2e3 21c 2e1 21e 21f 2e0 1a0 15f 20b 2f4 209 2f6 2f7 208 20d 2f2 2f3 20c 2f1 20e 20f 2f0 205 2fa 2fb 204 2f9 206 207 2f8 2fd 202 203 2fc 201 2fe 2ff 200
+1 8|100 300 301 101 303 103 102 302 307 107 106 306 104 304 305 105 1f0 10f 10e 30e 10c 30c 30d 10d 108 308 309 109 30b 10b 0a0 2a0 1e0 3e0 11e 1e1 11c 31c 1e2 11d 118 318 319 119 1e4 11b 0b0 2b0 110 310 311 111 313 113 247 2b8 1e8 117 243 043 241 041 040 240 1c0 3c0 3c1 1c1 13c 1c3 1c2 3c2 138 338 1c6 139 1c4 3c4 090 290 130 330 331 131 1cc 133 098 298 1c8 3c8 263 29c 261 061 060 260 120 320 321 121 323 123 088 288 1d8 127 08c 28c 271 28e 070 270 1d0 3d0 084 284 086 286 287 278 082 282 283 083 281 081 080 280 180 380 381 181 383 183 182 382 178 187 186 386 184 384 0d0 2d0 170 370 18e 171 18c 38c 227 2d8 188 388 223 023 221 021 020 220 160 360 361 161 19c 163 0c8 2c8 198 398 233 2cc 231 031 030 230 190 390 0c4 2c4 239 2c6 038 238 0c2 2c2 2c3 23c 2c1 0c1 0c0 2c0 140 340 341 141 343 143 217 2e8 1b8 147 213 013 211 011 010 210 1b0 3b0 21b 2e4 219 019 018 218 21d 2e2 01c 21c 2e1 21e 0e0 2e0 1a0 3a0 20b 00b 209 009 008 208 20d 00d 00c 20c 00e 20e 20f 2f0 205 005 004 204 006 206 207 007 002 202 203 003 201 001 000 200";
+
+/// The bytes of all characters, in rows of 64.
+pub(super) static DECODED: &str = "\
+fe fd f8 fb f2 f1 f4 f7 e6 e5 e0 e3 ea e9 ec ef ce cd c8 cb c2 c1 c4 c7 d6 d5 d0 d3 da d9 dc df 9e 9d 98 9b 92 91 94 97 86 85 80 83 8a 89 8c 8f ae ad a8 ab a2 a1 a4 a7 b6 b5 b0 b3 ba b9 bc bf
+3e 3d 38 3b 32 31 34 37 26 25 20 23 2a 29 2c 2f 0e 0d 08 0b 02 01 04 07 16 15 10 13 1a 19 1c 1f 5e 5d 58 5b 52 51 54 57 46 45 40 43 4a 49 4c 4f 6e 6d 68 6b 62 61 64 67 76 75 70 73 7a 79 7c 7f
+7e 7d 78 7b 72 71 74 77 66 65 60 63 6a 69 6c 6f 4e 4d 48 4b 42 41 44 47 56 55 50 53 5a 59 5c 5f 1e 1d 18 1b 12 11 14 17 06 05 00 03 0a 09 0c 0f 2e 2d 28 2b 22 21 24 27 36 35 30 33 3a 39 3c 3f
+be bd b8 bb b2 b1 b4 b7 a6 a5 a0 a3 aa a9 ac af 8e 8d 88 8b 82 81 84 87 96 95 90 93 9a 99 9c 9f de dd d8 db d2 d1 d4 d7 c6 c5 c0 c3 ca c9 cc cf ee ed e8 eb e2 e1 e4 e7 f6 f5 f0 f3 fa f9 fc ff
+00 03 06 05 0c 0f 0a 09 18 1b 1e 1d 14 17 12 11 30 33 36 35 3c 3f 3a 39 28 2b 2e 2d 24 27 22 21 60 63 66 65 6c 6f 6a 69 78 7b 7e 7d 74 77 72 71 50 53 56 55 5c 5f 5a 59 48 4b 4e 4d 44 47 42 41
+c0 c3 c6 c5 cc cf ca c9 d8 db de dd d4 d7 d2 d1 f0 f3 f6 f5 fc ff fa f9 e8 eb ee ed e4 e7 e2 e1 a0 a3 a6 a5 ac af aa a9 b8 bb be bd b4 b7 b2 b1 90 93 96 95 9c 9f 9a 99 88 8b 8e 8d 84 87 82 81
+80 83 86 85 8c 8f 8a 89 98 9b 9e 9d 94 97 92 91 b0 b3 b6 b5 bc bf ba b9 a8 ab ae ad a4 a7 a2 a1 e0 e3 e6 e5 ec ef ea e9 f8 fb fe fd f4 f7 f2 f1 d0 d3 d6 d5 dc df da d9 c8 cb ce cd c4 c7 c2 c1
+40 43 46 45 4c 4f 4a 49 58 5b 5e 5d 54 57 52 51 70 73 76 75 7c 7f 7a 79 68 6b 6e 6d 64 67 62 61 20 23 26 25 2c 2f 2a 29 38 3b 3e 3d 34 37 32 31 10 13 16 15 1c 1f 1a 19 08 0b 0e 0d 04 07 02 01
+ff fc f9 fa f3 f0 f5 f6 e7 e4 e1 e2 eb e8 ed ee cf cc c9 ca c3 c0 c5 c6 d7 d4 d1 d2 db d8 dd de 9f 9c 99 9a 93 90 95 96 87 84 81 82 8b 88 8d 8e af ac a9 aa a3 a0 a5 a6 b7 b4 b1 b2 bb b8 bd be
+3f 3c 39 3a 33 30 35 36 27 24 21 22 2b 28 2d 2e 0f 0c 09 0a 03 00 05 06 17 14 11 12 1b 18 1d 1e 5f 5c 59 5a 53 50 55 56 47 44 41 42 4b 48 4d 4e 6f 6c 69 6a 63 60 65 66 77 74 71 72 7b 78 7d 7e
+7f 7c 79 7a 73 70 75 76 67 64 61 62 6b 68 6d 6e 4f 4c 49 4a 43 40 45 46 57 54 51 52 5b 58 5d 5e 1f 1c 19 1a 13 10 15 16 07 04 01 02 0b 08 0d 0e 2f 2c 29 2a 23 20 25 26 37 34 31 32 3b 38 3d 3e
+bf bc b9 ba b3 b0 b5 b6 a7 a4 a1 a2 ab a8 ad ae 8f 8c 89 8a 83 80 85 86 97 94 91 92 9b 98 9d 9e df dc d9 da d3 d0 d5 d6 c7 c4 c1 c2 cb c8 cd ce ef ec e9 ea e3 e0 e5 e6 f7 f4 f1 f2 fb f8 fd fe
+01 02 07 04 0d 0e 0b 08 19 1a 1f 1c 15 16 13 10 31 32 37 34 3d 3e 3b 38 29 2a 2f 2c 25 26 23 20 61 62 67 64 6d 6e 6b 68 79 7a 7f 7c 75 76 73 70 51 52 57 54 5d 5e 5b 58 49 4a 4f 4c 45 46 43 40
+c1 c2 c7 c4 cd ce cb c8 d9 da df dc d5 d6 d3 d0 f1 f2 f7 f4 fd fe fb f8 e9 ea ef ec e5 e6 e3 e0 a1 a2 a7 a4 ad ae ab a8 b9 ba bf bc b5 b6 b3 b0 91 92 97 94 9d 9e 9b 98 89 8a 8f 8c 85 86 83 80
+81 82 87 84 8d 8e 8b 88 99 9a 9f 9c 95 96 93 90 b1 b2 b7 b4 bd be bb b8 a9 aa af ac a5 a6 a3 a0 e1 e2 e7 e4 ed ee eb e8 f9 fa ff fc f5 f6 f3 f0 d1 d2 d7 d4 dd de db d8 c9 ca cf cc c5 c6 c3 c0
+41 42 47 44 4d 4e 4b 48 59 5a 5f 5c 55 56 53 50 71 72 77 74 7d 7e 7b 78 69 6a 6f 6c 65 66 63 60 21 22 27 24 2d 2e 2b 28 39 3a 3f 3c 35 36 33 30 11 12 17 14 1d 1e 1b 18 09 0a 0f 0c 05 06 03 00";
+
+/// Lanes, from a period's first pixel on: each byte, its character and the disparity after it.
+pub(super) static LANES: &str = "\
+00 at each pixel|00 100 -8,00 3ff 2,00 100 -6
+ff at each pixel|ff 200 -8,ff 0ff -2
+every even disparity from -8 to 8|54 1cc 0,d6 2e7 4,d6 018 -2,90 38f 2,f5 206 -2,6e 28f 0,f3 204 -6,5d 29e -4,78 27d 0,01 1ff 8,07 302 4,bd 0c1 0,db 21c -2,23 1e1 -2,4a 1c6 -2,76 287 -2,77 278 -2,15 1f3 2,df 2e0 0,d0 1b0 -2,e2 0f4 -2,11 10f -2,a8 367 2,fe 000 -8,3b 2bc -6,bc 03e -6,0b 1f9 -2,4f 06f 0,2d 11b 0,3f 240 -6,0a 3f9 0,e8 20d -2,52 1ce 0,af 230 -4,cd 2ee 0,f8 2fd 6,4d 3c4 6,5f 260 2,13 30e 2,f0 205 -2,78 27d 2,26 1e2 2,65 123 0,6a 273 2,24 11c 0,3e 2bf 6,f3 204 0,c6 217 0,66 277 4,ae 030 -2,4a 1c6 -2,d1 14f 0,95 173 2,ba 2c3 2,e7 208 -4,c5 3bc 0,a2 19e 2,f8 002 -6,c5 3bc -2,88 178 -2,0d 1fb 4,2f 2b0 2,51 330 0,fd 2fe 6";
+
+/// Lanes of twelve characters, from a period's first pixel on: the characters, and the byte of each and whether it is rightly coded.
+pub(super) static JUDGED: &str = "\
+rightly coded throughout|100 3ff 100 0ff 200 1f0 133 233 37f 280 1ff 000|00 true,00 true,00 true,ff true,ff true,10 true,55 true,aa true,80 true,7f true,01 true,fe true
+the same with the fifth character inverted|100 3ff 100 0ff 0ff 1f0 133 233 37f 280 1ff 000|00 true,00 true,00 true,ff true,ff false,10 true,55 true,aa true,80 false,7f true,01 false,fe true
+a bit turned in four characters|2df 310 1bc 30a 1d8 20f 3f1 21c 190 3fe 13c 3e2|9e true,31 true,c4 false,1f false,68 true,ee true,12 false,db true,b0 true,03 false,44 true,27 false
+a disparity of 70, then rightly coded|3ff 3ff 3ff 3ff 3ff 3ff 3ff 163 3c4 213 108 31c|00 false,00 false,00 false,00 false,00 false,00 false,00 false,a5 true,4d true,ca true,18 true,25 true
+a disparity of -70, then rightly coded|000 000 000 000 000 000 000 3ef 23c 3f4 28e 1f1|fe false,fe false,fe false,fe false,fe false,fe false,fe false,30 true,bb true,1d true,6d true,13 true
+up to 120|3ff 3ff 3ff 3ff 3ff 3ff 3ff 3ff 3ff 3ff 3ff 3ff|00 false,00 false,00 false,00 false,00 false,00 false,00 false,00 false,00 false,00 false,00 false,00 false
+down to -120|000 000 000 000 000 000 000 000 000 000 000 000|fe false,fe false,fe false,fe false,fe false,fe false,fe false,fe false,fe false,fe false,fe false,fe false
+control characters and guard bands|354 0ab 154 2ab 2cc 133 2cc 354 354 133 0ab 2ab|fd false,03 false,fc false,02 false,ab true,55 true,ab true,fd false,fd false,55 true,03 false,02 false
+any characters|0b0 378 358 08f 1ec 0b9 365 079 0fd 1c9 07e 32c|2e false,89 false,e9 false,6f true,34 true,35 false,ae false,75 false,f9 false,5b false,7c false,75 false
+any characters|065 1c4 05f 110 251 35a 127 0f1 277 172 0d3 180|51 false,4c false,1f true,30 false,0c false,ef false,69 true,ed true,66 true,96 false,8b false,80 false";
