@@ -1,11 +1,10 @@
 #!/usr/bin/python3
-"""Makes the lists of commands, options and statuses of docs/guide/commands.toml: the tables of README.md and docs/guide/FORMATS.md, the
-help of ./vabgrot and the lists of the man page. Each stands between a line that says `made by docs/commands.py: NAME` and a line that says
-`end of what is made`.
+"""Writes the lists of commands, options and statuses from docs/guide/commands.toml: those of the help of ./vabgrot and of the man page.
+Each list is between a line with `made by docs/commands.py: NAME` and a line with `end of what is made`.
 
-    docs/commands.py            writes them
-    docs/commands.py --check    names the files whose lists are old, and writes none; the status is 1 where there are such
-    docs/commands.py --words    prints the words of each command, and of `make` with each option, a line each
+    docs/commands.py            writes the lists
+    docs/commands.py --check    names the files with old lists and writes nothing; the status is 1 if there are any
+    docs/commands.py --words    prints the words of each command, and of `make` with each option, one per line
 """
 
 import argparse
@@ -13,59 +12,23 @@ import re
 import sys
 import textwrap
 import tomllib
-from collections.abc import Iterable, Iterator
 from itertools import groupby
 from pathlib import Path
 from typing import Any
 
-Entry = dict[str, Any]  # of the file: a command, an option or a status
+Entry = dict[str, Any]  # a command, an option or a status of the file
 
 TOP = Path(__file__).resolve().parents[1]
 DATA: dict[str, list[Entry]] = tomllib.loads((TOP / "docs" / "guide" / "commands.toml").read_text("utf-8"))
 COMMANDS, OPTIONS, STATUSES, OWN = (DATA[name] for name in ("command", "option", "status", "own_status"))
-FILES = ("README.md", "docs/guide/FORMATS.md", "docs/guide/vabgrot.1", "vabgrot")
+FILES = ("docs/guide/vabgrot.1", "vabgrot")
 BLOCK = re.compile(r"(?ms)(^[^\n]*made by docs/commands\.py: (\w+)[^\n]*\n)(.*?)(^[^\n]*end of what is made)")
 WIDTH, INDENT = 118, 22  # of the help's lines
 TAKES = " ".join(f"[{option['words']}]" for option in OPTIONS)
 
 
-def table(head: list[str], rows: Iterable[list[str]]) -> str:
-    """A table of Markdown."""
-    lines = [head, ["---"] * len(head), *rows]
-    return "".join("|" + "".join(f" {cell} |" if cell else " |" for cell in line) + "\n" for line in lines)
-
-
-def forms() -> Iterator[str]:
-    """The words of each command; the options stand with the first that takes them."""
-    takes = f" {TAKES}`"
-    for it in COMMANDS:
-        yield f"`{it['words']}" + (takes if it.get("has_options") else "`")
-        if it.get("has_options"):
-            takes = "` with the same options"
-
-
-def readme_commands() -> str:
-    return table(["command", "reads", "writes"], ([form, it["reads"], it["writes"]] for form, it in zip(forms(), COMMANDS)))
-
-
-def readme_statuses() -> str:
-    own = [[str(it["number"]), f"of `./vabgrot` alone: {it['what']}", "what is wrong"] for it in OWN]
-    rows = [[str(it["number"]), it["what"], it.get("line", "")] for it in STATUSES]
-    return table(["status", "where", "line on standard error"], rows + own)
-
-
-def formats_options() -> str:
-    return table(["option of `make`", ""], ([f"`{it['words']}`", it["what"]] for it in OPTIONS))
-
-
-def formats_commands() -> str:
-    ends = ("one", "three", "seven")
-    rows = ([f"`{it['words']}`", it.get("words_mean", ""), *(it.get(end, "") for end in ends)] for it in COMMANDS)
-    return table(["command", "words", "status 1", "status 3", "status 7"], rows)
-
-
 def filled(head: str, text: str) -> str:
-    """An entry of the help: a head, and what it says beside it, or below it where the head is long."""
+    """An entry of the help: a head with its text beside it, or below it if the head is long."""
     lines = textwrap.indent(textwrap.fill(text, WIDTH - INDENT, break_on_hyphens=False), " " * INDENT)
     return (f"  {head}\n{lines}" if len(head) > INDENT - 3 else f"  {head}".ljust(INDENT) + lines[INDENT:]) + "\n"
 
@@ -81,32 +44,35 @@ def help_commands() -> str:
         head = it["words"]
         if it.get("has_options"):
             head, takes = head + takes, " .."
-        entries.append(filled(head, f"reads {it['reads']}, writes {it['writes']}"))
+        entries.append(filled(head, f"Reads {it['reads']} and writes {it['writes']}. {it.get('also', '')}"))
     return shell_function("say_commands", "".join(entries))
 
 
+def status_lines(statuses: list[Entry]) -> str:
+    return "".join(f"  {it['number']:<5}{it['what']}\n" for it in statuses).replace("`", "")
+
+
 def help_statuses() -> str:
-    text = "Status: " + "; ".join(f"{it['number']} {it['short']}" for it in STATUSES) + "."
-    own = "Of this script alone: " + "; ".join(f"{it['number']} {it['what']}" for it in OWN).replace("`", "") + "."
-    bodies = {"say_statuses": text, "say_own_statuses": own}
-    return "".join(shell_function(name, textwrap.fill(body, WIDTH, break_on_hyphens=False) + "\n") for name, body in bodies.items())
+    own = "Only this script ends with:\n" + status_lines(OWN)
+    return shell_function("say_statuses", "Status:\n" + status_lines(STATUSES)) + shell_function("say_own_statuses", own)
 
 
 def roff(text: str, letters: str) -> str:
-    """A text of roff: code in bold, the letters that stand for something in italics."""
+    """A text in roff: code is bold, and the given placeholder letters are italic."""
     text = text.replace("\\", "\\e").replace("-", "\\-")
     text = re.sub(r"`([^`]*)`", r"\\fB\1\\fR", text)
     return re.sub(rf"(?<![\w\\])([{letters}])(?!\w)", r"\\fI\1\\fR", text) if letters else text
 
 
 def sentences(text: str, more: str = "", words: str = "") -> str:
-    """One sentence of the man page, and more; `words` has the letters that stand for something."""
+    """A sentence of the man page, and more sentences; `words` contains the placeholder letters."""
     letters = "".join(re.findall(r"(?<!\w)[A-Z](?!\w)", words))
+    text = text[0].upper() + text[1:]
     return roff(f"{text}.\n{more}\n" if more else f"{text}.\n", letters)
 
 
 def bold_words(words: str) -> str:
-    """The words of a command: what is typed in bold, what is filled in in italics."""
+    """The words of a command: literal words are bold, placeholders are italic."""
     typed = re.compile(r"(-*[a-z]+( [a-z]+)*)")
     parts = re.split(r"(?<!\w)([A-Z])(?!\w)", words)
     return "".join(rf"\fI{it}\fR" if at % 2 else typed.sub(r"\\fB\1\\fR", it).replace("-", "\\-") for at, it in enumerate(parts))
@@ -124,8 +90,9 @@ def man_synopsis() -> str:
 def man_commands() -> str:
     entries = []
     for it in COMMANDS:
-        means = f"Its words: {it['words_mean']}." if ":" in it["words"] else it.get("more", "")
-        text = sentences(f"reads {it['reads']} and writes {it['writes']}", means, it["words"])
+        means = f"Its words: {it['words_mean']}." if ":" in it["words"] else f"{it['words_mean']}." if "words_mean" in it else ""
+        more = "\n".join(part for part in (it.get("also", ""), means, it.get("more", "")) if part)
+        text = sentences(f"reads {it['reads']} and writes {it['writes']}", more, it["words"])
         entries.append(f".TP\n{bold_words(it['words'])}\n{text}")
     return "".join(entries)
 
@@ -135,11 +102,27 @@ def man_options() -> str:
 
 
 def man_statuses() -> str:
-    return "".join(f".TP\n.B {it['number']}\n{sentences(it['what'], it.get('more', ''))}" for it in STATUSES)
+    entries = []
+    for it in STATUSES:
+        line = f"Standard error has the line {it['line']}." if "line" in it else ""
+        more = "\n".join(part for part in (line, it.get("more", "")) if part)
+        entries.append(f".TP\n.B {it['number']}\n{sentences(it['what'], more)}")
+    return "".join(entries)
 
 
-MAKERS = [readme_commands, readme_statuses, formats_options, formats_commands, help_commands, help_statuses]
-MADE = {maker.__name__: maker for maker in [*MAKERS, man_synopsis, man_commands, man_options, man_statuses]}
+def man_ends() -> str:
+    """When each command ends with status 1, 3 and 7."""
+    entries = []
+    for it in COMMANDS:
+        ends = [f"{number} if {it[end]}" for number, end in ((1, "one"), (3, "three"), (7, "seven")) if end in it]
+        if ends:
+            more = "\n".join(f"{end}." for end in ends[1:])
+            entries.append(f".TP\n{bold_words(it['words'])}\n{sentences(ends[0], more, it['words'])}")
+    return "".join(entries)
+
+
+MAKERS = [help_commands, help_statuses, man_synopsis, man_commands, man_options, man_statuses, man_ends]
+MADE = {maker.__name__: maker for maker in MAKERS}
 
 
 def print_words() -> None:
@@ -150,7 +133,7 @@ def print_words() -> None:
 
 
 def make(is_check: bool) -> int:
-    """Writes the lists, or looks whether they are as they would be written: the status."""
+    """Writes the lists, or only compares them. Returns the status."""
     old = []
     for path in (TOP / name for name in FILES):
         text = path.read_text("utf-8")
@@ -160,14 +143,14 @@ def make(is_check: bool) -> int:
             if not is_check:
                 path.write_text(made, "utf-8")
     for path in old:
-        print(f"{path.relative_to(TOP)}: " + ("its lists are not those of docs/guide/commands.toml" if is_check else "made anew"))
+        print(f"{path.relative_to(TOP)}: " + ("its lists are old: run docs/commands.py" if is_check else "written"))
     return 1 if old and is_check else 0
 
 
 def main() -> int:
     parser = argparse.ArgumentParser(description=__doc__, formatter_class=argparse.RawDescriptionHelpFormatter)
-    parser.add_argument("--check", action="store_true", help="write nothing, and name the files whose lists are old")
-    parser.add_argument("--words", action="store_true", help="print the words of each command, and write nothing")
+    parser.add_argument("--check", action="store_true", help="name the files with old lists and write nothing")
+    parser.add_argument("--words", action="store_true", help="print the words of each command and write nothing")
     args = parser.parse_args()
     if args.words:
         print_words()

@@ -1,14 +1,14 @@
 #!/usr/bin/python3
-"""Makes the README's picture of a report anew: runs the commands of the README in a folder of their own, opens the page that
-they write in headless Chromium, and writes docs/guide/report.png and docs/guide/report.txt.
+"""Makes the README's picture of a report. It runs the commands of the README that write this report in a folder of their own,
+opens the page in headless Chromium, and writes docs/guide/report.png and docs/guide/report.txt.
 
     docs/picture.py             writes the two files
-    docs/picture.py --text      writes what the page says to standard output, and no file
+    docs/picture.py --text      prints the text of the page and writes no file
 
-The text file has what the page says above the end of the picture: verdict, counts, notes, names. It stands in the picture's
-file too (as its Description), so that tests/tools/test_picture.py notices a picture whose page has changed since. The
-program is the one that VABGROT_PROGRAM names, or that ./vabgrot builds. Needs Debian's packages chromium, chromium-driver,
-python3-selenium, and those of the tools."""
+The text file contains the words of the page above the end of the picture: verdict, counts, notes, names. The picture's file
+contains the same text as its Description. tests/tools/test_picture.py compares it with the page, so it notices when the page
+has changed. VABGROT_PROGRAM names the program; without it, it is the one that ./vabgrot builds. This needs Debian's packages
+chromium, chromium-driver and python3-selenium, and those of the tools."""
 
 import argparse
 import io
@@ -33,26 +33,26 @@ from vabgrot.errors import Refused  # noqa: E402
 from vabgrot.program import find  # noqa: E402
 
 PICTURE, TEXT = TOP / "docs" / "guide" / "report.png", TOP / "docs" / "guide" / "report.txt"
-HEADING, PAGE = "## A picture there and back", "walk/damaged.html"
+PAGE = "damaged.html"
 WIDTH, HEIGHT = 1280, 2110
-WAITS = 300  # seconds for the page, also on a slow machine
+WAITS = 300  # seconds to wait for the page; enough for a slow machine
 COLOURS = 256
-FAULT, ZOOMS = 197, 4  # which fault is shown, and how often the timeline is enlarged about it
+FAULT, ZOOMS = 197, 4  # the fault to select, and how often to zoom into the timeline there
 PARTS = ("header", "#timing", "section[aria-labelledby=h-counts]", "#pictures", "#timeline")
 WORDS = ("headless=new", "no-sandbox", "disable-gpu", "disable-dev-shm-usage", "hide-scrollbars", "force-device-scale-factor=1")
 
 
 def commands():
-    """The first commands below the heading."""
-    _, _, behind = (TOP / "README.md").read_text("utf-8").partition(f"{HEADING}\n")
-    block = re.search(r"(?ms)^```\n(.*?)^```$", behind)
-    if not block:
-        sys.exit(f"picture.py: README.md has no commands below `{HEADING}`")
-    return block[1]
+    """The commands of the README's block that writes the page, without the one that installs packages."""
+    blocks = re.findall(r"(?ms)^```\w*\n(.*?)^```$", (TOP / "README.md").read_text("utf-8"))
+    lines = [line[2:] for block in blocks if f"-o {PAGE}\n" in block for line in block.splitlines() if line.startswith("$ ")]
+    if not lines:
+        sys.exit(f"picture.py: README.md: no block of commands writes {PAGE}. Name it there, or here in PAGE.")
+    return "\n".join(line for line in lines if not line.startswith("apt-get "))
 
 
 def walked(folder):
-    """The page that the commands write in a folder, which gets links to what they name."""
+    """Runs the commands in a folder that has links to the files that they name. Returns the page that they write."""
     try:
         program = find().resolve()
     except Refused as why:
@@ -64,7 +64,7 @@ def walked(folder):
     ran = subprocess.run(["bash", "-c", commands()], cwd=folder, env=env, capture_output=True, text=True)
     page = folder / PAGE
     if not page.is_file():
-        sys.exit(f"picture.py: the commands of README.md wrote no {PAGE}:\n{ran.stderr}")
+        sys.exit(f"picture.py: the commands of README.md wrote no {PAGE}. They printed:\n{ran.stderr}")
     return page
 
 
@@ -82,7 +82,7 @@ def browser():
 
 
 def show(driver, page):
-    """Opens the page, in bright colours, at one of its faults."""
+    """Opens the page in its light colours, and selects one of its faults."""
     scheme = [{"name": "prefers-color-scheme", "value": "light"}, {"name": "prefers-reduced-motion", "value": "reduce"}]
     size = {"width": WIDTH, "height": HEIGHT, "deviceScaleFactor": 1, "mobile": False}
     driver.execute_cdp_cmd("Emulation.setEmulatedMedia", {"features": scheme})
@@ -98,14 +98,14 @@ def show(driver, page):
 
 
 def text_of(driver):
-    """What the page says in the parts that the picture shows, a line each."""
+    """Returns the words of the parts of the page that the picture shows."""
     texts = (driver.find_element(By.CSS_SELECTOR, part).get_property("innerText") for part in PARTS)
     lines = (" ".join(line.split()) for text in texts for line in text.splitlines())
     return "".join(f"{line}\n" for line in lines if line)
 
 
 def picture_of(driver, text):
-    """The page's picture as the bytes of a PNG file that has the text in it."""
+    """Returns the picture of the page as the bytes of a PNG file that contains the text."""
     image = Image.open(io.BytesIO(driver.get_screenshot_as_png())).convert("RGB")
     image = image.crop((0, 0, WIDTH, HEIGHT)).quantize(COLOURS, dither=Image.Dither.NONE)
     info = PngImagePlugin.PngInfo()
@@ -117,7 +117,7 @@ def picture_of(driver, text):
 
 def main():
     parser = argparse.ArgumentParser(description=__doc__, formatter_class=argparse.RawDescriptionHelpFormatter)
-    parser.add_argument("--text", action="store_true", help="write what the page says to standard output, and no file")
+    parser.add_argument("--text", action="store_true", help="print the text of the page and write no file")
     args = parser.parse_args()
     try:
         with tempfile.TemporaryDirectory() as folder, browser() as driver:
