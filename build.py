@@ -1,19 +1,18 @@
 #!/usr/bin/env python3
-"""Proves the crates that the program stands on and builds it; ./vabgrot calls this where the program is missing or old.
+"""Proves the crates of the program and builds it. ./vabgrot calls this if the program is missing or old.
 
-    build.py
-    build.py library    the archive of the C library in place of the program, of which library/build makes libvabgrot
-    build.py library --over-ci      the same over the libraries that `rt ci` has just proved, which it left: nothing below is proved anew
+    build.py                        builds the program
+    build.py library                builds the archive of the C library; library/build makes libvabgrot from it
+    build.py library --over-ci      the same, but uses the libraries that `rt ci` has just proved, and proves no crate below
 
-Crates are proved side by side, each once those below it are. The one with the most code left above it goes first, at all
-processors, and each gives way to those with more, since they decide when the last crate can begin. The kit's prover is called crate
-by crate, each from nothing and over the statements of the crates below, as `rt ci` calls it; `rt all` and `rt run` look at
-all sources before the first proof, and then several times at those of all crates below. A crate is not proved again while
-its files, its line in crates.txt, the crates below it and the kit are as they were. What is made lies in
-crates/NAME/out/built, apart from what `rt` keeps. Where a kit has its parts elsewhere `rt run` does all.
+It proves several crates at the same time, each one after the crates below it. The crate with the most code above it goes first,
+because it decides when the last crate can begin; the others give way to it. It calls the kit's prover for one crate at a time, as
+`rt ci` does. (`rt all` and `rt run` read all sources before the first proof.) It proves a crate again only if its files, its
+line in crates.txt, a crate below it or the kit has changed. Its results are in crates/NAME/out/built, apart from those of `rt`.
+If the kit has its parts in other places, `rt run` does everything.
 
-A line on standard error counts the crates where that is a terminal. Status 0 where the program is built; 1 where a crate
-is not proved or the program not linked, with what was said of it on standard error; 2 where there is no kit."""
+On a terminal, a line on standard error counts the crates. Status: 0 if the program is built; 1 if a crate is not proved or the
+program is not linked, with the prover's words on standard error; 2 if there is no kit."""
 
 import contextlib
 import fcntl
@@ -291,12 +290,14 @@ def build(kit, top):
     failed = Building(crates).run()
     if failed:
         sys.stderr.write(failed.log.read_text(encoding="utf-8", errors="replace"))
+        print(f"build.py: the crate {failed.name} is not proved. Its log is {failed.log.relative_to(TOP)}.", file=sys.stderr)
         return 1
     if not crates[-1].is_program:
         return 0
     linked = subprocess.run(kit.link(crates[-1].made, BUILT), capture_output=True, text=True, check=False)
     if linked.returncode:
         sys.stderr.write(linked.stdout + linked.stderr)
+        print("build.py: the program is proved, but rattle-link could not link it. The lines above say why.", file=sys.stderr)
     return 1 if linked.returncode else 0
 
 
@@ -335,7 +336,7 @@ def main():
     try:
         kit = Kit.found()
     except (OSError, subprocess.CalledProcessError):
-        print("vabgrot: the command rt of the Rattle kit is not on the PATH", file=sys.stderr)
+        print("build.py: the command rt is not on the PATH, or it fails. Install the Rattle kit and try `rt doc`.", file=sys.stderr)
         return 2
     for end in ENDS:
         signal.signal(end, lambda *_: sys.exit(1))

@@ -1,26 +1,25 @@
 #!/usr/bin/env python3
-"""Measures the program: times and peak memory on large inputs, instructions a column, and what its threads cost.
+"""Measures the program: instructions for each column, times and memory for large inputs, and what its threads cost.
 
     bench/bench.py [--program PROGRAM] [--lines LINES] [PART ..]
 
-PROGRAM is crates/hdmi_cli/out/hdmi_cli by default; ./vabgrot builds it. The parts, all where none is named:
+PROGRAM is crates/hdmi_cli/out/hdmi_cli if you leave it out; ./vabgrot builds it. Without a PART all parts run:
 
-    instructions  each command's instructions by valgrind's callgrind, a column: the difference of a large and a small input, so
-                  that what the start takes is left out. Lines have 1,920 noisy pixels and 280 columns of control and no
-                  island, captures begin with bit 0; frames are of code 16 (1,920 by 1,080). Then islands alone, what cannot be aligned, and
-                  control columns, through recover link and recover relock, and lanes that slip every 130 bits through
-                  recover track. The same is told of `read biphase` a byte.
-    times         each command over LINES lines (4,000 if not given, at least 3) of 5,000 columns, 20,000,000 in all. Lines
-                  have an island of one packet where the command reads islands; the readers are given the capture from bit
-                  123,457 on with the skews 0, 70 and 35, so that no character begins where a byte does. Contents are eight
-                  frames of code 16. Beside them the same capture goes through cat and sha256sum. The best of three runs,
-                  each on one processor where `taskset` is there, as ./vabgrot starts the program.
-    clock         check over a capture of 33 MB on one, two and four processors, beside 0, 4 and 16 programs that this script
-                  starts and that use whole processors: the median of five runs. The load of the machine before is told: it is
-                  load 0 where nothing else runs.
-    memory        the peak of recover link for captures of 1, 100 and 1,000 MB.
+    instructions  counts the instructions of each command for each column, with valgrind's callgrind. The count is the difference of
+                  a large and a small input, so it leaves out the start. Lines have 1,920 noisy pixels, 280 control columns and no
+                  island. Captures begin with bit 0. Frames are of code 16 (1,920 by 1,080). Then follow data islands without lines,
+                  lanes that do not align, and control columns without lines, with recover link and recover relock; lanes that slip
+                  every 130 bits, with recover track; and read biphase, for each byte.
+    times         runs each command over LINES lines (4,000 if you leave it out, at least 3) of 5,000 columns: 20,000,000 columns.
+                  Lines have an island of one packet if the command reads islands. Captures begin at bit 123,457 with the skews 0,
+                  70 and 35, so no character begins at a byte. Contents are eight frames of code 16. For comparison, cat and
+                  sha256sum read the same capture. Prints the best of three runs, each on one processor if `taskset` is there, as
+                  ./vabgrot does.
+    clock         runs check over a capture of 33 MB on one, two and four processors, beside 0, 4 and 16 programs that keep a whole
+                  processor busy. Prints the median of five runs, and the load of the machine before.
+    memory        prints the most memory that recover link uses for captures of 1, 100 and 1,000 MB.
 
-MB are those of the capture, columns count as pixels, MiB are the greatest memory that was seen.
+MB are those of the capture. Columns count as pixels. MiB are the most memory that was seen.
 """
 
 import argparse
@@ -57,11 +56,11 @@ READERS = (
     ["recover", "biphase", "0"],
     ["relay"],
 )
-ENDS = (0, 1)  # a fault may be told
+ENDS = (0, 1)  # statuses of a measured run: there may be faults
 
 
 class Measured:
-    """One run: its time by the clock and its time of processors, in seconds, and its memory in MiB."""
+    """One run: its time by the clock and its processor time in seconds, and its memory in MiB."""
 
     def __init__(self, words, source, target, ends=ENDS):
         with open(source, "rb") as given, open(target, "wb") as taken:
@@ -80,7 +79,7 @@ class Measured:
 
 
 def resident(pid):
-    """The greatest memory that a running program had so far, in MiB; 0 where it is not known, or is that of this script."""
+    """Returns the most memory that a running program has used, in MiB. 0 if it is unknown, or is that of this script."""
     try:
         if os.path.realpath(f"/proc/{pid}/exe") == os.path.realpath(sys.executable):
             return 0
@@ -92,8 +91,8 @@ def resident(pid):
 
 
 def on(count):
-    """Words that start a program on so many of the processors that this one may use; none where there are not so many, or no
-    `taskset`."""
+    """Returns the words that start a program on `count` of the processors that this one may use. None if there are fewer, or `taskset`
+    is missing."""
     places = sorted(os.sched_getaffinity(0))
     if shutil.which("taskset") is None or len(places) < count:
         return None
@@ -101,7 +100,7 @@ def on(count):
 
 
 def counted(words, source):
-    """The instructions of one run, by callgrind."""
+    """Returns the instructions of one run, which callgrind counts."""
     with tempfile.TemporaryDirectory() as folder, open(source, "rb") as given:
         log = os.path.join(folder, "log")
         grind = ["valgrind", "--tool=callgrind", "--callgrind-out-file=" + os.path.join(folder, "out"), "--log-file=" + log]
@@ -113,7 +112,7 @@ def counted(words, source):
 
 
 class Bench:
-    """The parts, over one program, with a folder for their inputs."""
+    """The parts for one program, with a folder for their inputs."""
 
     def __init__(self, program, lines, folder):
         self.program, self.lines, self.folder = program, lines, folder
@@ -122,26 +121,26 @@ class Bench:
         return os.path.join(self.folder, name)
 
     def made(self, words, source, name):
-        """The path of what the program makes of a file."""
+        """Runs the program over a file, and returns the path of the output."""
         with open(source, "rb") as given, open(self.path(name), "wb") as taken:
             subprocess.run([self.program, *words], stdin=given, stdout=taken, check=True)
         return self.path(name)
 
     def written(self, write, name, *size):
-        """The path of an input."""
+        """Returns the path of an input."""
         write(self.path(name), *size)
         return self.path(name)
 
     # ---- instructions
 
     def each(self, name, words, small, large, more, unit="column"):
-        """Tells the instructions of a command for each column more."""
+        """Prints the instructions of a command for each further column."""
         counts = [counted([self.program, *words], source) for source in (small, large)]
         print(f"  {name:<44}{(counts[1] - counts[0]) / more:9.1f} a {unit}", flush=True)
 
     def instructions(self):
         if shutil.which("valgrind") is None:
-            print("instructions: not counted, since there is no valgrind")
+            print("instructions: not counted, because valgrind is missing")
             return
         print("Instructions (callgrind)")
         more = (COUNTED[1] - COUNTED[0]) * COUNTED_COLUMNS
@@ -164,7 +163,7 @@ class Bench:
         self.unaligned()
 
     def islands(self):
-        """Of data islands alone."""
+        """Counts the instructions for data islands without lines."""
         more = (COUNTED[1] - COUNTED[0]) * (12 + 8 + 2 + 32 * inputs.MOST_PACKETS + 2)
         listings = [self.written(inputs.write_islands, f"{islands}.islands", islands) for islands in COUNTED]
         self.each("make link: islands of 18 packets", ["make", "link"], *listings, more)
@@ -173,7 +172,7 @@ class Bench:
             self.each(f"{' '.join(words)}: islands of 18 packets", words, *captures, more)
 
     def unaligned(self):
-        """Where nothing aligns, where there are control columns alone, and where lanes slip."""
+        """Counts the instructions for lanes that do not align, for control columns without lines, and for lanes that slip."""
         for name, words, build, sizes in (
             ("recover link: three lanes of noise", ["recover", "link"], inputs.noisy, (100_000, 600_000)),
             ("recover link: three lanes of one value", ["recover", "link"], inputs.one_value, (100_000, 600_000)),
@@ -194,7 +193,7 @@ class Bench:
     # ---- times
 
     def timed(self, name, words, source, target, columns, size=None):
-        """Tells the best of three runs; the size is that of what a maker writes where none is given."""
+        """Prints the best of three runs. If no size is given, it is the size of the output."""
         runs = [Measured([*(on(1) or []), *words], source, target) for _ in range(3)]
         best, peak = min(runs, key=lambda it: it.clock), max(it.peak for it in runs)
         size = size or os.path.getsize(target)
@@ -227,7 +226,7 @@ class Bench:
 
     def clock(self):
         if on(1) is None:
-            print("clock: not measured, since there is no taskset")
+            print("clock: not measured, because taskset is missing")
             return
         listing = self.written(inputs.write_listing, "clock.link", 4000, COUNTED_COLUMNS)
         capture = self.made(["make", "link"], listing, "clock.tmc")
@@ -254,7 +253,7 @@ class Bench:
     # ---- memory
 
     def memory(self):
-        """The peak of recover link for captures of three sizes, each whole blocks of one capture over and over."""
+        """Prints the most memory that recover link uses for captures of three sizes. Each repeats whole blocks of one capture."""
         listing, long = self.written(inputs.write_listing, "long.link", 50, COUNTED_COLUMNS), self.path("long.tmc")
         with open(self.made(["make", "link"], listing, "part.tmc"), "rb") as given:
             part = given.read()
@@ -271,7 +270,7 @@ class Bench:
 
 
 def told_load():
-    """How busy the machine is."""
+    """Says how busy the machine is."""
     with open("/proc/loadavg") as load:
         return f"{len(os.sched_getaffinity(0))} processors, load average {load.read().split()[0]}"
 
@@ -285,12 +284,12 @@ def main():
     given = reader.parse_args()
     unknown = [part for part in given.parts if part not in parts]
     if unknown:
-        reader.error(f"there is no part {unknown[0]}")
-    if given.program is None:  # builds the program where that is due
+        reader.error(f"there is no part {unknown[0]}: the parts are {', '.join(parts)}")
+    if given.program is None:  # builds the program if it is old
         subprocess.run([FRONT, "check"], stdin=subprocess.DEVNULL, stderr=subprocess.DEVNULL)
     program = os.path.abspath(given.program or PROGRAM)
     if not os.path.isfile(program):
-        sys.exit(f"{program}: there is no such program; `./vabgrot` builds it")
+        sys.exit(f"{program}: there is no such program. `./vabgrot` builds it, or --program names one.")
     with tempfile.TemporaryDirectory() as folder:
         bench = Bench(program, given.lines, folder)
         for part in given.parts or parts:

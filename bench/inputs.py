@@ -1,5 +1,4 @@
-"""The inputs of bench.py: listings, contents, captures and streams of noise, each with a fixed seed, so that they are the same at
-each run."""
+"""The inputs of bench.py: listings, contents, captures and streams of noise. Each has a fixed seed, so it is the same in each run."""
 import itertools
 import random
 import sys
@@ -11,21 +10,21 @@ from vabgrot.capture import BLOCK  # noqa: E402
 from vabgrot.formats import characters  # noqa: E402
 
 PIXELS = 1920
-KINDS = 64  # so many lines of pixels are unlike
+KINDS = 64  # different lines of pixels
 ISLAND = "c 00 12\nc 14 8\ni 00\np {}\ne 00\n"
 ISLAND_COLUMNS = 12 + 8 + 2 + 32 + 2
 MOST_PACKETS = 18
-CONTROL, OTHER = characters.CONTROL[0], 0x100  # a control character, and one that is none
+CONTROL, OTHER = characters.CONTROL[0], 0x100  # a control character, and another character
 
 
 def packet(noise):
-    """The fields of a packet whose bytes are noise."""
+    """Returns the fields of a packet of noise."""
     bodies = " ".join(noise.randbytes(7).hex() for _ in range(4))
     return f"{noise.randbytes(3).hex()} {bodies} {'0' * 32}"
 
 
 def write_listing(path, lines, columns, islands=False):
-    """A link listing of noisy lines of so many columns, with an island of one packet each where `islands` says so."""
+    """Writes a link listing of noisy lines. With `islands` each has an island of one packet."""
     noise = random.Random(1)
     pixels = [noise.randbytes(3 * PIXELS).hex() for _ in range(KINDS)]
     packets = [ISLAND.format(packet(noise)) if islands else "" for _ in range(KINDS)]
@@ -38,7 +37,7 @@ def write_listing(path, lines, columns, islands=False):
 
 
 def write_islands(path, islands):
-    """A link listing of data islands of eighteen packets each, with twenty columns of control between them."""
+    """Writes a link listing of data islands of eighteen packets each, with twenty control columns between them."""
     noise = random.Random(1)
     packets = ["".join(f"p {packet(noise)}\n" for _ in range(MOST_PACKETS)) for _ in range(KINDS)]
     with open(path, "w") as out:
@@ -48,18 +47,18 @@ def write_islands(path, islands):
 
 
 def write_dvi(path, lines, columns):
-    """The same without guard bands, islands and preambles."""
+    """Writes a listing of noisy lines without guard bands, islands and preambles."""
     noise = random.Random(1)
     pixels = [noise.randbytes(3 * PIXELS).hex() for _ in range(KINDS)]
     with open(path, "w") as out:
         for line in range(lines):
-            quiet = columns - PIXELS - (0 if line else 12)  # which stand behind the last line
+            quiet = columns - PIXELS - (0 if line else 12)  # these follow the last line
             out.write(f"c 00 {quiet}\nv {pixels[line % KINDS]}\n")
         out.write("c 00 12\nend\n")
 
 
 def write_content(path, frames):
-    """A content listing of so many noisy frames of code 16 (1,920 by 1,080)."""
+    """Writes a content listing of noisy frames of code 16 (1,920 by 1,080)."""
     noise = random.Random(2)
     rows = [f"row {noise.randbytes(3 * PIXELS).hex()}\n" for _ in range(KINDS)]
     with open(path, "w") as out:
@@ -71,7 +70,7 @@ def write_content(path, frames):
 
 
 def write_stream(path, frames):
-    """A biphase stream of so many random samples, of which each 192nd starts a block."""
+    """Writes a biphase stream of random samples. Each 192nd starts a block."""
     noise = random.Random(3)
     numbers = [(noise.getrandbits(24), noise.getrandbits(24), noise.getrandbits(3), noise.getrandbits(3)) for _ in range(192)]
     block = b"".join(model.frame((*sample, int(at == 0))) for at, sample in enumerate(numbers))
@@ -81,14 +80,14 @@ def write_stream(path, frames):
 
 
 def capture(rows):
-    """The capture, of version 1, of three lanes of as many bytes."""
+    """Writes a capture of version 1, of three lanes of the same length."""
     size = len(rows[0])
     blocks = (row[at : at + BLOCK] for at in range(0, size, BLOCK) for row in rows)
     return b"TMC1" + (8 * size).to_bytes(4, "big") + b"".join(blocks)
 
 
 def packed(words):
-    """The bytes of characters, of which four take five."""
+    """Returns the bytes of characters. Four characters take five bytes."""
     fours = zip(*[iter(words)] * 4)
     return b"".join((a | b << 10 | c << 20 | d << 30).to_bytes(5, "little") for a, b, c, d in fours)
 
@@ -114,8 +113,7 @@ OPENING = [[CONTROL] * 12 + [it] * 8 + [guard] * 2 + [OTHER] * 2 for it, guard i
 
 
 def control(columns, damaged):
-    """A line of two pixels, and then control columns; in each thirteenth of them a character of one lane is none, where so
-    it is asked."""
+    """Writes a line of two pixels, and then control columns. On request each thirteenth of them has another character on one lane."""
     rows = []
     for lane, first in enumerate(OPENING):
         quiet = [CONTROL] * 12 + [OTHER if damaged and lane == 0 else CONTROL]
@@ -135,7 +133,7 @@ def damaged_control(columns):
 
 
 def slipping(columns):
-    """A line of two pixels, and then control columns; each lane loses one to nine bits every thirteen characters."""
+    """Writes a line of two pixels, and then control columns. Each lane loses one to nine bits every thirteen characters."""
     quiet = model.sent_bits([CONTROL] * 13)
     lanes = [model.sent_bits(first) + "".join(quiet[at % 9 + 1 :] for at in range(columns // 13)) for first in OPENING]
     return model.capture_of(2, [lane[: 10 * columns] for lane in lanes])

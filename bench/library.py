@@ -3,20 +3,24 @@
 
     bench/library.py [--program PROGRAM] [--lines LINES] [--runs RUNS] [--processor P]
 
-Three streams, which PROGRAM makes (crates/hdmi_cli/out/hdmi_cli), begin with bit 123,457 and have the skews 0, 70 and 35: LINES lines
-(2,000 if not given) of 2,200 columns with 1,920 noisy pixels, as 1,920 by 1,080 has them; the same with a data island of one packet a
-line; and islands of 18 packets with 20 control columns between them. Each is fed from memory, 65,536 bytes of each lane at a time, in one
-thread on one processor (P, or the last one that may be used), RUNS times (7), and the best run counts. The ratio is to 148.5 million
-columns a second, the pixel clock of 1,920 by 1,080 at 60 Hz. What is measured:
+PROGRAM (crates/hdmi_cli/out/hdmi_cli) makes three streams. They begin at bit 123,457 and have the skews 0, 70 and 35:
 
-    feed     vabgrot_feed with all events and pixels written into one array and one buffer, and no look at them
-    faults   the same, and of each event whether it is a fault
+    LINES lines (2,000) of 2,200 columns with 1,920 noisy pixels, as 1,920 by 1,080 has them
+    the same with a data island of one packet in each line
+    islands of 18 packets, with 20 control columns between them
+
+Each stream is fed from memory, 65,536 bytes of each lane at a time, in one thread on one processor: P, or the last one that this script may
+use. It is fed RUNS times (7), and the best run counts. The ratio is to 148.5 million columns a second, the pixel clock of 1,920 by 1,080
+at 60 Hz. What is measured:
+
+    feed     vabgrot_feed, which writes all events and pixels into one array and one buffer; nobody looks at them
+    faults   the same, and looks for each event whether it is a fault
     views    Receiver.feed_views of the package, 4 MiB of each lane at a time
-    watched  the same, and all that tools/watch counts of it
+    watched  the same, and counts what tools/watch counts
     arrays   Receiver.feed_arrays of the package
-    objects  Receiver.feed of the package, an object an event
+    objects  Receiver.feed of the package, which makes an object for each event
 
-The load of the machine before is told: a number counts where nothing else runs.
+It prints the load of the machine before. The numbers are good only if nothing else runs.
 """
 
 import argparse
@@ -51,7 +55,7 @@ TAP = ["--offset", "123457", "--skew", "0,70,35", "--version", "2"]
 
 
 class Fed:
-    """The calls of C without the package's copies."""
+    """Calls the C functions without the copies that the package makes."""
 
     piece = PIECE
 
@@ -84,7 +88,7 @@ class Fed:
 
 
 class Viewed:
-    """A receiver as tools/watch has it, which makes no copy, and what is counted of it."""
+    """Receives as tools/watch does, without a copy, and counts what it counts."""
 
     piece = LONGEST
 
@@ -104,7 +108,7 @@ class Viewed:
 
 
 class Packaged:
-    """A receiver of the package."""
+    """Receives with the package."""
 
     piece = PIECE
 
@@ -132,9 +136,9 @@ WAYS = {
 
 
 def speed(way, lanes, runs):
-    """The best of some runs, in million columns a second."""
+    """Returns the best of some runs, in million columns a second."""
     it, best = way(), float("inf")
-    size = min(map(len, lanes))  # the last bits of the longer lanes have no column
+    size = min(map(len, lanes))  # the last bits of longer lanes have no column
     for _ in range(runs):
         begin = time.perf_counter()
         for at in range(0, size, it.piece):
@@ -145,7 +149,7 @@ def speed(way, lanes, runs):
 
 
 def streams(program, lines, folder):
-    """The name and the lanes of each stream."""
+    """Yields the name and the lanes of each stream."""
     path = folder / "listing"
     for name, write in (
         ("lines", lambda: inputs.write_listing(path, lines, COLUMNS)),

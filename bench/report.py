@@ -1,13 +1,17 @@
 #!/usr/bin/env python3
-"""Measures tools/report and tools/survey by processor time, once by the C library and once by the program.
+"""Measures the processor time of tools/report and tools/survey, with the C library and with the program.
 
     bench/report.py [--program PROGRAM] [--frames N ..] [--runs RUNS] [--surveyed N] [--package FOLDER]
 
-Captures are of 1,920 by 1,080 (format 16), with a tone: of `make content` of up to eight frames of the patterns of tools/content, their
-lanes joined, since a content has at most 20,000,000 columns. Of each count of frames (12 and 60) a report is made RUNS times (5) by each
-source; the survey is over N captures of two frames (20; 0 for none). Told are the least and the median of the seconds of user time of the
-process itself, and of it with what it started; of the system for it; and the greatest memory of the process in MiB. FOLDER is the folder
-of another version of the package to be measured (python). Runs of the two sources take turns, so that what else runs is beside both.
+The captures are 1,920 by 1,080 (format 16) with a tone. `make content` makes at most eight frames at a time, because a content has at most
+20,000,000 columns; the lanes of several contents are joined. For each number of frames (12 and 60) report runs RUNS times (5) with each
+source. The survey is over N captures of two frames (20; 0 for none). It prints the least and the median of:
+
+    the user time of the process, and with what it started, in seconds
+    the system time of the process, in seconds
+    the most memory of the process, in MiB
+
+FOLDER is the folder of another version of the package (python). Runs of the two sources take turns, so that both have the same load.
 """
 
 import argparse
@@ -38,7 +42,7 @@ print(json.dumps([own.ru_utime, own.ru_utime + started.ru_utime, own.ru_stime, o
 
 
 def made(program, frames, first, folder):
-    """The lanes of a capture of some frames."""
+    """Returns the lanes of a capture of some frames."""
     names = [f"pattern:{PATTERNS[(first + at) % len(PATTERNS)]}" for at in range(frames)]
     words = [TOP / "tools" / "content", *names, "--vic", "16", "--sound", "tone:1000@48000"]
     content = subprocess.run(words, stdout=subprocess.PIPE, stderr=subprocess.DEVNULL, check=True)
@@ -51,7 +55,7 @@ def made(program, frames, first, folder):
 
 
 def joined(program, frames, path):
-    """Writes the capture of so many frames."""
+    """Writes a capture of some frames."""
     lanes, bits = [bytearray(), bytearray(), bytearray()], 0
     for first in range(0, frames, MOST):
         parts, counts = made(program, min(MOST, frames - first), first, path.parent)
@@ -66,7 +70,7 @@ def joined(program, frames, path):
 
 
 def measured(words, package, env):
-    """The numbers of one run of a tool."""
+    """Returns the numbers of one run of a tool."""
     source = RUN.format(package=str(package))
     command = [sys.executable, "-c", source, *map(str, words)]
     ran = subprocess.run(command, stdout=subprocess.PIPE, stderr=subprocess.PIPE, env=os.environ | env)
@@ -76,7 +80,7 @@ def measured(words, package, env):
 
 
 def tell(name, rows):
-    """Says what was measured."""
+    """Prints what was measured."""
     own, whole, system, peak = zip(*rows)
     print(
         f"{name}: user least {min(own):.2f} median {statistics.median(own):.2f}; with what it started {min(whole):.2f} "
@@ -92,7 +96,7 @@ def main():
     parser.add_argument("--runs", type=int, default=5)
     parser.add_argument("--surveyed", type=int, default=20)
     parser.add_argument("--package", type=Path, default=TOP / "python")
-    parser.add_argument("--folder", type=Path, help="keep the captures there, and use those that are there")
+    parser.add_argument("--folder", type=Path, help="folder to keep the captures in; those that are there are used again")
     words = parser.parse_args()
     os.environ["VABGROT_PROGRAM"] = str(Path(words.program).resolve())
     os.environ["VABGROT_LIBRARY"] = str(library.find())

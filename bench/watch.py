@@ -1,19 +1,20 @@
 #!/usr/bin/env python3
-"""Measures tools/watch against the receiver of the C library alone (library/out, or the one that VABGROT_LIBRARY names).
+"""Compares tools/watch with the receiver of the C library (library/out, or the one that VABGROT_LIBRARY names).
 
     bench/watch.py [--program PROGRAM] [--columns MILLIONS] [--runs RUNS]
 
-Two streams of bench/library.py, which PROGRAM makes (crates/hdmi_cli/out/hdmi_cli): lines of 2,200 columns with 1,920 noisy pixels, and the
-same with a data island of one packet a line; 64 lines again and again, 150 million columns if not told otherwise. Each comes on standard
-input, as a capture and as raw blocks, RUNS times (3). What is told is user time in seconds, the least of the runs, without the start, which
-a twentieth of the stream tells:
+PROGRAM (crates/hdmi_cli/out/hdmi_cli) makes two streams of bench/library.py: lines of 2,200 columns with 1,920 noisy pixels, and the same
+with a data island of one packet in each line. 64 lines repeat up to MILLIONS of columns (150). Each stream arrives on standard input, as a
+capture and as raw blocks, RUNS times (3). It prints the user time in seconds: the least of the runs, without the start, which a twentieth
+of the stream measures. The ways are:
 
-    feed     a process of Python that reads the blocks as tools/watch does and feeds them to vabgrot_feed, with all events and pixels
-             written into one array and one buffer, and no look at them
+    feed     a Python process that reads the blocks as tools/watch does and feeds them to vabgrot_feed, which writes all events and
+             pixels into one array and one buffer; nobody looks at them
     watch    tools/watch --plain of the capture
     raw      tools/watch --plain --raw of the blocks
 
-and how many times as long as `feed` the others take. The load of the machine before is told: a number counts where nothing else runs.
+It prints how many times as long as `feed` the others take, too, and the load of the machine before. The numbers are good only if nothing
+else runs.
 """
 
 import argparse
@@ -31,9 +32,9 @@ import inputs
 import library
 
 TOP = library.TOP
-STREAMS = 2  # of those of bench/library.py
-PERIOD = inputs.KINDS * library.COLUMNS * 10 // 8  # bytes of a lane after which it begins anew
-PARTS = 20  # of a stream, one of which tells the start
+STREAMS = 2  # the first ones of bench/library.py
+PERIOD = inputs.KINDS * library.COLUMNS * 10 // 8  # bytes of a lane after which it repeats
+PARTS = 20  # of a stream; one of them measures the start
 WAYS = ("feed", "watch", "raw")
 
 
@@ -51,7 +52,7 @@ def feed(file):
 
 
 def write(folder, lanes, columns):
-    """A capture of lanes that go on as these do, and its raw blocks; answers their paths."""
+    """Writes a capture that repeats these lanes, and its raw blocks. Returns their paths."""
     capture, blocks = folder / "capture", folder / "blocks"
     count = columns * 10 // 8 // library.capture.BLOCK
     size = count * library.capture.BLOCK
@@ -63,7 +64,7 @@ def write(folder, lanes, columns):
 
 
 def user(way, paths):
-    """The user time of a run."""
+    """Returns the user time of a run."""
     capture, blocks = paths
     watch = [TOP / "tools" / "watch", "--plain"]
     words = {"feed": [sys.executable, __file__, "--feed"], "watch": watch, "raw": [*watch, "--raw"]}[way]
@@ -75,13 +76,13 @@ def user(way, paths):
 
 
 def least(paths, runs):
-    """The least time of each way; they are run in turn, so that a load that comes and goes is on all of them."""
+    """Returns the least time of each way. They take turns, so that all have the same load."""
     taken = [[user(way, paths) for way in WAYS] for _ in range(runs)]
     return dict(zip(WAYS, map(min, zip(*taken))))
 
 
 def times(program, columns, runs, folder):
-    """Of each stream its name, and of each way the time without the start."""
+    """Yields the name of each stream, and for each way its time without the start."""
     for name, lanes in islice(library.streams(program, 4 * inputs.KINDS, folder), STREAMS):
         few = least(write(folder, lanes, columns // PARTS), runs)
         all_of_it = least(write(folder, lanes, columns), runs)

@@ -1,7 +1,7 @@
 #!/usr/bin/python3
-"""The processor time that tools/slice takes of a waveform of random bits: 8,600,000 samples of three lanes and of a clock by
-the tests' channel, five times one after another. For each number of samples a bit (8.3 and 4.3 if none is given), by the
-lanes' edges and by the clock, and without python3-numba: seconds, and million samples a second besides the start."""
+"""Measures the processor time of tools/slice for a waveform of random bits: 8,600,000 samples of three lanes and of a clock, made by the
+channel of the tests, five times one after another. It measures each number of samples per bit (8.3 and 4.3 if you give none), with the
+edges of the lanes and with the clock, and without python3-numba. It prints seconds, and million samples a second without the start."""
 
 import os
 import resource
@@ -20,7 +20,7 @@ SAMPLES, TIMES = 8_600_000, 5
 
 
 def wave_of(samples):
-    """Samples by channels, so many a bit: three lanes and a clock."""
+    """Returns samples by channels: three lanes and a clock."""
     bits = int(SAMPLES / samples)
     lanes = list(np.random.default_rng(3).integers(0, 2, (3, bits)).astype(bool))
     channel = Channel(samples, off=3e-4, drift=3e-4, random=0.2, periodic=0.2, noise=0.02, skew=(0, 6.9, 3.8))
@@ -30,7 +30,7 @@ def wave_of(samples):
 
 
 def seconds(path, words, folder):
-    """The processor time of a run of the tool that finds the modules of a folder first."""
+    """Returns the processor time of a run of the tool, which looks for modules in a folder first."""
     before = resource.getrusage(resource.RUSAGE_CHILDREN)
     environment = {**os.environ, "PYTHONPATH": folder}
     command = [TOP / "tools" / "slice", path, *words]

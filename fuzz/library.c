@@ -1,9 +1,16 @@
 /*
-** A fuzzer of the C library for libFuzzer. The input is a row of calls: a byte says which, and for a feed three more bytes say how many
-** bits each lane has, whose bytes follow. Room is as large as the second byte of the input says. What no input may break: each call
-** answers a status that its state allows; what it says that it wrote lies within the room; events come in the order of their columns, of
-** lanes that may lose bits between two slips or alignments let go, and one after another in the buffer; a feed takes no more bits than it
-** is given.
+** A libFuzzer target for the C library.
+**
+** The first two bytes of the input say how much room there is, and the kind of receiver. Then follow the calls: one byte names the call.
+** For a feed, three more bytes say how many bits each lane has, and the bytes of the lanes follow.
+**
+** No input may break these rules:
+**
+**   - Each call returns a status that the state of the handle allows.
+**   - What a call says that it wrote is within the room.
+**   - Events are in the order of their columns. If lanes may lose bits, this holds within an epoch.
+**   - The data of the events follow each other in the buffer.
+**   - A feed takes no more bits than it is given.
 **
 **     clang -g -O1 -fsanitize=fuzzer,address,undefined -I library fuzz/library.c DIR/libvabgrot.a -o fuzzer && ./fuzzer -max_total_time=60
 */
@@ -29,7 +36,7 @@ static void need(int holds) {
   if (!holds) abort();
 }
 
-/* What a call says that it wrote. */
+/* Checks what a call says that it wrote. */
 static void check_events(struct state *it, const vabgrot_answer *answer) {
   uint64_t end = 0;
   need(answer->events <= it->event_room && answer->bytes <= it->byte_room);
@@ -46,7 +53,7 @@ static void check_events(struct state *it, const vabgrot_answer *answer) {
   need(end == answer->bytes);
 }
 
-/* Feeds the bits of three lanes, and answers how many bytes of the input it used. */
+/* Feeds the bits of three lanes. Returns how many bytes of the input it used. */
 static size_t feed(struct state *it, const uint8_t *data, size_t size) {
   uint64_t bits[3], taken[3];
   uint8_t *lanes[3];
@@ -60,7 +67,7 @@ static size_t feed(struct state *it, const uint8_t *data, size_t size) {
       sizes[i] = size - used;
       bits[i] = 8 * sizes[i];
     }
-    lanes[i] = malloc(sizes[i] + 1); /* of exactly its size, so that a read past it is seen */
+    lanes[i] = malloc(sizes[i] > 0 ? sizes[i] : 1); /* no byte more, so that a read past the end is seen */
     need(lanes[i] != NULL);
     memcpy(lanes[i], data + used, sizes[i]);
     used += sizes[i];

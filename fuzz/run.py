@@ -1,26 +1,26 @@
 #!/usr/bin/env python3
-"""Feeds the built program with broken listings, contents, captures and words, and looks for what must never come.
+"""Runs the built program over broken listings, contents, captures and words, and looks for answers that it must never give.
 
     fuzz/run.py [--seconds S] [--seed N] [--program PROGRAM] [--limit S] [--keep FOLDER] [--shrink]
 
-Each case is a seed of some command's input (the examples, captures, listings and biphase streams that are made of them, and random
-captures and listings of some blocks) after some random changes: bits flipped, bytes and lines cut, repeated, moved and spliced,
-numbers changed, characters of the lanes replaced, lanes shifted, bits of a lane left out. It is run twice, once over a file and
-once over a pipe that is fed in small pieces. A finding is
+Each case takes an input of some command and changes it at random. The inputs are the examples, the captures, listings and biphase streams
+that the program makes of them, and random captures and listings of some blocks. The changes flip bits; cut, repeat, move and splice bytes
+and lines; change numbers; replace characters of the lanes; shift lanes; and drop bits of a lane. Each case runs twice: once with a file as
+its input, and once with a pipe that gets small pieces. These are findings:
 
-- a run that a signal ends, or that takes longer than the limit (twice in a row),
-- a status that the command has not over a whole input and a sound output,
-- on standard error anything but the one line of the status (docs/guide/FORMATS.md, README.md), or anything on 0 and 1,
-- an output that its status does not allow (a listing without its last line, a capture that its header does not fit),
-- a second run that answers otherwise,
-- of a capture or a stream of at most 60,000 bytes, so of six blocks, or of a listing of as many columns, another status or output than
-  that of the small models of the formats (tests/models).
+- a signal ends the run, or it takes longer than the limit (twice in a row);
+- the command has no such status for a whole input and an output that can be written;
+- standard error has anything but the one line of the status (docs/guide/FORMATS.md), or has anything on status 0 and 1;
+- the status does not allow the output, such as a listing without its last line or a capture that does not fit its header;
+- the second run has another status, output or line;
+- the status or the output is not that of the models (tests/models). They judge captures and streams of at most 60,000 bytes, which are
+  six blocks, and listings of as many columns.
 
-With --shrink Hypothesis (Debian's python3-hypothesis) draws the cases, a thousand if --cases is not given, and makes the first finding
-as small as it can: the same kind of finding with fewer words and bytes.
+With --shrink Hypothesis (Debian's python3-hypothesis) draws the cases, a thousand if --cases is not given. It makes the first finding as
+small as it can: the same kind of finding with fewer words and bytes.
 
-Case K of seed N depends on N, on K and on what the program makes of the examples, so `--seed N --first K --cases 1` runs it
-again. The last line counts executions and findings; the status is 1 where there was a finding. It is not part of the gate."""
+Case K of seed N depends on N, on K and on what the program makes of the examples, so `--seed N --first K --cases 1` runs it again. The
+last line has the numbers of runs and findings. Exit status: 0; 1 if there was a finding. It is not part of the gate."""
 import argparse
 import collections
 import os
@@ -63,7 +63,7 @@ REFUSED = {
 }
 STATUSES = {name: (0, 3) if name.startswith(("make", "damage", "slip", "read")) else (0, 1, 3, 7) for name in REFUSED}
 MARKED = [*CONTROL, *TERC4, ISLAND_GUARD, 0x100, 0x3FF, 0x200]
-# What three lanes carry before and in an opening, and in a control period.
+# The characters of the three lanes before and in an opening, and in a control period.
 OPENINGS = (VIDEO_GUARD, (TERC4[12], ISLAND_GUARD, ISLAND_GUARD), CONTROL[:1] * 3)
 OPENINGS += ((CONTROL[0], *VIDEO_PREAMBLE), (CONTROL[0], *ISLAND_PREAMBLE))
 NUMBERS = [0, 1, 2, 3, 7, 8, 9, 11, 12, 13, 18, 19, 63, 64, 255, 256, 1023, 1024, 4095, 4096, 4097, 32767, 32768, 65535, 65536,
@@ -97,7 +97,7 @@ def ran(program, words, source=b""):
 
 
 def pack(words):
-    """The bytes of a lane's characters and their number of bits."""
+    """Returns the bytes of the characters of a lane, and their number of bits."""
     bits = "".join(format(word, "010b") for word in reversed(words))
     return (int(bits, 2).to_bytes((len(bits) + 7) // 8, "little") if bits else b""), len(bits)
 
@@ -108,7 +108,7 @@ def body(lanes):
 
 
 def capture(lanes, counts, version):
-    """The bytes of a capture; of the first version each lane has the bits of the shortest."""
+    """Returns a capture. In version 1 each lane has as many bits as the shortest."""
     if version == 1:
         counts = [min(counts)] * 3
     cut = []
@@ -122,7 +122,7 @@ def capture(lanes, counts, version):
 
 
 def size_of(data):
-    """How many bytes a capture with this header has; none where there is no header."""
+    """Returns how many bytes a capture with this header has. None if there is no header."""
     if len(data) < 8 or data[:3] != b"TMC":
         return None
     counts = [int.from_bytes(data[4:8], "big")] * 3
@@ -133,7 +133,7 @@ def size_of(data):
 
 
 class Seeds:
-    """The inputs that cases begin with: listings, contents, captures, and the characters of three lanes."""
+    """The inputs before they are changed: listings, contents, captures, and the characters of three lanes."""
 
     def __init__(self, program):
         self.listings, self.contents, self.captures, self.lanes, self.streams = [], [], [], [], []
@@ -161,7 +161,7 @@ class Seeds:
 
     @staticmethod
     def columns(data):
-        """The characters of a capture from bit 0 on, of the first version."""
+        """Returns the characters of a capture of version 1, from bit 0 on."""
         rest, lanes = data[8:], [b"", b"", b""]
         size = (int.from_bytes(data[4:8], "big") + 7) // 8
         for at in range(0, size, BLOCK):
@@ -177,7 +177,7 @@ class Seeds:
 
 
 def change_bytes(rng, data, other):
-    """One change of bytes."""
+    """Changes some bytes."""
     data = bytearray(data)
     size = len(data)
     at, to = sorted((rng.randrange(size + 1), rng.randrange(size + 1)))
@@ -206,7 +206,7 @@ def change_bytes(rng, data, other):
 
 
 def change_text(rng, data, other):
-    """One change of lines, fields and numbers."""
+    """Changes lines, fields or numbers."""
     lines = data.split(b"\n")
     at = rng.randrange(len(lines))
     kind = rng.randrange(8)
@@ -243,7 +243,7 @@ def change_text(rng, data, other):
 
 
 def change_lanes(rng, rows, other):
-    """One change of the characters of three lanes."""
+    """Changes some characters of the three lanes."""
     lane, size = rng.randrange(3), min(map(len, rows))
     at = rng.randrange(size + 1)
     kind = rng.randrange(8)
@@ -280,7 +280,7 @@ def change_lanes(rng, rows, other):
 
 
 def slip(rng, bits, count):
-    """The bits of a lane, some of which are left out at one place or at many, and their number."""
+    """Drops bits of a lane at one place or at many. Returns the bits and their number."""
     step = rng.choice((0, 0, 130, 1000))
     for place in range(count - 10, 0, -step) if step else [rng.randrange(count + 1)]:
         drop = min(rng.randrange(1, 10), count)
@@ -290,7 +290,7 @@ def slip(rng, bits, count):
 
 
 def change_subframes(rng, data, other):
-    """One change of whole subframes and of their marks."""
+    """Changes whole subframes or their marks."""
     groups = [data[at : at + 8] for at in range(0, len(data), 8)] or [b""]
     at = rng.randrange(len(groups))
     kind = rng.randrange(4)
@@ -307,7 +307,7 @@ def change_subframes(rng, data, other):
 
 
 def captured(rng, seeds):
-    """A capture whose lanes were changed, and perhaps its bytes."""
+    """Makes a capture from changed lanes."""
     rows = [row[:] for row in rng.choice(seeds.lanes)]
     for _ in range(rng.choice((0, 1, 1, 2, 3, 6))):
         change_lanes(rng, rows, rng.choice(seeds.lanes))
@@ -359,7 +359,7 @@ ODD_WORDS += ("--skew=1,2", "0:0:000", "é", "\udcff", "x" * 5000)
 
 
 def spoil(rng, words):
-    """Words after one change."""
+    """Changes the words of a command once."""
     words = words[:]
     at = rng.randrange(len(words) + 1)
     kind = rng.randrange(6)
@@ -381,7 +381,7 @@ def spoil(rng, words):
 
 
 def case(seeds, rng):
-    """Words and an input, by what is drawn alone."""
+    """Returns the words and the input of a case. They depend only on the random numbers."""
     name = rng.choice(list(REFUSED))
     words = name.split(" ")
     if name == "make link":
@@ -416,7 +416,7 @@ def case(seeds, rng):
 
 
 def fed(data, pipe):
-    """Writes into a pipe in pieces of a size that the data's length decides."""
+    """Writes data into a pipe, in pieces of a size that depends on its length."""
     piece = (1, 7, 4096, 65536)[len(data) % 4] if len(data) < 20_000 else 65_521
     try:
         for at in range(0, len(data), piece):
@@ -427,7 +427,7 @@ def fed(data, pipe):
 
 
 def run_once(program, words, data, limit, folder, piped):
-    """The status, the output and the notes; a status of None is a run over its time."""
+    """Returns the status, the output and standard error of a run. The status is None if it takes too long."""
     with open(os.path.join(folder, "out"), "w+b") as out, open(os.path.join(folder, "notes"), "w+b") as notes:
         feeder = None
         if piped:
@@ -464,19 +464,19 @@ def name_of(words):
 
 
 def wrong_output(name, status, output, notes):
-    """What an output has that its status does not allow; none where all is right."""
+    """Says why the status does not allow the output. None if it does."""
     if status in (2, 7) and output:
-        return "an output that must be empty"
+        return "there is an output, and the status allows none"
     if name.startswith("make") and status == 3 and output:
-        return "an output of a refused listing"
+        return "there is an output of a refused listing"
     if name.startswith("make") and status == 0 and size_of(output) != len(output):
         return "a capture of a wrong size"
     if name == "damage" and status == 0 and size_of(output) != len(output):
         return "a damaged capture of a wrong size"
     if name == "damage" and status == 3 and notes.startswith(b"input: place") and output:
-        return "an output of a refused damage"
+        return "there is an output of a refused damage"
     if name in ("slip", "relay") and status == 3 and output:
-        return "an output of a refused capture"
+        return "there is an output of a refused capture"
     if name in ("slip", "relay") and status < 3 and size_of(output) != len(output):
         return "a capture of a wrong size"
     if name in ("slip", "relay") and status < 3 and output[3:4] != (b"2" if name == "slip" else b"1"):
@@ -500,17 +500,17 @@ def wrong_output(name, status, output, notes):
 
 
 def judge(words, answer):
-    """What is wrong with an answer; none where all is right."""
+    """Says what is wrong with an answer. None if nothing is."""
     status, output, notes = answer
     if status is None:
-        return "over its time"
+        return "it takes longer than the limit"
     if status < 0:
         return f"signal {-status}"
     if status == 2:
         return None if re.fullmatch(USAGE, notes) and not output else "a wrong note or output of status 2"
     name = name_of(words)
     if name not in REFUSED:
-        return f"status {status} of words that name no command"
+        return f"status {status} for words that name no command"
     if status not in STATUSES[name]:
         return f"status {status}"
     wanted = {3: rb"input: (?:" + REFUSED[name] + rb")\n", 7: rb"no alignment\n"}.get(status, b"")
@@ -520,7 +520,7 @@ def judge(words, answer):
 
 
 def tapped(words, columns):
-    """The capture of columns by the words of a tap, where they are of the forms that `tap` makes."""
+    """Returns the capture of columns that the options of `make` ask for, if `tap` made them."""
     given = dict(re.findall(r"--(\w+)[ =](\S+)", " ".join(words)))
     offset, skews = int(given.get("offset", 0)), [int(it) for it in given.get("skew", "0,0,0").split(",")]
     most, version = int(given.get("bits", 2**32)), int(given.get("version", 1))
@@ -531,7 +531,7 @@ def tapped(words, columns):
 
 
 def made(words, text):
-    """What is made of a listing that was not refused; none where it is long."""
+    """Returns the status and the capture of a listing that the program takes. None if the listing is long."""
     if words[1] == "content":
         mode, frames = rasters.read(text)
         count = sum(mode[:4]) * sum(mode[4:8]) * len(frames)
@@ -544,7 +544,7 @@ def made(words, text):
 
 
 def put_in(words, data):
-    """What `damage` makes of a capture."""
+    """Returns the status and the output of `damage`."""
     lanes = model.lanes_in(data)
     for lane, place, value in (word.split(":") for word in words[1:]):
         row, at = lanes[int(lane)], int(place)
@@ -553,7 +553,7 @@ def put_in(words, data):
 
 
 def modelled(words, data):
-    """The status and the output of a case by the small models, where they know it: none where they do not."""
+    """Returns the status and the output by the models. None if they do not know the command."""
     if words == ["read", "biphase"]:
         return model.biphase_text(data)[:2]
     if words[0] == "make":
@@ -594,15 +594,15 @@ MODELLED = re.compile(rf"check|relay|read biphase|slip [0-2]:\d{{1,10}}:[1-9]|da
 
 
 def unlike_models(words, data, answer):
-    """What is wrong with an answer by the small models; none where it is theirs, or where they are not asked."""
+    """Says what the models find wrong with an answer. None if they agree or are not asked."""
     asked = {"read": (0, 3), "slip": (0,), "damage": (0,), "make": (0,)}.get("".join(words[:1]), (0, 1, 7))
     if len(data) > SMALL or answer[0] not in asked or not MODELLED.fullmatch(" ".join(words)):
         return None
-    return None if modelled(words, data) in (None, answer[:2]) else "another answer than that of the models"
+    return None if modelled(words, data) in (None, answer[:2]) else "the models have another answer"
 
 
 def found_in(program, words, data, limit, folder):
-    """What is wrong with a case, and its status."""
+    """Says what is wrong with a case (None if nothing is), and returns its status."""
     first = run_once(program, words, data, limit, folder, False)
     if first[0] is None:
         first = run_once(program, words, data, limit, folder, False)
@@ -611,7 +611,7 @@ def found_in(program, words, data, limit, folder):
         second = run_once(program, words, data, limit, folder, True)
     found = judge(words, first) or judge(words, second)
     if found is None and first != second:
-        found = "a second run that answers otherwise"
+        found = "the second run has another answer"
     return found or unlike_models(words, data, first), first[0]
 
 
@@ -625,20 +625,20 @@ def keep(folder, seed, number, words, data):
 
 def options():
     reader = argparse.ArgumentParser(description=__doc__, formatter_class=argparse.RawDescriptionHelpFormatter)
-    reader.add_argument("--seconds", type=float, default=60)
-    reader.add_argument("--seed", type=int, default=1)
-    reader.add_argument("--program", default=PROGRAM)
-    reader.add_argument("--limit", type=float, default=20, help="the seconds that a run may take")
-    reader.add_argument("--first", type=int, default=0, help="the number of the first case")
-    reader.add_argument("--cases", type=int, default=None, help="how many cases at most")
-    reader.add_argument("--keep", default=None, help="a folder for the inputs of findings")
+    reader.add_argument("--seconds", type=float, default=60, help="seconds for all cases (default %(default)s)")
+    reader.add_argument("--seed", type=int, default=1, help="seed of the cases (default %(default)s)")
+    reader.add_argument("--program", default=PROGRAM, help="program to run (default %(default)s)")
+    reader.add_argument("--limit", type=float, default=20, help="seconds that a run may take (default %(default)s)")
+    reader.add_argument("--first", type=int, default=0, help="number of the first case (default %(default)s)")
+    reader.add_argument("--cases", type=int, default=None, help="most cases (default: as many as the time allows)")
+    reader.add_argument("--keep", default=None, help="folder for the inputs of findings")
     reader.add_argument("--shrink", action="store_true", help="make the first finding as small as possible")
     return reader.parse_args()
 
 
 def shrunk(program, seeds, given, folder):
-    """The smallest case that Hypothesis comes to of one that is found; none where none is found. Hypothesis draws few bytes a case, so
-    the largest ones are left out."""
+    """Returns the smallest case with a finding that Hypothesis reaches. None if it finds none. Hypothesis draws few bytes for a case, so it
+    skips the largest ones."""
     import hypothesis
     from hypothesis import strategies
 
@@ -655,7 +655,7 @@ def shrunk(program, seeds, given, folder):
 
 
 def shrink(program, seeds, given):
-    """Looks for one finding, and says the smallest case of it; the status."""
+    """Looks for one finding and prints its smallest case. Returns the exit status."""
     with tempfile.TemporaryDirectory() as folder:
         smallest = shrunk(program, seeds, given, folder)
         if smallest is None:
@@ -672,7 +672,7 @@ def main():
     given = options()
     program = os.path.abspath(given.program)
     if not os.path.isfile(program):
-        sys.exit(f"{program}: there is no such program; `rt ci` and `./vabgrot` build it")
+        sys.exit(f"{program}: there is no such program. `./vabgrot` builds it, or --program names one.")
     seeds = Seeds(program)
     if given.shrink:
         return shrink(program, seeds, given)

@@ -7,68 +7,71 @@ const NEAR = 64; // columns between two neighbouring faults of a burst at most
 const [LEAST, PLACES] = [6, 3]; // the fault lines that a burst has at least, and the columns at which they are
 const LEAST_CONTROL = 12;
 
-/** @typedef {{at: number, columns: number, faults: number[]}} Burst the first column, how many there are, and the faults in the order of
- *  the listing */
-
-/** @param {number[]} list sorted @param {number} value @returns {number} how many of it are less */
-function below(list, value) {
-  let [low, high] = [0, list.length];
-  while (low < high) {
-    const middle = (low + high) >> 1;
-    if (list[middle] < value) low = middle + 1;
-    else high = middle;
+/** Finds bursts as faults and periods come, each as soon as it has ended. No row and no island that stands alone lies in one. */
+export class Bursts {
+  constructor() {
+    /** @type {Burst[]} */
+    this.found = []; // in the order of their columns
+    /** @type {Ordered} */
+    this.order = { fault: [], at: [] };
+    this.next = 0; // the first fault of the order that is in no group yet
+    /** @type {number[]} */
+    this.group = []; // the last faults that are near one another
+    /** @type {number[]} */
+    this.alone = []; // the first columns of rows and islands without a fault, after twelve control columns and before one
+    this.periods = 0; // that were looked at
+    this.quiet = 0; // control columns before the next period
+    this.first = -1; // the first column of a row or an island that may stand alone
+    this.known = 0; // the column up to which all faults have come
   }
-  return low;
-}
 
-/** @param {{kind: string[], at: number[]}} faults @param {{kind: number[], at: number[], columns: number[]}} periods @returns {Burst[]} in
- *  the order of their columns. No row and no island that stands alone lies in one */
-export function burstsOf(faults, periods) {
-  if (faults.at.length < LEAST) return [];
-  const order = faults.at.map((_, number) => number).sort((one, other) => faults.at[one] - faults.at[other] || one - other);
-  const certain = standingAlone(periods, order.map((number) => faults.at[number]));
-  /** @type {number[][]} */
-  const groups = [];
-  let last = -1;
-  for (const number of order) {
-    const at = faults.at[number];
-    const isApart = last < 0 || at - faults.at[last] > NEAR || below(certain, faults.at[last]) < below(certain, at);
-    if (isApart) groups.push([]);
-    groups[groups.length - 1].push(number);
-    last = number;
+  /** @param {Faults} faults all that have come @param {Periods} periods @param {boolean} isEnd whether no more come @returns {Burst[]} */
+  take(faults, periods, isEnd) {
+    orderFaults(this.order, faults);
+    for (; this.periods < periods.kind.length; this.periods++) this.takePeriod(periods, this.periods);
+    const { fault, at } = this.order;
+    for (; this.next < at.length && (isEnd || at[this.next] < this.known); this.next++) this.takeFault(fault[this.next], faults);
+    if (isEnd) this.endGroup(faults);
+    return this.found;
   }
-  return groups.flatMap((group) => burstOf(faults, group));
-}
 
-/** @param {{kind: string[], at: number[]}} faults @param {number[]} group near one another, by their numbers @returns {Burst[]} the burst
- *  that they are; none where they are too few */
-function burstOf(faults, group) {
-  const places = new Set(group.map((number) => faults.at[number]));
-  const shows = group.some((number) => FAULTS[faults.kind[number]].isDense);
-  if (group.length < LEAST || places.size < PLACES || !shows) return [];
-  const [first, last] = [faults.at[group[0]], faults.at[group[group.length - 1]]];
-  return [{ at: first, columns: last - first + 1, faults: [...group].sort((one, other) => one - other) }];
-}
-
-/** @param {{kind: number[], at: number[], columns: number[]}} periods @param {number[]} faulty columns, sorted @returns {number[]} the
- *  first columns of the rows and islands without a fault that stand after twelve control columns and before one */
-function standingAlone(periods, faulty) {
-  /** @type {number[]} */
-  const found = [];
-  let [quiet, first] = [0, -1];
-  periods.kind.forEach((kind, number) => {
-    const at = periods.at[number];
+  /** @param {Periods} periods @param {number} number */
+  takePeriod({ kind: kinds, at: columns, columns: sizes }, number) {
+    const [kind, at] = [kinds[number], columns[number]];
     if (kind === CONTROL) {
-      if (first >= 0 && below(faulty, first) === below(faulty, at)) found.push(first);
-      quiet += periods.columns[number];
-      first = -1;
+      if (this.first >= 0 && this.before(this.first) === this.before(at)) this.alone.push(this.first);
+      this.quiet += sizes[number];
+      this.first = -1;
+      this.known = at;
     } else if (kind === VIDEO || kind === OPEN) {
-      first = quiet >= LEAST_CONTROL ? at : -1;
-      quiet = 0;
+      this.first = this.quiet >= LEAST_CONTROL ? at : -1;
+      this.quiet = 0;
     } else if (kind !== PACKET && kind !== CLOSE) {
-      quiet = 0;
-      first = -1;
+      this.quiet = 0;
+      this.first = -1;
     }
-  });
-  return found;
+  }
+
+  /** @param {number} at @returns {number} how many faults stand before a column */
+  before(at) {
+    return placeOf(this.order.at, at - 1);
+  }
+
+  /** @param {number} fault @param {Faults} faults */
+  takeFault(fault, faults) {
+    const [last, at] = [faults.at[this.group[this.group.length - 1]] ?? -Infinity, faults.at[fault]];
+    if (at - last > NEAR || placeOf(this.alone, last - 1) < placeOf(this.alone, at - 1)) this.endGroup(faults);
+    this.group.push(fault);
+  }
+
+  /** Faults that are near one another are a burst, unless they are too few.
+   *  @param {Faults} faults */
+  endGroup(faults) {
+    const { group } = this;
+    this.group = [];
+    const places = new Set(group.map((fault) => faults.at[fault]));
+    if (group.length < LEAST || places.size < PLACES || !group.some((fault) => FAULTS[faults.kind[fault]].isDense)) return;
+    const [first, last] = [faults.at[group[0]], faults.at[group[group.length - 1]]];
+    this.found.push({ at: first, columns: last - first + 1, faults: group.sort((one, other) => one - other) });
+  }
 }

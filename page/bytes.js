@@ -9,11 +9,6 @@ export function hex(bytes) {
 
 const DIGITS = Array.from({ length: 256 }, (_, byte) => byte.toString(16).padStart(2, "0"));
 
-/** @param {number} byte @returns {string} its two hexadecimal digits */
-export function hexByte(byte) {
-  return DIGITS[byte];
-}
-
 /** @param {Iterable<number>} bytes @returns {number} what they sum to */
 export function sum(bytes) {
   let total = 0;
@@ -30,8 +25,10 @@ export function ones(value) {
 
 /** @param {number} value @returns {string} a whole number with a comma between thousands */
 export function thousands(value) {
-  return value.toLocaleString("en-US");
+  return COMMAS.format(value);
 }
+
+const COMMAS = new Intl.NumberFormat("en-US"); // much faster than toLocaleString
 
 /** @param {number} bytes @returns {string} how many millions they are */
 export function megabytes(bytes) {

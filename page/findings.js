@@ -4,18 +4,16 @@ import { Album } from "./album.js";
 import { hex } from "./bytes.js";
 import { coloursOf, isPlain, pixelAt, pixelsOf, sentPixels } from "./colours.js";
 import { BLOCKED, CLOSE, CUT, LANED, LINE, NEXT, OF_PACKET, OPEN, PACKET, RUN, UNCOUNTED, faultOf } from "./events.js";
-import { Frame, Vsync } from "./frames.js";
-import { modeName } from "./infoframes.js";
-import { AVI, SAMPLES, contentOf, isOtherSize, nameOf, packetOf } from "./packets.js";
+import { Frame, MOST_LISTED, Vsync } from "./frames.js";
+import { nameOf, numberOf } from "./infoframes.js";
+import { contentOf, isOtherSize, packetOf } from "./packets.js";
 import { Sound } from "./samples.js";
 import { Signals } from "./signals.js";
 import { Weaver, linesDown } from "./weaving.js";
-import { CONTENT_FAULTS, PIXEL_BITS, UNHEARD } from "./words.js";
+import { CONTENT_FAULTS, PIXEL_BITS, READ_AVI, TABLES, TYPES, UNHEARD } from "./words.js";
 
 /** @typedef {import("./events.js").Event} Event */
 /** @typedef {import("./packets.js").Content & {name: string}} Content */
-/** @typedef {{picture: number, width: number, height: number, whole: boolean, number: number, faults: Record<string, number>, says: string,
- *  line: number, lines: number[], from: number, to: number, kind: string}} Shot what the page has of a frame */
 /** @typedef {ReturnType<Findings["taken"]>} Found */
 
 const PERIODS = { control: 0, video: 1, packet: 2, open: 3, close: 4, unknown: 5 }; // as report.js has them
@@ -109,6 +107,8 @@ export class Findings {
     this.isClosing = false; // whether the last line that tells no fault closes an island
     /** @type {{at: number, line: number} | null} */
     this.unknown = null; // the last period, where its length is not known yet
+    /** @type {Map<string, Rest>} */
+    this.rest = new Map(); // by kind and frame
     this.counts = { rows: 0, frames: 0, whole: 0 };
     this.sound = new Sound();
     /** @type {Record<string, number>} */
@@ -206,11 +206,23 @@ export class Findings {
   fault(kind, { named, value, second, count }) {
     const lane = LANED.has(kind) ? value : -1;
     const more = { mended: [value, second], lost: [value], symbols: [count] }[/** @type {"lost"} */ (kind)] ?? [];
-    const mark = this.frame.fault(kind, this.faults.size, named);
-    const rgb = hex(this.frame.pixelAt(mark));
-    this.faults.add({ kind, lane, at: named, epoch: 0, column: named, line: this.lines, more, frame: -1, ...mark, rgb });
+    if (this.frame.count(kind) > MOST_LISTED) this.countOnly(kind, lane, named);
+    else {
+      const mark = this.frame.mark(kind, this.faults.size, named);
+      const rgb = hex(this.frame.pixelAt(mark));
+      this.faults.add({ kind, lane, at: named, epoch: 0, column: named, line: this.lines, more, frame: -1, ...mark, rgb });
+    }
     if (OF_PACKET.has(kind)) this.last?.judge(kind, more);
     else this.leaveOut(kind, named);
+  }
+
+  /** @param {string} kind of a fault that is not listed, since its frame has so many of it @param {number} lane @param {number} at */
+  countOnly(kind, lane, at) {
+    const key = `${kind} ${this.counts.frames}`;
+    const rest = this.rest.get(key) ?? { kind, lanes: {}, from: at, to: at };
+    rest.lanes[lane] = (rest.lanes[lane] ?? 0) + 1;
+    rest.to = at;
+    this.rest.set(key, rest);
   }
 
   /** A fault stands for columns that open nothing, or that could not be counted.
@@ -238,15 +250,15 @@ export class Findings {
     const name = nameOf(packet.header[0]);
     this.packets.add({ at, line, name, verdicts, symbols, content: content ? this.numberOf({ ...content, name }) : -1 });
     if (content) this.heed(packet, content);
-    else if (packet.header[0] === SAMPLES) this.sound.lose();
+    else if (packet.header[0] === TYPES.SAMPLES) this.sound.lose();
   }
 
   /** @param {import("./packets.js").Packet} packet one without a lost block @param {import("./packets.js").Content} content */
   heed(packet, { faults }) {
-    const [kind, second] = packet.header;
+    const [kind, version] = packet.header;
     for (const fault of faults) this.blame(fault.split(" ")[0]);
     this.signals.take(packet);
-    if (kind === AVI && second === 2 && !faults.length) this.vic = packet.bytes[4] & 127;
+    if (kind === TYPES.AVI && version === READ_AVI && !faults.length) this.vic = numberOf(packet, "VIC");
     this.sound.take(packet, faults);
     if (UNHEARD[kind]) this.unheard[UNHEARD[kind]] = (this.unheard[UNHEARD[kind]] ?? 0) + 1;
   }
@@ -267,7 +279,8 @@ export class Findings {
     const number = this.counts.frames;
     this.counts.frames += 1;
     if (frame.isWhole) this.endWhole(frame, signal, notes);
-    this.settled.push(...frame.marks.map((mark) => ({ fault: mark.fault, frame: number, ...shownAs(frame, mark, signal) })));
+    const shownAs = shower(frame, signal);
+    for (const mark of frame.marks) this.settled.push({ fault: mark.fault, frame: number, ...shownAs(mark) });
     const [width, height] = [pixelsOf(signal, frame.width), frame.rows.length];
     this.weaver.take({ number, width, height, linesDown: linesDown(frame.change, frame.firsts) }, frame.isWhole);
     const left = Math.max(0, Math.round((this.expected - at) * this.counts.frames / Math.max(at, 1)));
@@ -313,7 +326,7 @@ export class Findings {
     [this.frames, this.contents, this.settled] = [[], [], []];
     return {
       periods: this.periods.taken(), faults: this.faults.taken(), packets: this.packets.taken(), frames, contents, settled,
-      pictures: this.album.taken(), shown: this.weaver.shown, columns: this.end, isAligned: this.lines > 0, counts: { ...this.counts },
+      rest: [...this.rest.values()], pictures: this.album.taken(), shown: this.weaver.shown, columns: this.end, isAligned: this.lines > 0, counts: { ...this.counts },
       contentFaults: this.contentFaults, unheard: { ...this.unheard }, notes: [...this.notes], cut: this.cut,
       vic: this.signals.avi?.vic ?? 0, depth: PIXEL_BITS[this.signals.depth || 4] ?? 24, sound: this.sound.taken(),
     };
@@ -325,13 +338,16 @@ function sorted(counts) {
   return Object.fromEntries(Object.entries(counts).sort(([one], [other]) => (one < other ? -1 : 1)));
 }
 
-/** @param {Frame} frame @param {import("./frames.js").Mark} mark @param {import("./colours.js").Signal} signal @returns {{x?: number,
- *  rgb?: string}} the pixel and the colour as which a damaged column is shown, where they are others */
-function shownAs(frame, { x, y }, signal) {
-  if (isPlain(signal) || x < 0) return {};
-  const [pixel, row] = [pixelAt(signal, x), frame.rows[y]];
-  const { data, width } = coloursOf([row], row.length / 3, signal);
-  return pixel < width ? { x: pixel, rgb: hex(data.subarray(4 * pixel, 4 * pixel + 3)) } : { x: -1, rgb: "" };
+/** @param {Frame} frame @param {import("./colours.js").Signal} signal @returns {(mark: import("./frames.js").Mark) => {x?: number, rgb?:
+ *  string}} what tells the pixel and the colour as which a damaged column is shown, where they are others; each row is converted once */
+function shower(frame, signal) {
+  let [last, image] = [-1, /** @type {ImageData | null} */ (null)];
+  return ({ x, y }) => {
+    if (isPlain(signal) || x < 0) return {};
+    if (y !== last || !image) [last, image] = [y, coloursOf([frame.rows[y]], frame.rows[y].length / 3, signal)];
+    const pixel = pixelAt(signal, x);
+    return pixel < image.width ? { x: pixel, rgb: hex(image.data.subarray(4 * pixel, 4 * pixel + 3)) } : { x: -1, rgb: "" };
+  };
 }
 
 /** @param {Frame} frame @param {keyof typeof ENDS} ended @param {number} vic the code that says another size; 0 where none does @returns
@@ -339,5 +355,5 @@ function shownAs(frame, { x, y }, signal) {
 function saysOf(frame, ended, vic) {
   const { ragged } = frame;
   const says = frame.isWhole || ended !== "vsync" ? ENDS[ended] : "begun before the capture";
-  return `${says}${ragged ? `, ${ragged} rows of another width` : ""}${vic ? `, though its AVI InfoFrame says ${modeName(vic)}` : ""}`;
+  return `${says}${ragged ? `, ${ragged} rows of another width` : ""}${vic ? `, though its AVI InfoFrame says ${TABLES.MODES.known[vic]}` : ""}`;
 }

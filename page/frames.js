@@ -2,6 +2,7 @@
 
 const VSYNC = 2; // of a control column's value
 const NOWHERE = { x: -1, y: -1 };
+export const MOST_LISTED = 10_000; // faults of a kind that a frame has listed; those behind them are counted
 const CERTAIN = 3; // neighbouring columns of one value, from which on VSYNC has it
 
 /** VSYNC as a content listing has it: it has a value once three neighbouring columns had it, with nothing but a `! word` between them. */
@@ -46,8 +47,10 @@ export class Frame {
     this.lines = [];
     /** @type {Record<string, number>} */
     this.faults = {};
+    /** @type {Record<string, number>} */
+    this.times = {}; // how many faults of each kind came since VSYNC changed, among its rows or not
     /** @type {({fault: number} & Mark)[]} */
-    this.marks = []; // the numbers of the faults among its rows, and where they are
+    this.marks = []; // the numbers of the faults among its rows that are listed, and where they are
   }
 
   /** @param {Uint8Array} row @param {number} at its first column @param {number} first that of its first pixel @param {number} line */
@@ -58,12 +61,18 @@ export class Frame {
     this.lines.push(line);
   }
 
-  /** @param {string} kind of a fault @param {number} fault its number @param {number} column that it names @returns {Mark} where it is
-   *  in the frame */
-  fault(kind, fault, column) {
+  /** @param {string} kind of a fault that came @returns {number} how many of it there are by now */
+  count(kind) {
+    if (this.rows.length) this.faults[kind] = (this.faults[kind] ?? 0) + 1;
+    this.times[kind] = (this.times[kind] ?? 0) + 1;
+    return this.times[kind];
+  }
+
+  /** @param {string} kind of a fault that is listed @param {number} fault its number @param {number} column that it names @returns {Mark}
+   *  where it is in the frame */
+  mark(kind, fault, column) {
     const last = this.rows.length - 1;
     if (last < 0) return NOWHERE;
-    this.faults[kind] = (this.faults[kind] ?? 0) + 1;
     const mark = kind === "code" ? { x: column - this.firsts[last], y: last } : NOWHERE;
     this.marks.push({ fault, ...mark });
     return mark;

@@ -1,6 +1,6 @@
 // What the worker has posted so far, as the sections of the report read it.
 
-import { burstsOf } from "./bursts.js";
+import { Bursts } from "./bursts.js";
 import { Findings } from "./findings.js";
 import { Hearing } from "./hearing.js";
 import { shortened } from "./listing.js";
@@ -15,30 +15,27 @@ const NOTHING = {
   at: 0, size: 0, bits: [], found: new Findings(false, 0).taken(), slip: null,
   listing: { lines: "", count: 0, parts: [], isWhole: true, size: 0 },
 };
-const FAULT_FIELDS = ["kind", "lane", "at", "epoch", "column", "line", "more", "frame", "x", "y", "rgb"];
 
 /** @param {any[]} list @param {any[]} more that are put behind it, however many there are */
 function append(list, more) {
   for (const one of more) list.push(one);
 }
 
-/** @typedef {Record<string, any[]>} Table a list a column */
-/** @typedef {Record<string, any> & {name: string, columns: number, periods: Table, faults: Table, packets: Table, words: string[], lines:
- *  string[], frames: import("./findings.js").Shot[], shown: import("./weaving.js").Shown[], thumbs: string[]}} Data what report.js draws
- *  from, as vabgrot.tools.report writes it into a report */
+/** @param {object} table a list a column @param {object} more the same lists, which are put behind those of the table */
+function extend(table, more) {
+  for (const [name, list] of Object.entries(table)) append(list, /** @type {Record<string, any[]>} */ (more)[name]);
+}
 
 /** @param {string} name @returns {Data} of a report in which nothing stands yet */
 function emptyData(name) {
-  const lists = (/** @type {string[]} */ names) => Object.fromEntries(names.map((one) => [one, []]));
+  const faults = { kind: [], lane: [], at: [], epoch: [], column: [], line: [], more: [], frame: [], x: [], y: [], rgb: [] };
   return {
     name, columns: 0, epochs: [0], places: [0], hidden: [0], alignments: [0], doubts: [[], []],
-    periods: lists(["kind", "at", "columns", "line", "value"]),
-    faults: lists(FAULT_FIELDS),
-    bursts: [],
+    periods: { kind: [], at: [], columns: [], line: [], value: [] }, faults, bursts: [], rest: [],
     kinds: Object.fromEntries(Object.entries(FAULTS).map(([kind, { row, says }]) => [kind, [row, says]])),
     limits: Object.keys(CONTENT_FAULTS).filter((kind) => CONTENT_FAULTS[kind].isLimit),
     frames: [], shown: [], thumbs: [],
-    packets: lists(["names", "at", "words", "faults", "verdicts", "symbols", "line"]),
+    packets: { names: [], at: [], words: [], faults: [], verdicts: [], symbols: [], line: [] },
     packetNames: NAMES, words: [], blocks: BLOCKS, lines: [], sound: null,
   };
 }
@@ -63,8 +60,10 @@ export class Gathered {
     this.words = new Map();
     /** @type {Map<string, Info>} */
     this.infos = new Map();
-    /** @type {Record<string, Record<string, number>>} */
-    this.matrix = {}; // how many faults there are, by kind and lane
+    /** @type {Record<string, Record<number, number>>} */
+    this.listed = {}; // how many faults are listed, by kind and lane
+    this.bursts = new Bursts();
+    this.isOver = false;
     this.hurt = 0; // packets that are damaged
     /** @type {Uint8Array[]} */
     this.samples = []; // packets of samples
@@ -104,6 +103,7 @@ export class Gathered {
 
   /** All has come: what is told of the sound. */
   hear() {
+    this.isOver = true;
     const { sound: { told }, depth, unheard } = this.last.found;
     if (!told.samples) return;
     this.hearing = new Hearing(new Samples(this.samples, told.samples), told, depth, unheard);
@@ -111,22 +111,32 @@ export class Gathered {
   }
 
   /** @param {Found} found */
-  takeTables({ periods, faults, settled }) {
-    const { data } = this;
-    for (const name of Object.keys(periods)) append(data.periods[name], periods[name]);
-    for (const name of FAULT_FIELDS) append(data.faults[name], faults[name]);
-    faults.kind.forEach((kind, at) => {
-      this.matrix[kind] ??= {};
-      this.matrix[kind][faults.lane[at]] = (this.matrix[kind][faults.lane[at]] ?? 0) + 1;
-    });
-    for (const { fault, ...known } of settled) for (const [name, value] of Object.entries(known)) data.faults[name][fault] = value;
+  takeTables({ periods, faults, settled, rest }) {
+    const { data, listed } = this;
+    extend(data.periods, periods);
+    extend(data.faults, faults);
+    data.rest = rest;
+    faults.kind.forEach((kind, at) => { countIn(listed, kind, faults.lane[at], 1); });
+    for (const { fault, frame, x, rgb } of settled) {
+      data.faults.frame[fault] = frame;
+      if (x !== undefined) data.faults.x[fault] = x;
+      if (rgb !== undefined) data.faults.rgb[fault] = rgb;
+    }
+  }
+
+  /** @returns {Record<string, Record<number, number>>} how many faults there are, by kind and lane */
+  get matrix() {
+    const found = structuredClone(this.listed);
+    for (const { kind, lanes } of this.data.rest ?? []) {
+      for (const [lane, times] of Object.entries(lanes)) countIn(found, kind, Number(lane), times);
+    }
+    return found;
   }
 
   /** @returns {Data} as far as it has come */
   whole() {
     const { data } = this;
-    const [faults, periods] = [/** @type {any} */ (data.faults), /** @type {any} */ (data.periods)];
-    data.bursts = burstsOf(faults, periods);
+    data.bursts = this.bursts.take(data.faults, data.periods, this.isOver);
     return data;
   }
 
@@ -176,11 +186,19 @@ export class Gathered {
 
   /** @returns {number} the lines of the listing that tell a fault */
   get faults() {
-    return this.data.faults.kind.length;
+    const rest = (this.data.rest ?? []).flatMap(({ lanes }) => Object.values(lanes));
+    return rest.reduce((sum, times) => sum + times, this.data.faults.kind.length);
   }
 
   /** @returns {Info[]} those that came most often */
   get mostInfos() {
     return [...this.infos.values()].sort((one, other) => other.times - one.times).slice(0, 24);
   }
+}
+
+/** @param {Record<string, Record<number, number>>} counts to which some faults are added @param {string} kind @param {number} lane @param
+ *  {number} times */
+function countIn(counts, kind, lane, times) {
+  counts[kind] ??= {};
+  counts[kind][lane] = (counts[kind][lane] ?? 0) + times;
 }

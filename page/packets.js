@@ -1,36 +1,28 @@
 // Packets of data islands in words: what HDMI 1.4, CTA-861 and IEC 60958-3 call their fields.
 
-import { hex, hexByte, ones, sum } from "./bytes.js";
-import * as infoframes from "./infoframes.js";
-import { row } from "./infoframes.js";
-import { DEPTHS, LENGTHS, MODE_SIZES, NAMES, READ_TOO, SHORT } from "./words.js";
+import { hex, ones, sum } from "./bytes.js";
+import { MOST_LENGTH, isInfoframe, layoutOf, lengthOf, numberIn, numberOf, rowsOf } from "./infoframes.js";
+import { LAYOUTS, MODE_SIZES, SHORT, TYPES } from "./words.js";
 
+/** @typedef {import("./infoframes.js").Packet} Packet */
 /** @typedef {import("./infoframes.js").Row} Row */
-/** @typedef {{header: Uint8Array, bytes: Uint8Array}} Packet the three bytes of the header, and the 28 of the four bodies */
 /** @typedef {{words: string, rows: Row[], faults: string[]}} Content what a packet carries: in words, as fields, and what is wrong */
 
-export const SAMPLES = 2;
-export const CONTROL = 3;
-export const AVI = 0x82;
-export const CLOCK = 1;
 const [BODIES, BODY] = [4, 7];
+const NUMBERS = [...Array(BODIES).keys()];
+const FIELDS = /** @type {import("./infoframes.js").Layout} */ (LAYOUTS.find(({ header }) => header[0] === TYPES.SAMPLES)).fields;
+const LEFT = FIELDS.left.byte;
+const RIGHT = FIELDS.right.byte;
 
 /** @param {Uint8Array} data 31 bytes or more @returns {Packet} */
 export function packetOf(data) {
   return { header: data.subarray(0, 3), bytes: data.subarray(3, 31) };
 }
 
-/** @param {number} kind @returns {string} what a type is called */
-export function nameOf(kind) {
-  return NAMES[kind] ?? (kind >= 0x80 ? `InfoFrame ${hexByte(kind)}` : `Packet ${hexByte(kind)}`);
-}
-
 /** @param {Packet} packet @param {number} number @returns {Uint8Array} */
 export function bodyOf(packet, number) {
   return packet.bytes.subarray(BODY * number, BODY * (number + 1));
 }
-
-const NUMBERS = [...Array(BODIES).keys()];
 
 /** @param {string} words @param {Row[]} [rows] @param {string[]} [faults] @returns {Content} */
 function content(words, rows = [], faults = []) {
@@ -40,7 +32,7 @@ function content(words, rows = [], faults = []) {
 /** @param {Packet} packet one without a lost block @returns {Content} */
 export function contentOf(packet) {
   const kind = packet.header[0];
-  if (kind >= 0x80) return infoframe(packet);
+  if (isInfoframe(kind)) return infoframe(packet);
   const reader = READERS[kind];
   return reader ? reader(packet) : content([packet.header, ...NUMBERS.map((it) => bodyOf(packet, it))].map(hex).join(" "));
 }
@@ -49,31 +41,41 @@ export function contentOf(packet) {
 function clock(packet) {
   const first = hex(bodyOf(packet, 0));
   if (NUMBERS.some((number) => hex(bodyOf(packet, number)) !== first)) return content("its four copies are not alike", [], ["uneven"]);
-  const { n, cycles } = clockOf(packet);
-  return content(`N ${n}, CTS ${cycles}`, [row("N", `${n}`), row("CTS", `${cycles}`)]);
+  const rows = rowsOf(packet);
+  return content(rows.map(({ name, value }) => `${name} ${value}`).join(", "), rows);
 }
 
 /** @param {Packet} packet of clock regeneration @returns {{n: number, cycles: number}} N and CTS */
-export function clockOf({ bytes }) {
-  const number = (/** @type {number} */ at) => (bytes[at] & 15) << 16 | bytes[at + 1] << 8 | bytes[at + 2];
-  return { n: number(4), cycles: number(1) };
+export function clockOf(packet) {
+  return { n: numberOf(packet, "N"), cycles: numberOf(packet, "CTS") };
 }
 
 /** @param {Uint8Array} body @returns {string[]} the sides, l and r, whose parity is odd */
 function unevenSides(body) {
-  const [left, right] = [body[0] ^ body[1] ^ body[2] ^ body[6] & 15, body[3] ^ body[4] ^ body[5] ^ body[6] >> 4];
-  return [...(ones(left) & 1 ? ["l"] : []), ...(ones(right) & 1 ? ["r"] : [])];
+  const all = (/** @type {number} */ at, /** @type {string} */ flags) => body[at] ^ body[at + 1] ^ body[at + 2] ^ numberIn(FIELDS[flags], body);
+  const sides = { l: all(LEFT, "left VUCP"), r: all(RIGHT, "right VUCP") };
+  return Object.entries(sides).filter(([, bits]) => ones(bits) % 2).map(([name]) => name);
 }
 
-/** @param {Packet} packet @returns {Content} samples: in layout 0 up to four of two channels, in layout 1 one of up to eight (HDMI 1.4,
- *  section 5.3.4) */
-function samples(packet) {
-  const [, present, starts] = packet.header;
+/** What the header of a packet of samples says: which bodies are present, in which of them a block starts, which are flat, and whether they
+ *  are of more than two channels (HDMI 1.4, section 5.3.4).
+ *  @param {Packet} packet */
+export function samplesOf({ header }) {
+  const [present, starts, flat] = ["sample_present", "B", "sample_flat"].map((name) => numberIn(FIELDS[name], header));
   const here = NUMBERS.filter((number) => present >> number & 1);
-  const flat = here.filter((number) => starts >> number & 1).length;
-  const begins = here.some((number) => starts >> number + 4 & 1) ? ", a block starts" : "";
-  const behind = `${begins}${flat ? `, ${flat} flat` : ""}`;
-  if (present >> 4 & 1) {
+  return { here, starts: here.map((number) => starts >> number & 1), flat: ones(present & flat), isWide: Boolean(numberIn(FIELDS.layout, header)) };
+}
+
+/** @param {Uint8Array} body @param {string} name of a field of it @returns {number} */
+export function inBody(body, name) {
+  return numberIn(FIELDS[name], body);
+}
+
+/** @param {Packet} packet of samples @returns {Content} */
+function samples(packet) {
+  const { here, starts, flat, isWide } = samplesOf(packet);
+  const behind = `${starts.includes(1) ? ", a block starts" : ""}${flat ? `, ${flat} flat` : ""}`;
+  if (isWide) {
     const channels = here.map((pair) => `${2 * pair + 1}, ${2 * pair + 2}`).join(" and ");
     return content(`1 sample of more than two channels: ${channels || "none"}${behind}`, [], ["layout"]);
   }
@@ -82,80 +84,68 @@ function samples(packet) {
 }
 
 /** @param {Packet} packet @returns {Content} One Bit Audio samples (HDMI 1.4, section 5.3.9) */
-function oneBit({ header }) {
-  const [present, invalid, layout] = [header[1] & 15, header[2] & 15, header[1] >> 4 & 1];
+function oneBit(packet) {
+  const [present, invalid, layout] = ["samples_present", "samples_invalid", "layout"].map((name) => numberOf(packet, name));
   return content(`One Bit Audio: ${ones(present)} of four bodies, layout ${layout}, ${ones(present & invalid)} not valid`);
 }
 
-/** @param {Packet} packet @returns {Content} DST or high bit rate audio (HDMI 1.4, sections 5.3.10 and 5.3.11) */
-function otherAudio({ header: [kind, one, two] }) {
-  if (kind === 8) return content(`DST audio${one >> 7 ? ", a frame starts" : ""}${one >> 6 & 1 ? ", not valid" : ""}`);
-  return content(`high bit rate audio (IEC 61937), four frames${two >> 4 ? ", a block starts" : ""}`);
+/** @param {Packet} packet @returns {Content} DST audio (HDMI 1.4, section 5.3.10) */
+function dst(packet) {
+  const [starts, invalid] = ["frame_start", "samples_invalid"].map((name) => numberOf(packet, name));
+  return content(`DST audio${starts ? ", a frame starts" : ""}${invalid ? ", not valid" : ""}`);
 }
 
-/** @type {Record<number, (header: Uint8Array, data: Uint8Array) => Row[]>} */
-const DESCRIBED = { 4: infoframes.protection, 5: infoframes.recording, 6: infoframes.recording, 10: infoframes.gamut };
+/** @param {Packet} packet @returns {Content} high bit rate audio (HDMI 1.4, section 5.3.11) */
+function highRate(packet) {
+  return content(`high bit rate audio (IEC 61937), four frames${numberOf(packet, "B") ? ", a block starts" : ""}`);
+}
 
-/** @param {Packet} packet of types 4 to 6 or 10, whose fields are rows @returns {Content} */
-function described({ header, bytes }) {
-  const rows = DESCRIBED[header[0]](header, bytes);
+/** @param {Packet} packet whose fields are rows @returns {Content} */
+function described(packet) {
+  const rows = rowsOf(packet);
   return content(rows.slice(0, 3).map((it) => `${it.name} ${it.value}`).join(", "), rows);
 }
 
 /** @param {Packet} packet @returns {Content} a general control packet */
-function control({ bytes: [first, second, third] }) {
-  const mute = [[0, "sets mute"], [4, "clears mute"]].filter(([bit]) => first >> Number(bit) & 1).map(([, name]) => name).join(" and ");
-  const [depth, phase] = [second & 15, second >> 4];
-  const words = DEPTHS[depth] ?? `depth ${depth}, which is reserved`;
-  const rows = [
-    row("mute", mute || "as it is", `Set_AVMUTE ${first & 1}, Clear_AVMUTE ${first >> 4 & 1}`),
-    row("depth of colour", words, `CD ${depth}`),
-  ];
-  if (depth >= 5 && depth <= 7) {
-    rows.push(row("packing phase", `of the last column of pixels ${phase || (depth === 5 ? 4 : 0)}`, `PP ${phase}`));
-    rows.push(row("rows begin", third & 1 ? "at phase 0" : "at any phase", `Default_Phase ${third & 1}`));
-  }
-  return content(`${mute || "leaves mute"}, ${words}`, rows, depth === 0 || depth === 4 ? [] : [`depth ${depth}`]);
+function control(packet) {
+  const [rows, depth] = [rowsOf(packet), numberOf(packet, "CD")];
+  const mute = rows[0].value === "as it is" ? "leaves mute" : rows[0].value;
+  return content(`${mute}, ${rows[1].value}`, rows, depth === 0 || depth === 4 ? [] : [`depth ${depth}`]);
 }
 
 /** @param {Packet} packet @returns {number} what header and bytes of an InfoFrame sum to; 0 where they are right */
-export function checksumOf({ header, bytes }) {
-  return sum(header) + sum(bytes.subarray(0, (header[2] & 31) + 1)) & 255;
+export function checksumOf(packet) {
+  return (sum(packet.header) + sum(packet.bytes.subarray(0, lengthOf(packet) + 1))) % 256;
+}
+
+/** @param {Packet} packet @returns {boolean} whether the program refuses an InfoFrame of its length */
+function hasWrongLength(packet) {
+  const { header: [kind, version] } = packet;
+  const known = LAYOUTS.find(({ isStrict, header }) => isStrict && header[0] === kind && header[1] === version);
+  return lengthOf(packet) > MOST_LENGTH || (known !== undefined && lengthOf(packet) !== known.header[2]);
 }
 
 /** @param {Packet} packet @returns {Content} */
 function infoframe(packet) {
   const { header: [kind, version], bytes } = packet;
-  const length = packet.header[2] & 31;
-  const known = LENGTHS[`${kind} ${version}`];
-  if (known ? length !== known : length > 27) return content(`a length of ${length}, which is wrong`, [], ["length"]);
-  const total = checksumOf(packet);
-  if (total) return content(`a checksum that leaves ${hexByte(total)}`, [], [`checksum ${hexByte(total)}`]);
-  const rows = rowsOf(kind, version, length, bytes);
-  if (!rows.length) {
+  const [length, total] = [lengthOf(packet), checksumOf(packet)];
+  if (hasWrongLength(packet)) return content(`a length of ${length}, which is wrong`, [], ["length"]);
+  if (total) return content(`a checksum that leaves ${hex([total])}`, [], [`checksum ${hex([total])}`]);
+  if (!layoutOf(packet)) {
     const payload = hex(bytes.subarray(1, length + 1));
-    return content(`version ${version}: ${payload || "no payload"}`, [row("version", `${version}`), row("payload", payload)]);
+    const rows = [["version", String(version)], ["payload", payload]].map(([name, value]) => ({ name, value, number: "" }));
+    return content(`version ${version}: ${payload || "no payload"}`, rows);
   }
-  if (kind === 0x81) return content(`${rows[0].value}: ${rows.slice(1).map((it) => it.value).join(", ")}`, rows);
+  const rows = rowsOf(packet);
+  if (kind === TYPES.VENDOR) return content(`${rows[0].value}: ${rows.slice(1).map((it) => it.value).join(", ")}`, rows);
   return content(rows.filter((it) => SHORT.includes(it.name)).map((it) => it.value).join(", ") || rows[0].value, rows);
-}
-
-/** @type {Record<number, (data: Uint8Array) => Row[]>} */
-const ROWS = { 0x83: infoframes.product, 0x84: infoframes.audio, 0x85: infoframes.mpeg, 0x87: infoframes.mastering };
-
-/** @param {number} kind @param {number} version @param {number} length @param {Uint8Array} data @returns {Row[]} those of an InfoFrame
- *  whose length and sum are right; none where its fields are not known */
-function rowsOf(kind, version, length, data) {
-  if (kind === 0x81 && length >= 3) return infoframes.vendor(data.subarray(1, length + 1));
-  const key = `${kind} ${version}`;
-  if (length !== (READ_TOO[key] ?? LENGTHS[key])) return [];
-  return kind === AVI ? infoframes.avi(version, data) : ROWS[kind](data);
 }
 
 /** @type {Record<number, (packet: Packet) => Content>} */
 const READERS = {
-  0: () => content("nothing"), [CLOCK]: clock, [SAMPLES]: samples, [CONTROL]: control, 7: oneBit, 8: otherAudio, 9: otherAudio,
-  4: described, 5: described, 6: described, 10: described,
+  [TYPES.NULL]: () => content("nothing"), [TYPES.CLOCK]: clock, [TYPES.SAMPLES]: samples, [TYPES.CONTROL]: control,
+  [TYPES.ONE_BIT]: oneBit, [TYPES.DST]: dst, [TYPES.HIGH_RATE]: highRate,
+  [TYPES.PROTECTION]: described, [TYPES.ISRC1]: described, [TYPES.ISRC2]: described, [TYPES.GAMUT]: described,
 };
 
 /** @param {number} vic @param {number} width @param {number} height @returns {boolean} whether a frame has another size than a known

@@ -12,8 +12,8 @@ const EACH = 400; // milliseconds between two times that the sections are shown 
 const LANE_NAMES = [["blue", "green", "red"], ["lane0", "lane1", "lane2"], ["0", "1", "2"]];
 
 /** @typedef {{gathered: Gathered, state: import("./sections.js").State, worker: Worker | null, isStarted: boolean, timer: number,
- *  pause: number}} Reading of a capture: what has come of it, who reads it, whether its sections are shown, what will show them anew, and
- *  after how many milliseconds */
+ *  pause: number, shown: Promise<void>}} Reading of a capture: what has come of it, who reads it, whether its sections are shown, what will
+ *  show them anew, after how many milliseconds, and when what is being shown is there */
 
 /** @type {Reading | null} */
 let reading = null; // the one that is shown
@@ -69,16 +69,16 @@ function choose(files) {
 /** Reads what was chosen, in place of what was read before. */
 function read() {
   end();
-  const isDvi = /** @type {HTMLInputElement} */ (by("dvi")).checked;
+  const isDvi = by("dvi").checked;
   const names = chosen.map((file) => file.name);
   const worker = newWorker();
   /** @type {Reading} */
   const its = {
     gathered: new Gathered(names, urlOf), state: { isDvi, isStopped: false, status: null, why: [] }, worker, isStarted: false, timer: 0,
-    pause: 0,
+    pause: 0, shown: Promise.resolve(),
   };
   reading = its;
-  by("report").replaceChildren(/** @type {HTMLTemplateElement} */ (by("report-sections")).content.cloneNode(true));
+  by("report").replaceChildren(by("report-sections").content.cloneNode(true));
   by("report").hidden = true;
   showChosen();
   showTrouble("");
@@ -91,8 +91,7 @@ function read() {
 
 /** Which files are which lanes, and that there is something to cancel. */
 function showChosen() {
-  const lanes = ["lane 0 (blue)", "lane 1 (green)", "lane 2 (red)"];
-  by("lanes").textContent = chosen.length === 3 ? `${chosen.map((file, lane) => `${file.name} is ${lanes[lane]}`).join(", ")}.` : "";
+  by("lanes").textContent = chosen.length === 3 ? `${chosen.map((file, lane) => `${file.name} is ${LANES[lane]}`).join(", ")}.` : "";
   by("lanes").hidden = chosen.length !== 3;
   by("reading").hidden = false;
   showProgress(0, chosen.reduce((sum, file) => sum + file.size, 0));
@@ -134,8 +133,16 @@ async function displaySoon(its) {
   its.timer = 0;
 }
 
-/** @param {Reading} its shows what has come */
-async function display(its) {
+/** Shows what has come, once what came before is shown.
+ *  @param {Reading} its @returns {Promise<void>} */
+function display(its) {
+  its.shown = its.shown.then(() => displayNow(its));
+  return its.shown;
+}
+
+/** @param {Reading} its */
+async function displayNow(its) {
+  if (reading !== its) return;
   try {
     showHead(its.gathered, its.state);
     showSections(its.gathered, its.state);
@@ -169,9 +176,8 @@ async function finish(its, how) {
   else showHead(its.gathered, its.state);
   if (reading !== its) return;
   if (isStarted) startSound();
-  const save = /** @type {HTMLButtonElement} */ (by("listing-save"));
-  save.disabled = false;
-  save.onclick = () => saveListing(its.gathered);
+  by("listing-save").disabled = false;
+  by("listing-save").onclick = () => save(new Blob(its.gathered.listing), "text/plain", `${its.gathered.data.name}.link`);
   say(`${by("word").textContent}. ${by("says").textContent}`);
   document.documentElement.dataset.state = how;
   document.documentElement.dataset.ready = "yes";
@@ -194,13 +200,6 @@ function end() {
   endReport();
 }
 
-/** @param {Gathered} gathered */
-function saveListing({ listing, data: { name } }) {
-  const url = URL.createObjectURL(new Blob(listing, { type: "text/plain" }));
-  made("a", { href: url, download: `${name}.link` }).click();
-  setTimeout(() => URL.revokeObjectURL(url), 60_000);
-}
-
 /** What is dropped anywhere is read. */
 function startDrop() {
   const hasFiles = (/** @type {DragEvent} */ event) => event.dataTransfer?.types.includes("Files");
@@ -214,14 +213,14 @@ function startDrop() {
     document.body.classList.remove("is-over");
     if (!hasFiles(event)) return;
     event.preventDefault();
-    /** @type {HTMLInputElement} */ (by("files")).value = "";
+    by("files").value = "";
     choose([...(event.dataTransfer?.files ?? [])]);
   });
 }
 
 async function start() {
   by("unstarted").remove();
-  const files = /** @type {HTMLInputElement} */ (by("files"));
+  const files = by("files");
   if (!hasMemory64()) {
     showTrouble(NO_MEMORY64);
     return;

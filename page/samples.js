@@ -1,10 +1,9 @@
 // The samples of a link: its packets of samples as they come, and what stands in them.
 
-import { ones } from "./bytes.js";
-import { AVI, CLOCK, SAMPLES, bodyOf, clockOf } from "./packets.js";
-import { FREQUENCIES } from "./words.js";
+import { numberOf } from "./infoframes.js";
+import { bodyOf, clockOf, inBody, samplesOf } from "./packets.js";
+import { FREQUENCIES, READ_AVI, TYPES } from "./words.js";
 
-const AUDIO = 0x84;
 const [PAIRS, BODY, HEADER] = [4, 7, 3];
 const PACKET = HEADER + PAIRS * BODY; // bytes of a packet
 const FULL = 2 ** 23; // of full scale
@@ -27,21 +26,21 @@ export class Sound {
   /** @param {import("./packets.js").Packet} packet @param {string[]} faults of its content */
   take(packet, faults) {
     const { told } = this;
-    const { header, bytes } = packet;
-    if (header[0] === SAMPLES) this.takeSamples(packet);
+    const [kind, version] = packet.header;
+    if (kind === TYPES.SAMPLES) this.takeSamples(packet);
     else if (faults.length) return;
-    else if (header[0] === CLOCK) told.clock ??= clockOf(packet);
-    else if (header[0] === AVI && header[1] === 2) told.vic ||= bytes[4] & 127;
-    else if (header[0] === AUDIO && told.allocation === null) {
-      [told.frequency, told.allocation] = [FREQUENCIES[bytes[2] >> 2 & 7], bytes[4]];
+    else if (kind === TYPES.CLOCK) told.clock ??= clockOf(packet);
+    else if (kind === TYPES.AVI && version === READ_AVI) told.vic ||= numberOf(packet, "VIC");
+    else if (kind === TYPES.AUDIO && told.allocation === null) {
+      [told.frequency, told.allocation] = [FREQUENCIES[numberOf(packet, "SF")], numberOf(packet, "CA")];
     }
   }
 
   /** @param {import("./packets.js").Packet} packet */
-  takeSamples({ header, bytes }) {
-    const present = header[1] & 15;
-    this.bytes.push(...header, ...bytes);
-    this.told.samples += header[1] & 16 ? Math.min(1, present) : ones(present);
+  takeSamples(packet) {
+    const { here, isWide } = samplesOf(packet);
+    this.bytes.push(...packet.header, ...packet.bytes);
+    this.told.samples += isWide ? Math.min(1, here.length) : here.length;
   }
 
   /** A packet of samples has a lost block. */
@@ -71,27 +70,18 @@ export class Samples {
     for (const part of parts) {
       for (let at = 0; at < part.length; at += PACKET) {
         const packet = { header: part.subarray(at, at + HEADER), bytes: part.subarray(at + HEADER, at + PACKET) };
-        next += packet.header[1] & 16 ? this.takeWide(packet, next) : this.takeNarrow(packet, next);
+        next += this.takePacket(packet, next);
       }
     }
   }
 
-  /** @param {import("./packets.js").Packet} packet of layout 0 @param {number} first the number of its first sample @returns {number} how
-   *  many it has */
-  takeNarrow(packet, first) {
-    const [, present, starts] = packet.header;
-    const here = [0, 1, 2, 3].filter((number) => present >> number & 1);
-    here.forEach((number, at) => this.put(0, first + at, bodyOf(packet, number), starts >> number + 4 & 1));
-    return here.length;
-  }
-
-  /** @param {import("./packets.js").Packet} packet of layout 1, a sample of several pairs @param {number} first @returns {number} */
-  takeWide(packet, first) {
-    const [, present, starts] = packet.header;
-    const here = [0, 1, 2, 3].filter((pair) => present >> pair & 1);
-    this.isWide = true;
-    for (const pair of here) this.put(pair, first, bodyOf(packet, pair), starts >> pair + 4 & 1);
-    return Math.min(1, here.length);
+  /** @param {import("./packets.js").Packet} packet of layout 0, or of layout 1, which has one sample of several pairs @param {number} first
+   *  the number of its first sample @returns {number} how many it has */
+  takePacket(packet, first) {
+    const { here, starts, isWide } = samplesOf(packet);
+    this.isWide ||= isWide;
+    here.forEach((number, at) => this.put(isWide ? number : 0, first + (isWide ? 0 : at), bodyOf(packet, number), starts[at]));
+    return isWide ? Math.min(1, here.length) : here.length;
   }
 
   /** @param {number} pair @param {number} sample @param {Uint8Array} body @param {number} isStart */
@@ -106,12 +96,16 @@ export class Samples {
 
   /** @param {number} channel counted from 0 @returns {Int32Array} its values, of 24 bits with a sign */
   values(channel) {
-    const [body, side] = [this.bodies[channel >> 1], 3 * (channel & 1)];
+    const [pair, side] = [channel >> 1, channel & 1 ? "right" : "left"];
     return Int32Array.from({ length: this.count }, (_, sample) => {
-      const at = BODY * sample + side;
-      const value = body[at] | body[at + 1] << 8 | body[at + 2] << 16;
+      const value = inBody(this.bodyOf(pair, sample), side);
       return value >= FULL ? value - 2 * FULL : value;
     });
+  }
+
+  /** @param {number} pair @param {number} sample @returns {Uint8Array} */
+  bodyOf(pair, sample) {
+    return this.bodies[pair].subarray(BODY * sample, BODY * (sample + 1));
   }
 
   /** @param {number} pair @param {number[]} gaps @returns {{sides: number[][], times: number}[]} the channel status of both channels in
@@ -123,8 +117,8 @@ export class Samples {
     for (const start of this.starts[pair]) {
       const end = ends.find((one) => one > start) ?? start;
       if (end - start < BLOCK) continue;
-      const flags = Array.from({ length: BLOCK }, (_, at) => this.bodies[pair][BODY * (start + at) + 6]);
-      const sides = [2, 6].map((bit) => flags.map((one) => one >> bit & 1));
+      const bodies = Array.from({ length: BLOCK }, (_, at) => this.bodyOf(pair, start + at));
+      const sides = ["left C", "right C"].map((name) => bodies.map((body) => inBody(body, name)));
       const known = found.get(sides.join()) ?? { sides, times: 0 };
       known.times += 1;
       found.set(sides.join(), known);

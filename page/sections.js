@@ -1,6 +1,7 @@
 // What the report's template writes of a capture, from what has been gathered: verdict, counts, notes, tables.
 
 import { counted, megabytes, thousands } from "./bytes.js";
+import { MOST_LISTED } from "./frames.js";
 import { FAULTY, NO_ALIGNMENT, NO_CAPTURE } from "./module.js";
 import { ADVICE, ALONE, CONTENT_FAULTS, FAULTS, INTERLACED, NOT_EXACT, NO_CAPTURES, UNKNOWN, WOVEN } from "./words.js";
 
@@ -9,8 +10,7 @@ import { ADVICE, ALONE, CONTENT_FAULTS, FAULTS, INTERLACED, NOT_EXACT, NO_CAPTUR
 /** @typedef {{isDvi: boolean, isStopped: boolean, status: number | null, why: string[]}} State of a reading: its status, null as long as it
  *  has none, and of what is no capture why */
 
-const LANES = ["Lane 0 (blue)", "Lane 1 (green)", "Lane 2 (red)"];
-const PLACES = ["on lane 0 (blue)", "on lane 1 (green)", "on lane 2 (red)", "of no lane"];
+const PLACES = [...LANES.map((lane) => `on ${lane}`), "of no lane"];
 const LEFT_OUT = "Video timing, the rules of the standards and the characters at faults are told by tools/report alone, which also " +
   "follows lanes that lose bits and reads anew where the first alignment was wrong; this page reads as “recover link” does.";
 const LEFT_OUT_DVI = "Video timing and the characters at faults are told by tools/report --dvi alone.";
@@ -100,7 +100,7 @@ function channelsInWords(count) {
   return count > 2 ? `of ${count} channels` : "of two channels";
 }
 
-/** @param {import("./gathered.js").Data} data @param {{frames: number, whole: number}} counts @returns {string} what the frames are */
+/** @param {Data} data @param {{frames: number, whole: number}} counts @returns {string} what the frames are */
 function framesInWords({ shown }, { frames, whole }) {
   const woven = shown.filter((one) => one.frames.length > 1).length;
   const isWhole = frames > whole ? `and ${frames - whole} not whole` : "whole";
@@ -121,6 +121,7 @@ export function notesOf({ data, last: { found } }, { isDvi }) {
     const { column, line } = found.cut;
     notes.push(`The capture ends within a row, an island or an opening, at column ${thousands(column)} (“cut”, line ${line}).`);
   }
+  if (data.rest?.length) notes.push(restInWords(data.rest));
   if (data.frames.some((frame) => frame.kind !== "png")) notes.push(NOT_EXACT);
   notes.push(...fieldNotes(data.shown, INTERLACED[found.vic]));
   const others = found.sound.told.samples ? [] : Object.entries(found.unheard);
@@ -128,7 +129,17 @@ export function notesOf({ data, last: { found } }, { isDvi }) {
   return [...notes, ...unheard, ...found.notes.map((note) => `Of the pictures: ${note}.`)];
 }
 
-/** @param {import("./weaving.js").Shown[]} shown @param {string | undefined} name of the format, where that is interlaced @returns
+/** @param {Rest[]} rest @returns {string} which faults are counted alone */
+function restInWords(rest) {
+  const kinds = [...new Set(rest.map(({ kind }) => kind))].map((kind) => {
+    const its = rest.filter((one) => one.kind === kind).flatMap(({ lanes }) => Object.values(lanes));
+    return `${thousands(its.reduce((sum, times) => sum + times, 0))} ${kind}`;
+  });
+  return `Of each kind the first ${thousands(MOST_LISTED)} faults of a frame are listed; the others are counted (${kinds.join(", ")}), and ` +
+    "the timeline shows from where to where they came.";
+}
+
+/** @param {Shown[]} shown @param {string | undefined} name of the format, where that is interlaced @returns
  *  {string[]} what was done with fields */
 function fieldNotes(shown, name) {
   const woven = shown.filter((one) => one.frames.length > 1).length;
@@ -151,7 +162,7 @@ export function adviceOf(state, gathered) {
 
 /** @param {import("./strays.js").Slip} slip @returns {string} */
 function slipInWords({ lane, bit }) {
-  return `${LANES[lane]} lost or repeated bits: at bit ${thousands(bit)} of it control characters stand no whole number of characters ` +
+  return `${LANES[lane].replace("l", "L")} lost or repeated bits: at bit ${thousands(bit)} of it control characters stand no whole number of characters ` +
     "behind its first ones. What comes behind is shown as “recover link” hears it, mostly as noise; tools/report follows such slips.";
 }
 

@@ -1,15 +1,13 @@
 // How a source sends its pixels, by its AVI InfoFrames and general control packets, and what is assumed where they do not say.
 
 import { RGB, YCC420, YCC422, YCC444, pixelsOf, signalOf } from "./colours.js";
-import { aviOf } from "./infoframes.js";
-import { AVI, CONTROL, checksumOf } from "./packets.js";
-import { EXTENDED, MATRIX_OF, MODE_WIDTHS, PIXEL_BITS } from "./words.js";
+import { layoutOf, numberOf, numbersOf } from "./infoframes.js";
+import { checksumOf } from "./packets.js";
+import { MATRIX_OF, MODE_WIDTHS, PIXEL_BITS, TABLES, TYPES } from "./words.js";
 
 /** @typedef {import("./colours.js").Signal} Signal */
-/** @typedef {import("./infoframes.js").Avi} Avi */
+/** @typedef {Record<string, number>} Avi the numbers of an AVI InfoFrame */
 
-/** @type {Record<number, number>} */
-const AVI_LENGTHS = { 2: 13, 3: 13, 4: 14 };
 /** @type {Record<number, number>} */
 const PHASES = { 24: 1, 30: 5, 36: 3, 48: 2 }; // the columns of a group of pixels (HDMI 1.4, section 6.5.2)
 const HD = 1280; // pixels of a row from which on a format is one of high definition
@@ -28,10 +26,9 @@ export class Signals {
 
   /** @param {import("./packets.js").Packet} packet without a lost block; one whose length or sum is wrong tells nothing */
   take(packet) {
-    const { header, bytes } = packet;
-    if (header[0] === CONTROL && bytes[1] & 15) [this.depth, this.phase] = [bytes[1] & 15, bytes[1] >> 4];
-    const isAvi = header[0] === AVI && (header[2] & 31) === AVI_LENGTHS[header[1]] && !checksumOf(packet);
-    if (isAvi) this.avi = aviOf(header[1], bytes);
+    const kind = packet.header[0];
+    if (kind === TYPES.CONTROL && numberOf(packet, "CD")) [this.depth, this.phase] = [numberOf(packet, "CD"), numberOf(packet, "PP")];
+    if (kind === TYPES.AVI && layoutOf(packet) && !checksumOf(packet)) this.avi = numbersOf(packet);
   }
 
   /** @param {number} columns of a row @returns {{signal: Signal, notes: string[]}} how it is read, and what is assumed */
@@ -57,20 +54,20 @@ export class Signals {
 
   /** @param {Avi} avi @param {number} bits @param {number} columns @param {string[]} notes @returns {Signal} */
   signal(avi, bits, columns, notes) {
-    if (avi.y > YCC444) {
-      const name = avi.y === YCC420 ? "YCbCr 4:2:0" : `pixels of the encoding ${avi.y}`;
+    if (avi.Y > YCC444) {
+      const name = avi.Y === YCC420 ? "YCbCr 4:2:0" : `pixels of the encoding ${avi.Y}`;
       notes.push(`${name} are not converted: ${NOT_CONVERTED}`);
       return signalOf({ bits });
     }
-    const times = avi.pr < 10 ? avi.pr + 1 : 1;
-    if (avi.y === RGB) {
-      const isUntold = avi.q === 0 && avi.vic > 1;
+    const times = avi.PR < 10 ? avi.PR + 1 : 1;
+    if (avi.Y === RGB) {
+      const isUntold = avi.Q === 0 && avi.VIC > 1;
       if (isUntold) notes.push("RGB of the default range, which CTA-861 makes the limited one here, is shown as it was sent");
-      return signalOf({ isFull: avi.q !== 1, bits, times });
+      return signalOf({ isFull: avi.Q !== 1, bits, times });
     }
-    const plain = signalOf({ encoding: avi.y, bits: avi.y === YCC422 ? 24 : bits, times });
+    const plain = signalOf({ encoding: avi.Y, bits: avi.Y === YCC422 ? 24 : bits, times });
     const matrix = matrixOf(avi, pixelsOf(plain, columns), notes);
-    return matrix ? { ...plain, matrix, isFull: avi.yq === 1 } : signalOf({ bits: plain.bits, times });
+    return matrix ? { ...plain, matrix, isFull: avi.YQ === 1 } : signalOf({ bits: plain.bits, times });
   }
 
   /** Rows are read from packing phase 0 on; a packing phase that tells another end of a row is noted.
@@ -89,12 +86,12 @@ export class Signals {
 /** @param {Avi} avi @param {number} width @param {string[]} notes @returns {string | undefined} the matrix by the colorimetry, and where
  *  none is told the one that CTA-861 has for the size; undefined where the colours are not converted */
 function matrixOf(avi, width, notes) {
-  if (avi.c === 3) {
-    if (!(avi.ec in MATRIX_OF)) notes.push(`the colorimetry ${EXTENDED[avi.ec]} is not converted: ${NOT_CONVERTED}`);
-    return MATRIX_OF[avi.ec];
+  if (avi.C === 3) {
+    if (!(avi.EC in MATRIX_OF)) notes.push(`the colorimetry ${TABLES.EXTENDED.known[avi.EC]} is not converted: ${NOT_CONVERTED}`);
+    return MATRIX_OF[avi.EC];
   }
-  if (avi.c) return avi.c === 1 ? "BT.601" : "BT.709";
-  const pixels = MODE_WIDTHS[avi.vic] ?? width;
+  if (avi.C) return avi.C === 1 ? "BT.601" : "BT.709";
+  const pixels = MODE_WIDTHS[avi.VIC] ?? width;
   const matrix = pixels >= HD ? "BT.709" : "BT.601";
   notes.push(`no colorimetry is told: ${matrix} is taken, as CTA-861 has it for ${pixels} pixels a row`);
   return matrix;

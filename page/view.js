@@ -116,7 +116,7 @@ function infoRow({ name, value, number }) {
 /** @param {number} at bytes that were read @param {number} size of all */
 export function showProgress(at, size) {
   const share = size ? at / size : 1;
-  /** @type {HTMLProgressElement} */ (by("progress")).value = share;
+  by("progress").value = share;
   by("read-of").textContent = `${megabytes(at)} of ${megabytes(size)} MB read`;
 }
 

@@ -19,44 +19,26 @@ export function wavOf({ channels, samples, rate, bits }) {
   const head = HEAD + (samples.isWide ? MORE : 0);
   const count = order.length * size * samples.count;
   const file = new Uint8Array(head + count + count % 2);
-  putHead(new DataView(file.buffer), { head, count, channels: order.length, rate, size, mask, isWide: samples.isWide });
+  const view = new DataView(file.buffer);
+  putWavHead(view, { head, count, channels: order.length, rate, size });
+  if (samples.isWide) putExtension(view, size, mask, samples.count);
   order.forEach((channel, place) => putSamples(file, channels[channel].values, head + place * size, order.length * size, size));
   return file;
 }
 
-/** @param {DataView} view @param {{head: number, count: number, channels: number, rate: number, size: number, mask: number, isWide:
- *  boolean}} told */
-function putHead(view, { head, count, channels, rate, size, mask, isWide }) {
-  const text = (/** @type {number} */ at, /** @type {string} */ words) => {
-    [...words].forEach((one, place) => view.setUint8(at + place, one.charCodeAt(0)));
-  };
-  text(0, "RIFF");
-  view.setUint32(4, head - 8 + count + count % 2, true);
-  text(8, "WAVEfmt ");
-  view.setUint32(16, isWide ? 40 : 16, true);
-  view.setUint16(20, isWide ? 0xfffe : 1, true);
-  view.setUint16(22, channels, true);
-  view.setUint32(24, rate, true);
-  view.setUint32(28, rate * channels * size, true);
-  view.setUint16(32, channels * size, true);
-  view.setUint16(34, 8 * size, true);
-  if (isWide) {
-    putExtension(view, size, mask);
-    text(FACT, "fact");
-    view.setUint32(FACT + 4, 4, true);
-    view.setUint32(FACT + 8, count / channels / size, true);
-  }
-  text(head - 8, "data");
-  view.setUint32(head - 4, count, true);
-}
-
-/** @param {DataView} view @param {number} size @param {number} mask of the speakers */
-function putExtension(view, size, mask) {
+/** Puts what the extensible format has more.
+ *  @param {DataView} view @param {number} size @param {number} mask of the speakers @param {number} count of the samples */
+function putExtension(view, size, mask, count) {
+  view.setUint32(16, 40, true);
+  view.setUint16(20, 0xfffe, true);
   view.setUint16(36, 22, true);
   view.setUint16(38, 8 * size, true);
   view.setUint32(40, mask, true);
   view.setUint16(44, 1, true);
   PCM.forEach((byte, at) => view.setUint8(46 + at, byte));
+  putText(view, FACT, "fact");
+  view.setUint32(FACT + 4, 4, true);
+  view.setUint32(FACT + 8, count, true);
 }
 
 /** @param {Uint8Array} file @param {Int32Array} values of 24 bits @param {number} first @param {number} step @param {number} size bytes of

@@ -5,8 +5,6 @@ const [HALF, NEAR] = [1 / 2, 1 / 8]; // of a line, and by which the places of tw
 
 /** @typedef {{number: number, width: number, height: number, linesDown: number | null}} Shot a frame, which may be a field: its number,
  *  its size, and the lines from VSYNC down to its first row, null where they are not known */
-/** @typedef {{frames: number[], isField: boolean}} Shown what is one picture: the numbers of its frames, of two the upper first; whether
- *  it is a field alone */
 
 /** @param {number | null} change @param {number[]} firsts @returns {number | null} the lines from the column of a change of VSYNC to the
  *  first of some rows, by the columns in which these begin */

@@ -1,4 +1,9 @@
-// Counts what a capture of version 1 says, in C++: a receiver that frees itself, fed 65,536 bytes of each lane at a time.
+// Counts what a capture of version 1 carried, in C++. The class Receiver frees itself.
+//
+//     counts FILE.tmc
+//
+// Exit status: 0; 2 if the file cannot be read; 3 if it is not a whole capture of version 1.
+#include <algorithm>
 #include <array>
 #include <cstdint>
 #include <fstream>
@@ -20,7 +25,7 @@ public:
   Receiver(const Receiver &) = delete;
   Receiver &operator=(const Receiver &) = delete;
 
-  // Feeds as many bytes of each lane, and calls `take` with each event and its bytes.
+  // Feeds `size` bytes of each lane, and calls `take` with each event and its data.
   template <typename Take> void feed(std::array<const std::uint8_t *, 3> lanes, std::size_t size, Take take) {
     while (size > 0) {
       const vabgrot_bits bits = {8 * size, 8 * size, 8 * size};
@@ -34,7 +39,7 @@ public:
     }
   }
 
-  // Ends the lanes, and answers how many columns they had.
+  // Ends the lanes, and returns how many columns they had.
   template <typename Take> std::uint64_t finish(Take take) {
     if (vabgrot_finish(&handle_, events_.data(), events_.size(), bytes_.data(), bytes_.size(), &answer_) != VABGROT_OK) {
       throw std::runtime_error("finish");
@@ -66,21 +71,38 @@ struct Counts {
   }
 };
 
+const std::size_t HEADER = 8, BLOCK = 4096;
+
+// The number of bits of each lane, if these bytes are a whole capture of version 1. Otherwise false.
+bool is_whole(const std::vector<std::uint8_t> &data, std::size_t &bits) {
+  if (data.size() < HEADER || data[0] != 'T' || data[1] != 'M' || data[2] != 'C' || data[3] != '1') return false;
+  bits = std::size_t(data[4]) << 24 | std::size_t(data[5]) << 16 | std::size_t(data[6]) << 8 | data[7];
+  return data.size() == HEADER + 3 * ((bits + 7) / 8);
+}
+
 } // namespace
 
 int main(int count, char **words) {
-  std::ifstream file(count > 1 ? words[1] : "", std::ios::binary);
+  std::ifstream file(count == 2 ? words[1] : "", std::ios::binary);
+  if (!file) {
+    std::cerr << "usage: counts FILE.tmc\n";
+    return 2;
+  }
   const std::vector<std::uint8_t> data((std::istreambuf_iterator<char>(file)), std::istreambuf_iterator<char>());
-  if (data.size() < 8 || data[3] != '1') return 3;
-  const std::size_t bits = std::size_t(data[4]) << 24 | std::size_t(data[5]) << 16 | std::size_t(data[6]) << 8 | data[7];
+  std::size_t bits = 0;
+  if (!is_whole(data, bits)) {
+    std::cerr << words[1] << ": not a whole capture of version 1\n";
+    return 3;
+  }
   Receiver receiver;
   Counts counts;
   const auto take = [&counts](const vabgrot_event &event, const std::uint8_t *) { counts.take(event); };
-  const std::size_t size = bits / 8, block = 4096; // the bits past the last whole byte are left out
-  for (std::size_t at = 0, place = 8; at < size; at += block) {
-    const std::size_t part = size - at < block ? size - at : block, step = (bits + 7) / 8 - at < block ? (bits + 7) / 8 - at : block;
-    receiver.feed({{&data[place], &data[place + step], &data[place + 2 * step]}}, part, take);
-    place += 3 * step;
+  const std::size_t all = (bits + 7) / 8;  // bytes of a lane
+  for (std::size_t at = 0; at < bits / 8;) {  // the bits after the last whole byte are left out
+    const std::size_t step = std::min(all - at, BLOCK), part = std::min(bits / 8 - at, BLOCK);
+    const std::uint8_t *block = data.data() + HEADER + 3 * at;
+    receiver.feed({{block, block + step, block + 2 * step}}, part, take);
+    at += step;
   }
   const std::uint64_t columns = receiver.finish(take);
   std::cout << counts.runs << " runs, " << counts.lines << " line of " << counts.pixels << " pixel, " << counts.packets << " packets, "

@@ -1,11 +1,12 @@
 /*
-** Lists what a capture says, event by event, as `vabgrot recover link` does, or by an option as `recover dvi`, `recover track` or
-** `recover relock`.
+** Lists what a capture carried, event by event, as `vabgrot recover link` does. With an option it does what `recover dvi`,
+** `recover track` or `recover relock` does.
 **
 **     listing [--dvi | --track | --relock] FILE.tmc [BYTES [EVENTS [ROOM]]]
 **
-** The lanes are fed in pieces of BYTES bytes each (4,096), into room for EVENTS events and ROOM bytes. Status 0; 1 where there was a
-** fault; 3 where the file is no capture; 6 for want of memory; 7 where the lanes were never aligned.
+** It feeds the lanes in pieces of BYTES bytes each (4,096), into room for EVENTS events and ROOM bytes. Exit status: 0; 1 if there was
+** a fault; 2 if the file cannot be opened; 3 if it is not a capture, or the room is too small; 6 if memory ran out; 7 if the lanes never
+** aligned.
 */
 #include <inttypes.h>
 #include <stdio.h>
@@ -22,7 +23,7 @@ struct lanes {
   uint64_t bits[3];
 };
 
-/* Room for events, and whether one of them was a fault. */
+/* Room for events and their data, and whether one of them was a fault. */
 struct room {
   vabgrot_event *events;
   uint8_t *bytes;
@@ -51,7 +52,7 @@ static void print_packet(const uint8_t *bytes) {
   putchar('\n');
 }
 
-/* Prints a fault: its name, and its numbers in the order of the listing. */
+/* Prints a fault as a listing has it: its name, and its numbers. */
 static void print_fault(const vabgrot_event *event) {
   static const char *const names[] = {"word",   "short",  "preamble", "noise", "empty",      "code",   "longline",
                                       "symbols", "mended", "lost",     "longisland", "broken", "guard"};
@@ -116,7 +117,7 @@ static void print_all(struct room *room, const vabgrot_answer *answer) {
   }
 }
 
-/* Feeds the bits of each lane from `at` on, `count` of them or as many as it has: again while there was no room for all. */
+/* Feeds `count` bits of each lane from bit `at` on, or as many as the lane has. Feeds the rest again while the room is too small. */
 static int feed(vabgrot *receiver, const struct lanes *lanes, uint64_t at, uint64_t count, struct room *room) {
   uint64_t from[3], left[3];
   int status;
@@ -171,7 +172,7 @@ static uint64_t high_first(const uint8_t *bytes) {
   return (uint64_t)bytes[0] << 24 | (uint64_t)bytes[1] << 16 | (uint64_t)bytes[2] << 8 | bytes[3];
 }
 
-/* Reads the lanes of a capture: its header, and then block after block 4,096 bytes of each lane that has not ended. */
+/* Reads the lanes of a capture: its header, then its blocks of 4,096 bytes of each lane that has not ended. */
 static int read_lanes(FILE *file, struct lanes *lanes) {
   uint8_t head[16];
   if (fread(head, 1, 8, file) != 8 || memcmp(head, "TMC", 3) != 0) return REFUSED;
@@ -199,7 +200,7 @@ static size_t number(int count, char **words, int place, size_t otherwise) {
   return place < count ? (size_t)strtoull(words[place], NULL, 10) : otherwise;
 }
 
-/* The kind of receiver that an option names; VABGROT_LINK where it is none. */
+/* The kind of receiver that an option names: VABGROT_LINK if it names none. */
 static uint32_t kind_of(const char *option) {
   if (strcmp(option, "--dvi") == 0) return VABGROT_DVI;
   if (strcmp(option, "--track") == 0) return VABGROT_TRACK;

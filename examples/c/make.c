@@ -1,10 +1,10 @@
 /*
-** Makes the capture of a listing, as `vabgrot make link` does, or by the first word as `make dvi` or `make content`.
+** Makes the capture of a listing, as `vabgrot make link` does. With an option it does what `make dvi` or `make content` does.
 **
 **     make [--dvi | --content] FILE.link FILE.tmc [ROOM]
 **
-** The capture is made in a buffer of ROOM bytes (1,048,576), or where that is too small in one of the size that it asks for. Status 0;
-** 2 where a file cannot be read or written; 3, with what is wrong, where the listing is refused; 6 for want of memory.
+** It uses a buffer of ROOM bytes (1,048,576), or one of the size that the library asks for if that is too small. Exit status: 0; 2 if a
+** file cannot be read or written; 3 if the listing is refused (standard error says why); 6 if memory ran out.
 */
 #include <stdio.h>
 #include <stdlib.h>
@@ -20,7 +20,7 @@ struct bytes {
   size_t size;
 };
 
-/* All bytes of a file; none where it cannot be read. */
+/* All bytes of a file. `at` is NULL if it cannot be read. */
 static struct bytes read_file(const char *path) {
   struct bytes all = {NULL, 0};
   size_t room = 4096, came = 0;
@@ -45,7 +45,7 @@ static int write_file(const char *path, struct bytes all) {
   return fclose(file) == 0 && gone == all.size ? DONE : NO_FILE;
 }
 
-/* Makes the capture in a buffer of so many bytes, and in one of those that are needed where these are too few. */
+/* Makes the capture in a buffer of `room` bytes. If these are too few, it tries again with as many as are needed. */
 static int make(uint32_t kind, struct bytes listing, size_t room, const char *path) {
   static const vabgrot_tap whole = VABGROT_TAP;
   struct bytes capture = {malloc(room ? room : 1), 0};

@@ -1,11 +1,11 @@
 /*
-** A generator of test patterns: writes the characters of a link that has one colour bar in each row of a small picture, a column a line,
-** blue, green and red in hexadecimal, as the input of a serializer or of a bench that is simulated.
+** Writes a test pattern: the characters of a link with a small picture, one colour in each row. Each line of the output is a column: the
+** characters of blue, green and red in hexadecimal. It can be the input of a serializer or of a simulated test bench.
 **
 **     pattern [COLUMNS [ROWS]]
 **
-** A row has COLUMNS pixels (8), at most 4,096, and there are ROWS of them (4). Before each row stands HSYNC, in it a data island with a
-** null packet. Status 0; 1 where there is no such pattern.
+** A row has COLUMNS pixels (8), at most 4,096. There are ROWS rows (4). HSYNC comes before each row, with a data island in it that has a
+** Null packet. Exit status: 0; 1 if there is no such pattern.
 */
 #include <stdio.h>
 #include <stdlib.h>
@@ -20,7 +20,7 @@ enum { QUIET = 0, HSYNC = 1, VIDEO_PREAMBLE = 4, ISLAND_PREAMBLE = 0x14 | HSYNC 
 /* Room for the longest part. */
 static uint16_t blue[MOST], green[MOST], red[MOST];
 
-/* Writes the columns of a part that was laid. */
+/* Prints the columns of a part that the library wrote, or returns 1 if it wrote none. */
 static int print(int status, size_t columns) {
   if (status != VABGROT_OK) return 1;
   for (size_t i = 0; i < columns; i++) printf("%03x %03x %03x\n", (unsigned)blue[i], (unsigned)green[i], (unsigned)red[i]);
@@ -39,7 +39,7 @@ static int print_island_guard(uint32_t sync) {
   return print(status, columns);
 }
 
-/* An island with a null packet: its preamble, two guard columns, the packet, and two guard columns, all with HSYNC. */
+/* Prints an island with a Null packet: its preamble, two guard columns, the packet, and two guard columns, all with HSYNC. */
 static int print_island(void) {
   uint8_t packet[PACKET] = {0};
   size_t columns;
@@ -49,7 +49,7 @@ static int print_island(void) {
   return print(status, columns) || print_island_guard(HSYNC) || print_island_guard(HSYNC);
 }
 
-/* A row of one colour: its preamble, two guard columns and its pixels. */
+/* Prints a row: its preamble, two guard columns and its pixels. */
 static int print_row(const uint8_t *pixels, size_t size) {
   size_t columns;
   if (print_run(VIDEO_PREAMBLE, 8)) return 1;

@@ -1,10 +1,10 @@
 #!/usr/bin/env python3
-"""Hears a link in a test bench, clock by clock, and stops it at the first fault.
+"""Checks a link in a test bench, clock by clock, and stops at the first fault.
 
     bench.py BLUE GREEN RED
 
-The files have the character of each lane a clock, as hexadecimal numbers (`tools/lanes unpack --words 10` writes such). In a bench of
-cocotb a Link is given the same from the lanes of the core:
+Each file has the characters of one lane as hexadecimal numbers, one per clock. `tools/lanes unpack --words 10` writes such files. In a
+cocotb bench, give a Link the characters of the core's lanes:
 
     async def watch(dut):
         with Link() as link:
@@ -13,7 +13,7 @@ cocotb a Link is given the same from the lanes of the core:
                 link.tick(int(dut.blue.value), int(dut.green.value), int(dut.red.value))
             link.finish()
 
-Status 0; 1 where there was a fault, or the lanes were never aligned.
+Exit status: 0; 1 if there was a fault or the lanes never aligned; 2 for wrong arguments.
 """
 
 import sys
@@ -24,12 +24,12 @@ TEN = 10  # bits of a character
 
 
 class LinkFault(AssertionError):
-    """The first fault of a link, in words: its column, its lane and its name."""
+    """The first fault of a link in words, with its column and its lane."""
 
 
 class Link:
-    """Hears one character of ten bits a lane a clock, bit 0 sent first, and keeps what they carry in `events`. Characters are gathered, and
-    given to the receiver `clocks` at a time (a multiple of four, so that they are whole bytes)."""
+    """Takes one ten-bit character of each lane per clock, and collects what they carry in `events`. Bit 0 of a character is sent first. It
+    feeds the receiver every `clocks` clocks. That is a multiple of four, so that the bits are whole bytes."""
 
     def __init__(self, clocks=320):
         self.receiver, self.clocks, self.count = Receiver(), clocks, 0
@@ -42,7 +42,7 @@ class Link:
         self.receiver.close()
 
     def tick(self, blue, green, red):
-        """The characters of one clock. Raises LinkFault at the first fault among those that were given so far."""
+        """Takes the characters of one clock. Raises LinkFault at the first fault among the characters so far."""
         for words, word in zip(self.words, (blue, green, red)):
             words.append(word)
         self.count += 1
@@ -50,21 +50,21 @@ class Link:
             self.feed()
 
     def feed(self):
-        """Gives the receiver what was gathered."""
+        """Feeds the receiver the characters that it has not seen yet."""
         count = TEN * len(self.words[0])
         lanes = [sum(word << TEN * at for at, word in enumerate(words)).to_bytes((count + 7) // 8, "little") for words in self.words]
         self.words = ([], [], [])
         self.hear(self.receiver.feed(*lanes, bits=[count] * 3))
 
     def hear(self, events):
-        """Keeps events up to the first fault."""
+        """Collects events up to the first fault, and raises LinkFault there."""
         for event in events:
             if isinstance(event, Fault):
                 raise LinkFault(f"{event} (of {self.count} clocks)")
             self.events.append(event)
 
     def finish(self):
-        """The end of the lanes: raises LinkFault too where they were never aligned."""
+        """Ends the lanes and returns the number of columns. Raises LinkFault if the lanes never aligned."""
         self.feed()
         *events, end = self.receiver.finish()
         self.hear(events)

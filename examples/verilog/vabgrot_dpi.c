@@ -1,6 +1,7 @@
 /*
-** Checks the words of HDMI links as a simulation runs, by the receiver of libvabgrot, through DPI-C: for link_checker.sv, or a bench
-** of your own. Each checker is a link of its own; calls on different ones may run side by side.
+** Checks the words of HDMI links as a simulation runs, with the receiver of libvabgrot, through DPI-C. link_checker.sv uses it, or a bench
+** of yours. Each checker checks one link. Calls on different checkers may run at the same time. A DVI link needs VABGROT_DVI in the place
+** of VABGROT_LINK.
 */
 #include <inttypes.h>
 #include <stdarg.h>
@@ -10,14 +11,14 @@
 
 #include <vabgrot.h>
 
-/* What DPI-C imports: chandle is void *, int int32_t, int unsigned uint32_t, real double, string const char *. */
+/* Types of DPI-C: chandle is void *, int is int32_t, int unsigned is uint32_t, real is double, string is const char *. */
 void *vabgrot_dpi_open(void);
 int32_t vabgrot_dpi_tick(void *handle, uint32_t q0, uint32_t q1, uint32_t q2, double now);
 int32_t vabgrot_dpi_finish(void *handle);
 const char *vabgrot_dpi_message(void *handle);
 void vabgrot_dpi_close(void *handle);
 
-/* Columns are fed in pieces of PIECE, which are whole bytes. The times of the last TIMES ticks are kept, twice the longest line. */
+/* Columns are fed in pieces of PIECE, which are whole bytes. A checker keeps the times of the last TIMES ticks: twice the longest line. */
 enum { PIECE = 256, PIECE_BYTES = 10 * PIECE / 8, TIMES = 8192 };
 
 enum verdict { RUNNING = 0, FAILED = 1, PASSED = 2 };
@@ -25,9 +26,9 @@ enum verdict { RUNNING = 0, FAILED = 1, PASSED = 2 };
 struct checker {
   vabgrot receiver;
   enum verdict verdict;
-  uint8_t lanes[3][PIECE_BYTES]; /* the piece that is not fed yet */
+  uint8_t lanes[3][PIECE_BYTES]; /* the piece that was not fed yet */
   uint64_t held;                 /* its columns */
-  uint64_t ticks;                /* the columns since the opening */
+  uint64_t ticks;                /* the columns so far */
   double times[TIMES];           /* of tick i at i % TIMES */
   uint64_t lines;
   uint64_t packets;
@@ -46,7 +47,7 @@ static void say(struct checker *checker, const char *form, ...) {
   if (count > 0) checker->said += (size_t)count < room ? (size_t)count : room - 1;
 }
 
-/* Says a fault as `vabgrot check` writes it. */
+/* Adds the line of a fault to the message, as `vabgrot check` writes it. */
 static void say_line(struct checker *checker, const vabgrot_event *event) {
   static const char *const names[] = {"word",    "short",  "preamble", "noise",      "empty",  "code", "longline",
                                       "symbols", "mended", "lost",     "longisland", "broken", "guard"};
@@ -70,7 +71,7 @@ static void say_line(struct checker *checker, const vabgrot_event *event) {
   }
 }
 
-/* Says what the fault means. */
+/* Adds the meaning of a fault to the message. */
 static void say_words(struct checker *checker, const vabgrot_event *event) {
   static const char *const lanes[] = {"blue", "green", "red"};
   static const char *const blocks[] = {"body 0", "body 1", "body 2", "body 3", "the header"};
@@ -99,8 +100,8 @@ static void say_words(struct checker *checker, const vabgrot_event *event) {
 }
 
 /*
-** Fails at a fault. How many columns there were tells which column is that of the last tick. The time of a column further back than
-** TIMES, as where a line never ends, is left out.
+** Fails at a fault. The number of columns says which column the last tick has. The message has no time if the column is more than TIMES
+** ticks ago, for example in a line that never ends.
 */
 static void fail_at(struct checker *checker, vabgrot_event event) {
   vabgrot_answer answer = {0, 0, {0, 0, 0}, 0, 0};
@@ -113,7 +114,7 @@ static void fail_at(struct checker *checker, vabgrot_event event) {
   say_words(checker, &event);
 }
 
-/* Counts what was reported, up to the first fault. */
+/* Counts the events up to the first fault. */
 static void take(struct checker *checker, const vabgrot_answer *answer) {
   for (uint64_t i = 0; i < answer->events && checker->verdict == RUNNING; i++) {
     const vabgrot_event *event = &checker->events[i];
@@ -123,7 +124,7 @@ static void take(struct checker *checker, const vabgrot_answer *answer) {
   }
 }
 
-/* Feeds the piece. The room is for more bytes than it has, so all of it is taken. */
+/* Feeds the piece. The room is enough for a longer piece, so the receiver takes all of it. */
 static void feed(struct checker *checker) {
   const uint64_t count = 10 * checker->held;
   const size_t size = (size_t)(count + 7) / 8;
@@ -139,11 +140,11 @@ static void feed(struct checker *checker) {
     take(checker, &answer);
   } else {
     checker->verdict = FAILED;
-    say(checker, "vabgrot_feed answered %d", status);
+    say(checker, "vabgrot_feed returned %d", status);
   }
 }
 
-/* Puts a word of ten bits, bit 0 first, behind those that the lane holds. */
+/* Adds a word of ten bits, bit 0 first, to the `held` words of a lane. */
 static void put(uint8_t *lane, uint64_t held, uint32_t word) {
   const uint64_t place = 10 * held;
   word = (word & 0x3ff) << place % 8;
@@ -151,7 +152,7 @@ static void put(uint8_t *lane, uint64_t held, uint32_t word) {
   lane[place / 8 + 1] |= (uint8_t)(word >> 8);
 }
 
-/* Opens a checker: NULL where there is no memory. */
+/* Opens a checker. Returns NULL if memory ran out. */
 void *vabgrot_dpi_open(void) {
   struct checker *checker = calloc(1, sizeof *checker);
   if (checker != NULL && vabgrot_open(&checker->receiver, VABGROT_LINK) != VABGROT_OK) {
@@ -162,8 +163,8 @@ void *vabgrot_dpi_open(void) {
 }
 
 /*
-** Takes a column: the words of lanes 0 (blue), 1 (green) and 2 (red), and the simulation's time in any unit. It answers 1 from the
-** first fault on, which is found at most PIECE columns after those that decide it, else 0.
+** Takes a column: the words of lanes 0 (blue), 1 (green) and 2 (red), and the time of the simulation in any unit. Returns 1 from the first
+** fault on, otherwise 0. It finds a fault at most PIECE columns after the column that decides it.
 */
 int32_t vabgrot_dpi_tick(void *handle, uint32_t q0, uint32_t q1, uint32_t q2, double now) {
   struct checker *checker = handle;
@@ -179,7 +180,7 @@ int32_t vabgrot_dpi_tick(void *handle, uint32_t q0, uint32_t q1, uint32_t q2, do
   return checker->verdict == FAILED;
 }
 
-/* Ends the link. It answers 1 where there was a fault or the lanes were never aligned, else 0. */
+/* Ends the link. Returns 1 if there was a fault or the lanes never aligned, otherwise 0. */
 int32_t vabgrot_dpi_finish(void *handle) {
   struct checker *checker = handle;
   vabgrot_answer answer = {0, 0, {0, 0, 0}, 0, 0};
@@ -195,7 +196,7 @@ int32_t vabgrot_dpi_finish(void *handle) {
   return checker->verdict == FAILED;
 }
 
-/* The fault's line and words; or, when the link was ended, how much it had. It stands until the checker is closed. */
+/* Returns the line and the meaning of the fault, or after the end the size of the link. The text is valid until the checker is closed. */
 const char *vabgrot_dpi_message(void *handle) {
   const struct checker *checker = handle;
   return checker->message;

@@ -11,9 +11,11 @@ import numpy.typing as npt
 from vabgrot import packets
 from vabgrot.batch import BODIES, BODY, CARRIED, HEADER, Batch, Bytes
 from vabgrot.formats.faults import CONTENT
+from vabgrot.formats.layouts import LAYOUTS, Type
 from vabgrot.link import ISLAND_PACKET, VIDEO, Ints, Vsync
 
-AVI, NULL, SAMPLES = 0x82, 0, 2  # types of packets; null packets have no faults, and those of sound are looked at together
+READ_AVI = LAYOUTS["avi"].header[1]  # the version of AVI InfoFrames that `recover content` reads
+SAMPLE = LAYOUTS["samples"].fields
 PARITY = np.array([value.bit_count() & 1 for value in range(256)], bool)
 Bools = npt.NDArray[np.bool_]
 
@@ -67,15 +69,15 @@ class Contents:
             return []
         places = places[~lost_of(batch, places)]
         kinds = batch.values[places]
-        odd, wide = faulty_samples(batch, places[kinds == SAMPLES])
+        odd, wide = faulty_samples(batch, places[kinds == Type.SAMPLES])
         self.counts.update({"parity": odd, "layout": wide})
         found = []
-        for place in places[(kinds != NULL) & (kinds != SAMPLES)].tolist():  # those of which there are few
+        for place in places[(kinds != Type.NULL) & (kinds != Type.SAMPLES)].tolist():  # null packets have no faults
             packet = batch.packet(place)
             faults = packets.content_of(packet).faults
             self.counts.update(fault.split()[0] for fault in faults)
-            if packet.kind == AVI and packet.header[1] == 2 and not faults:
-                found.append((place, packet.bytes[4] & 127))
+            if packet.kind == Type.AVI and packet.version == READ_AVI and not faults:
+                found.append((place, packet.number("VIC")))
         return found
 
 
@@ -94,9 +96,10 @@ def sides_of(octets: Bytes) -> tuple[Bytes, Bytes]:
 
 def odd_sides(headers: Bytes, bodies: Bytes) -> Bools:
     """Of packets of samples of two channels, of each body and side whether its ones are odd where it is present."""
-    present = (headers[:, 1, None] >> np.arange(BODIES) & 1).astype(bool) & (headers[:, 1, None] & 16 == 0)
-    left = np.bitwise_xor.reduce(bodies[:, :, :3], axis=2) ^ bodies[:, :, 6] & 15
-    right = np.bitwise_xor.reduce(bodies[:, :, 3:6], axis=2) ^ bodies[:, :, 6] >> 4
+    present = SAMPLE["sample_present"].flags(headers) & (SAMPLE["layout"].numbers(headers)[:, None] == 0)
+    left, right = (
+        np.bitwise_xor.reduce(SAMPLE[side].octets(bodies), axis=2) ^ SAMPLE[f"{side} VUCP"].numbers(bodies) for side in ("left", "right")
+    )
     found: Bools = np.stack([PARITY[left], PARITY[right]], axis=2) & present[:, :, None]
     return found
 
@@ -106,4 +109,4 @@ def faulty_samples(batch: Batch, places: Ints) -> tuple[int, int]:
     if not len(places):
         return 0, 0
     headers, bodies = sides_of(batch.octets(places, 0, CARRIED))
-    return int(odd_sides(headers, bodies).sum()), int((headers[:, 1] >> 4 & 1).sum())
+    return int(odd_sides(headers, bodies).sum()), int(SAMPLE["layout"].numbers(headers).sum())

@@ -15,18 +15,20 @@ from vabgrot.errors import Refused
 from vabgrot.formats import speakers
 from vabgrot.formats.audio import BLOCK, CODED
 from vabgrot.formats.faults import OF_PACKET, OF_SOUND
+from vabgrot.formats.layouts import LAYOUTS, Type
 from vabgrot.formats.modes import CUSTOM_CLOCK, VICS
-from vabgrot.infoframes import FREQUENCIES
+from vabgrot.formats.names import FREQUENCIES
 from vabgrot.link import ISLAND_PACKET
 from vabgrot.packets import Packet, Sample
 from vabgrot.video.colours import DEPTHS
 
 STATUS_BYTES = BLOCK // 8
 SIDE = 3  # bytes of a sample of one channel
-NAMED = {
-    7: "One Bit Audio",
-    8: "DST audio",
-    9: "high bit rate audio (IEC 61937)",
+C_BIT = LAYOUTS["samples"].fields["left C"].low  # where the bit of the channel status is in V, U, C and P
+NAMED: dict[int, str] = {
+    Type.ONE_BIT: "One Bit Audio",
+    Type.DST: "DST audio",
+    Type.HIGH_RATE: "high bit rate audio (IEC 61937)",
 }  # packets of sound that is no PCM, by their type
 Line = tuple[int, str, list[str]]
 
@@ -111,7 +113,7 @@ class Heard:
         left, right, flags, _, starts, _ = fields
         self.add(0, *(self.value(text, name) for text, name in ((left, "left"), (right, "right"))))
         self.samples += 1
-        self.status.take(starts == "1", listing.number(flags, line) >> 2 & 1)
+        self.status.take(starts == "1", listing.number(flags, line) >> C_BIT & 1)
 
     @staticmethod
     def value(text: str, name: str) -> bytes:
@@ -145,15 +147,15 @@ class Heard:
             self.others[NAMED[it.kind]] += 1
         faults = [fault.split()[0] for fault in content.faults]
         self.faults.update(fault for fault in faults if fault in OF_SOUND - {"layout"})
-        if it.kind == 1 and not faults:
+        if it.kind == Type.CLOCK and not faults:
             self.clock = self.clock or packets.clock_numbers(it)
-        elif it.kind == 3:
-            self.depth = DEPTHS.get(it.bytes[1] & 15, self.depth)
-        elif it.kind == 0x82 and not faults and self.vic is None:
-            self.vic = it.bytes[4] & (127 if it.header[1] < 3 else 255)
-        elif it.kind == 0x84 and not faults:
-            self.infoframe(it.bytes[2] >> 2 & 7, it.bytes[4])
-        elif it.kind == 2:
+        elif it.kind == Type.CONTROL:
+            self.depth = DEPTHS.get(it.number("CD"), self.depth)
+        elif it.kind == Type.AVI and not faults and self.vic is None:
+            self.vic = it.number("VIC")
+        elif it.kind == Type.AUDIO and not faults:
+            self.infoframe(it.number("SF"), it.number("CA"))
+        elif it.kind == Type.SAMPLES:
             self.sample_packet(content.samples, content.pairs)
 
     def sample_packet(self, samples: Sequence[Sample], pairs: Sequence[Sample]) -> None:
@@ -161,7 +163,7 @@ class Heard:
         for sample in (*samples, *pairs):
             self.add(sample.pair, sample.left[::-1], sample.right[::-1])
             if sample.pair == 0:
-                self.status.take(sample.start, sample.left_flags >> 2 & 1)
+                self.status.take(sample.start, sample.left_flags >> C_BIT & 1)
             self.samples += not pairs
         if pairs:
             self.samples += 1
@@ -231,7 +233,7 @@ def link_lines(heard: Heard, lines: Iterable[Line]) -> None:
     for packet, is_lost in packets_of(lines):
         if not is_lost:
             heard.packet(packet)
-        elif packet.kind in (1, 2):
+        elif packet.kind in (Type.CLOCK, Type.SAMPLES):
             heard.lose()
 
 
@@ -243,7 +245,7 @@ def take_batches(heard: Heard, batches: Iterable[Batch]) -> None:
             packet = batch.packet(place)
             if not is_lost:
                 heard.packet(packet)
-            elif packet.kind in (1, 2):
+            elif packet.kind in (Type.CLOCK, Type.SAMPLES):
                 heard.lose()
 
 

@@ -7,33 +7,14 @@ from typing import NamedTuple
 
 from vabgrot import infoframes, listing
 from vabgrot.formats.audio import ACCURACY, CODED, WORDS
+from vabgrot.formats.layouts import BODIES, LAYOUTS, LENGTH, MOST_LENGTH, VERSION, Type
+from vabgrot.formats.layouts import NAMES as NAMES
 from vabgrot.formats.modes import VICS
 from vabgrot.infoframes import Row
 
-NAMES = {
-    0x00: "Null",
-    0x01: "Audio clock",
-    0x02: "Audio samples",
-    0x03: "General control",
-    0x04: "Audio content protection",
-    0x05: "ISRC, first half",
-    0x06: "ISRC, second half",
-    0x07: "One Bit Audio samples",
-    0x08: "DST audio",
-    0x09: "High bit rate audio",
-    0x0A: "Gamut metadata",
-    0x81: "Vendor InfoFrame",
-    0x82: "AVI InfoFrame",
-    0x83: "Source product InfoFrame",
-    0x84: "Audio InfoFrame",
-    0x85: "MPEG source InfoFrame",
-    0x86: "NTSC VBI InfoFrame",
-    0x87: "Dynamic range InfoFrame",
-}
-LENGTHS = {(0x82, 2): 13, (0x84, 1): 10, (0x83, 1): 25}
-READ_TOO = {(0x82, 3): 13, (0x82, 4): 14, (0x85, 1): 10, (0x87, 1): 26}  # those of a wrong length are shown as bytes
-DEPTHS = {0: "no depth told", 4: "24 bits", 5: "30 bits", 6: "36 bits", 7: "48 bits"}
-PAIRS = 4  # of channels, which the four bodies of a packet of samples in layout 1 are of
+STRICT = {it.header[:2]: it.header[2] for it in LAYOUTS.values() if it.is_strict}  # the lengths that `recover content` asks for
+SAMPLE = LAYOUTS["samples"].fields
+PAIRS = BODIES  # of channels, which the four bodies of a packet of samples in layout 1 are of
 SHORT = frozenset(
     "format,picture,aspect,range,channels,coding,vendor,product,kind of source,registered to,structure,curve".split(",")
 )
@@ -55,12 +36,45 @@ class Packet(NamedTuple):
         """What the type is called."""
         if self.kind in NAMES:
             return NAMES[self.kind]
-        return f"InfoFrame {self.kind:02x}" if self.kind >= 0x80 else f"Packet {self.kind:02x}"
+        return f"InfoFrame {self.kind:02x}" if self.is_infoframe else f"Packet {self.kind:02x}"
 
     @property
     def bytes(self) -> builtins.bytes:
         """PB0 and those after it."""
         return b"".join(self.bodies)
+
+    @property
+    def is_infoframe(self) -> bool:
+        """Whether it has a version, a length and a checksum."""
+        return self.kind >= Type.INFOFRAMES
+
+    @property
+    def version(self) -> int:
+        """The version of an InfoFrame."""
+        return VERSION.of(self.header)
+
+    @property
+    def length(self) -> int:
+        """How many bytes behind PB0 an InfoFrame says that it has."""
+        return LENGTH.of(self.header)
+
+    @property
+    def total(self) -> int:
+        """What the bytes of an InfoFrame sum to, modulo 256; 0 where they are right."""
+        return sum(self.header) + sum(self.bytes[: self.length + 1]) & 255
+
+    @property
+    def numbers(self) -> dict[str, int]:
+        """The numbers of its fields; none where its type, its version or its length is not known."""
+        layout = infoframes.layout_of(self.header, self.bytes)
+        return infoframes.numbers_of(layout, self.header, self.bytes) if layout else {}
+
+    def number(self, name: str) -> int:
+        """The number of a field. An InfoFrame of a version that is not known is read as one of the next lower version."""
+        form = infoframes.form_of(self.header)
+        if form is None:
+            raise KeyError(name)
+        return infoframes.number_in(form.fields[name], self.header, self.bytes)
 
 
 class Sample(NamedTuple):
@@ -101,7 +115,7 @@ def packet_of(fields: Sequence[str], line: int) -> Packet:
 
 def content_of(packet: Packet) -> Content:
     """What a packet without a lost block carries."""
-    if packet.kind >= 0x80:
+    if packet.is_infoframe:
         return infoframe(packet)
     reader = READERS.get(packet.kind)
     return reader(packet) if reader else Content(f"{packet.header.hex()} {' '.join(body.hex() for body in packet.bodies)}")
@@ -111,113 +125,105 @@ def clock(packet: Packet) -> Content:
     """A clock regeneration packet."""
     if any(body != packet.bodies[0] for body in packet.bodies):
         return Content("its four copies are not alike", faults=["uneven"])
-    n, cycles = clock_numbers(packet)
-    return Content(f"N {n}, CTS {cycles}", [Row("N", str(n)), Row("CTS", str(cycles))])
+    rows = rows_of(packet)
+    return Content(", ".join(f"{row.name} {row.value}" for row in rows), rows)
 
 
 def clock_numbers(packet: Packet) -> tuple[int, int]:
     """N and CTS."""
-    body = packet.bodies[0]
-    n, cycles = (int.from_bytes(bytes([part[0] & 15]) + part[1:], "big") for part in (body[4:7], body[1:4]))
-    return n, cycles
+    return packet.number("N"), packet.number("CTS")
+
+
+def bits_of(number: int) -> list[int]:
+    """Which of four bits are set, such as those of the bodies that are present."""
+    return [place for place in range(BODIES) if number >> place & 1]
 
 
 def samples(packet: Packet) -> Content:
     """A packet of samples: in layout 0 up to four of two channels, in layout 1 one of up to eight (HDMI 1.4, section 5.3.4)."""
-    present, starts = packet.header[1], packet.header[2]
-    is_wide = present >> 4 & 1
-    found, faults = [], []
-    for number, body in enumerate(packet.bodies):
-        if present >> number & 1:
-            start = bool(starts >> number + 4 & 1)
-            sample = Sample(body[0:3], body[3:6], body[6] & 15, body[6] >> 4, start, number if is_wide else 0)
-            found.append(sample)
-            faults += [f"parity {number} {side}" for side in sample.uneven()]
-    flat = sum(present >> number & starts >> number & 1 for number in range(PAIRS))
-    behind = ", a block starts" * any(sample.start for sample in found) + f", {flat} flat" * bool(flat)
-    if is_wide:
+    present, flat = SAMPLE["sample_present"].of(packet.header), SAMPLE["sample_flat"].of(packet.header)
+    found = samples_of(packet)
+    behind = ", a block starts" * any(sample.start for sample in found)
+    behind += f", {(present & flat).bit_count()} flat" * bool(present & flat)
+    if SAMPLE["layout"].of(packet.header):
         channels = " and ".join(f"{2 * sample.pair + 1}, {2 * sample.pair + 2}" for sample in found)
         words = f"1 sample of more than two channels: {channels or 'none'}"
         return Content(words + behind, faults=["layout"], pairs=found)
     words = f"{len(found)} sample{'s' * (len(found) != 1)} of two channels"
+    faults = [f"parity {number} {side}" for number, sample in zip(bits_of(present), found) for side in sample.uneven()]
     return Content(words + behind, samples=found, faults=faults)
+
+
+def samples_of(packet: Packet) -> list[Sample]:
+    """The samples in the bodies of a packet of samples that are present."""
+    present, starts, is_wide = (SAMPLE[name].of(packet.header) for name in ("sample_present", "B", "layout"))
+    return [sample_of(packet.bodies[number], bool(starts >> number & 1), number * is_wide) for number in bits_of(present)]
+
+
+def sample_of(body: bytes, start: bool, pair: int) -> Sample:
+    """The sample in a body."""
+    left, right, left_flags, right_flags = (SAMPLE[name] for name in ("left", "right", "left VUCP", "right VUCP"))
+    return Sample(body[left.byte : left.end], body[right.byte : right.end], left_flags.of(body), right_flags.of(body), start, pair)
 
 
 def one_bit(packet: Packet) -> Content:
     """A packet of One Bit Audio samples (HDMI 1.4, section 5.3.9)."""
-    present, invalid = packet.header[1] & 15, packet.header[2] & 15
-    layout = packet.header[1] >> 4 & 1
+    present, layout, invalid = (packet.number(name) for name in ("samples_present", "layout", "samples_invalid"))
     words = f"One Bit Audio: {present.bit_count()} of four bodies, layout {layout}, {(present & invalid).bit_count()} not valid"
     return Content(words)
 
 
-def other_audio(packet: Packet) -> Content:
-    """A packet of DST or of high bit rate audio (HDMI 1.4, sections 5.3.10 and 5.3.11)."""
-    one, two = packet.header[1:]
-    if packet.kind == 8:
-        return Content(f"DST audio{', a frame starts' * (one >> 7)}{', not valid' * (one >> 6 & 1)}")
-    return Content(f"high bit rate audio (IEC 61937), four frames{', a block starts' * bool(two >> 4)}")
+def dst(packet: Packet) -> Content:
+    """A packet of DST audio (HDMI 1.4, section 5.3.10)."""
+    starts, invalid = packet.number("frame_start"), packet.number("samples_invalid")
+    return Content(f"DST audio{', a frame starts' * starts}{', not valid' * invalid}")
+
+
+def high_rate(packet: Packet) -> Content:
+    """A packet of high bit rate audio (HDMI 1.4, section 5.3.11)."""
+    return Content(f"high bit rate audio (IEC 61937), four frames{', a block starts' * bool(packet.number('B'))}")
 
 
 def described(packet: Packet) -> Content:
-    """A packet of types 4 to 6 or 10, whose fields are rows."""
-    readers = {4: infoframes.protection, 5: infoframes.recording, 6: infoframes.recording, 10: infoframes.gamut}
-    rows = readers[packet.kind](packet.header, packet.bytes)
+    """A packet whose fields are rows."""
+    rows = rows_of(packet)
     return Content(", ".join(f"{row.name} {row.value}" for row in rows[:3]), rows)
 
 
 def control(packet: Packet) -> Content:
     """A general control packet."""
-    first, second, third = packet.bodies[0][:3]
-    mute = " and ".join(name for bit, name in ((0, "sets mute"), (4, "clears mute")) if first >> bit & 1)
-    depth, phase = second & 15, second >> 4
-    words = DEPTHS.get(depth, f"depth {depth}, which is reserved")
-    faults = [] if depth in (0, 4) else [f"depth {depth}"]
-    rows = [
-        Row("mute", mute or "as it is", f"Set_AVMUTE {first & 1}, Clear_AVMUTE {first >> 4 & 1}"),
-        Row("depth of colour", words, f"CD {depth}"),
-    ]
-    if depth in (5, 6, 7):
-        rows.append(Row("packing phase", f"of the last column of pixels {phase or 4 * (depth == 5)}", f"PP {phase}"))
-        rows.append(Row("rows begin", "at phase 0" if third & 1 else "at any phase", f"Default_Phase {third & 1}"))
-    return Content(f"{mute or 'leaves mute'}, {words}", rows, faults=faults)
+    depth, rows = packet.number("CD"), rows_of(packet)
+    mute = "leaves mute" if rows[0].value == "as it is" else rows[0].value
+    return Content(f"{mute}, {rows[1].value}", rows, faults=[] if depth in (0, 4) else [f"depth {depth}"])
 
 
 def infoframe(packet: Packet) -> Content:
     """An InfoFrame."""
-    kind, version, length = packet.header[0], packet.header[1], packet.header[2] & 31
-    data = packet.bytes
-    known = LENGTHS.get((kind, version))
-    if length != known if known else length > 27:
+    length, total = packet.length, packet.total
+    if length != STRICT.get((packet.kind, packet.version), length) or length > MOST_LENGTH:
         return Content(f"a length of {length}, which is wrong", faults=["length"])
-    total = sum(packet.header) + sum(data[: length + 1]) & 255
     if total:
         return Content(f"a checksum that leaves {total:02x}", faults=[f"checksum {total:02x}"])
-    rows = rows_of(kind, version, length, data)
+    rows = rows_of(packet)
     if not rows:
-        payload = data[1 : length + 1].hex()
-        rows = [Row("version", str(version)), Row("payload", payload)]
-        return Content(f"version {version}: {payload or 'no payload'}", rows)
-    if kind == 0x81:
+        payload = packet.bytes[1 : length + 1].hex()
+        rows = [Row("version", str(packet.version)), Row("payload", payload)]
+        return Content(f"version {packet.version}: {payload or 'no payload'}", rows)
+    if packet.kind == Type.VENDOR:
         return Content(f"{rows[0].value}: {', '.join(row.value for row in rows[1:])}", rows)
     return Content(", ".join(row.value for row in rows if row.name in SHORT) or rows[0].value, rows)
 
 
-def rows_of(kind: int, version: int, length: int, data: bytes) -> list[Row]:
-    """The rows of an InfoFrame whose length and sum are right; none where its fields are not known."""
-    if kind == 0x81 and length >= 3:
-        return infoframes.vendor(data[1 : length + 1])
-    if length != (LENGTHS | READ_TOO).get((kind, version)):
-        return []
-    if kind == 0x82:
-        return infoframes.avi(version, data)
-    readers = {0x83: infoframes.product, 0x84: infoframes.audio, 0x85: infoframes.mpeg, 0x87: infoframes.mastering}
-    return readers[kind](data)
+def rows_of(packet: Packet) -> list[Row]:
+    """The rows of a packet; of an InfoFrame whose length and sum are right. None where its fields are not known."""
+    layout = infoframes.layout_of(packet.header, packet.bytes)
+    return infoframes.rows_of(layout, packet.header, packet.bytes) if layout else []
 
 
 READERS: dict[int, Callable[[Packet], Content]] = {
-    **{0: lambda _: Content("nothing"), 1: clock, 2: samples, 3: control, 7: one_bit, 8: other_audio, 9: other_audio},
-    **dict.fromkeys((4, 5, 6, 10), described),
+    **{Type.NULL: lambda _: Content("nothing"), Type.CLOCK: clock, Type.SAMPLES: samples, Type.CONTROL: control},
+    **{Type.ONE_BIT: one_bit, Type.DST: dst, Type.HIGH_RATE: high_rate},
+    **dict.fromkeys((Type.PROTECTION, Type.ISRC1, Type.ISRC2, Type.GAMUT), described),
 }
 
 

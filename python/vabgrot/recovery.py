@@ -16,6 +16,7 @@ from vabgrot import capture, library, listing, program
 from vabgrot.errors import Refused
 from vabgrot.events import BLOCKED, FAULTS, KINDS, LANED, NAMES, UNTOLD, End, Event, Kind, Numbers, Packet, packet_of
 from vabgrot.formats.characters import PACKET
+from vabgrot.formats.layouts import BODIES, BODY, CARRIED, HEADER, LAYOUTS, Type
 from vabgrot.link import Columns, Thing, Vsync
 from vabgrot.receiving import RECORD, Arrays, Receiver, Records, pieces
 
@@ -23,9 +24,9 @@ FAULT = np.dtype([("column", "<i8"), ("at", "<i8"), ("kind", "U10"), *((name, "<
 SAMPLE = np.dtype(
     [("column", "<i8"), ("left", "<i4"), ("right", "<i4"), ("left_flags", "u1"), ("right_flags", "u1"), ("start", "?"), ("pair", "u1")]
 )
-SIZE = 31 + PACKET  # bytes of a packet
-SAMPLES = 2  # the type of packets of L-PCM samples
-WIDE = 16  # of their header byte 1: more than two channels
+SIZE = CARRIED + PACKET  # bytes of a packet
+FIELDS = LAYOUTS["samples"].fields
+FULL = 1 << FIELDS["left"].bits - 1  # of full scale
 NONE = -1  # of a fault: it has no such number
 Picture = npt.NDArray[np.uint8]
 
@@ -137,20 +138,20 @@ def frames_of(parts: Sequence[Arrays]) -> Iterator[Picture]:
 def samples_of(part: Arrays) -> npt.NDArray[np.void]:
     """The samples of the packets of some events, in order: of layout 0 one a body that is present, of layout 1 one a pair."""
     packets = part.records[whole_packets(part.records)]
-    places = packets["offset"][:, None] + np.arange(3 + 28)
-    octets = np.frombuffer(part.data, np.uint8)[places] if len(packets) else np.empty((0, 31), np.uint8)
-    is_sound = octets[:, 0] == SAMPLES
+    places = packets["offset"][:, None] + np.arange(CARRIED)
+    octets = np.frombuffer(part.data, np.uint8)[places] if len(packets) else np.empty((0, CARRIED), np.uint8)
+    is_sound = octets[:, 0] == Type.SAMPLES
     packets, octets = packets[is_sound], octets[is_sound]
-    which, body = np.nonzero(octets[:, 1:2] >> np.arange(4) & 1)
-    bodies = octets[:, 3:].reshape(-1, 4, 7)[which, body]
+    which, body = np.nonzero(FIELDS["sample_present"].flags(octets))
+    bodies = octets[:, HEADER:].reshape(-1, BODIES, BODY)[which, body]
     found = np.empty(len(which), SAMPLE)
     found["column"] = packets["named"][which]
-    for side, name in ((0, "left"), (3, "right")):
-        value = bodies[:, side : side + 3].astype(np.int32) @ np.array([1 << 8, 1 << 16, 1 << 24], np.int32)
-        found[name] = value >> 8
-    found["left_flags"], found["right_flags"] = bodies[:, 6] & 15, bodies[:, 6] >> 4
-    found["start"] = octets[which, 2] >> body + 4 & 1
-    found["pair"] = np.where(octets[which, 1] & WIDE, body, 0)
+    for side in ("left", "right"):
+        value = FIELDS[side].numbers(bodies)
+        found[side] = np.where(value > FULL, value - 2 * FULL, value)
+    found["left_flags"], found["right_flags"] = FIELDS["left VUCP"].numbers(bodies), FIELDS["right VUCP"].numbers(bodies)
+    found["start"] = FIELDS["B"].flags(octets)[which, body]
+    found["pair"] = body * FIELDS["layout"].numbers(octets)[which]
     return found
 
 

@@ -1,6 +1,7 @@
 """Calls of the shared library in every order, with too little room or memory, and on two threads."""
 
 import itertools
+import re
 import threading
 
 import pytest
@@ -183,6 +184,12 @@ def test_threads(calls):
 
 def test_refused_memory(compiled):
     """Each allocation of an opening, or of a call that lists or makes a capture, is refused in turn: it answers so, and frees what it
-    had; no other call allocates."""
+    had; no other call allocates. An opening allocates what the tables of vabgrot.h and its man page say."""
     came = ran([compiled(TOP / "tests" / "library" / "refused.c", "-Wl,--wrap=malloc,--wrap=realloc,--wrap=free")], b"")
     assert came.returncode == 0, came.stdout + came.stderr
+    link, dvi, track, relock = re.findall(r"(?m)^kind \d: (\d+) blocks of (\d+) bytes$", came.stdout.decode())
+    assert track == relock
+    rows = {"vabgrot.h": r"(?m)^\*\*   VABGROT_[A-Z_, ]+  +(\d)  +([\d,]+)$", "vabgrot.3": r"(?m)^VABGROT_[A-Z_, ]+\|(\d)\|([\d,]+)$"}
+    for name, row in rows.items():
+        text = (TOP / "library" / name).read_text("utf-8")
+        assert [(count, size.replace(",", "")) for count, size in re.findall(row, text)] == [link, dvi, track], name

@@ -14,6 +14,7 @@ import numpy as np
 import pytest
 
 import vabgrot
+from tests.library.conftest import SANITIZERS
 from tests.library.test_calls import lanes_of
 from tests.models import feeding, hearing, model, relocking
 from tests.support import HANGS, LISTING, TOP, run
@@ -23,7 +24,7 @@ from vabgrot.formats.characters import CONTROL
 
 CAPTURES = 24
 BODIES = tuple(bytes([at] * 7) for at in range(4))
-SLIPPED = b"c 00 4\nc 04 8\nv %b\nc 00 24\nc 04 8\nv ff0000\nc 00 12\nend\n" % (b"000000" * 30)  # before it slips, in docs/guide/FORMATS.md
+SLIPPED = (TOP / "examples" / "two-lines.link").read_bytes()  # before it slips, in examples/track.txt
 EPOCHS = {"track": model.epochs, "relock": relocking.epochs}
 ISLAND = b"c 00 12\nc 14 8\ni 12\np 82020d %b %b\ne 30\nc 00 12\nend\n" % (b" ".join(it.hex().encode() for it in BODIES), b"0123" * 8)
 
@@ -395,28 +396,63 @@ def test_an_installed_library_is_found(found, tmp_path):
 # ---- docs/guide/LIBRARY.md
 
 
+BARS = (TOP / "examples" / "bars.content").read_bytes()
+BARS_COLUMNS = 3 * (32 + 8 + 16 + 64) * (8 + 2 + 2 + 3)  # of its three frames
+LAST_COLUMNS = 32  # after the last frame
+
+
+def write_lanes(folder, executable, listing):
+    """Writes a capture of a content with one damaged character, and the bits of its lanes, into a folder."""
+    data = run(executable, ["damage", "2:28450:0ab"], run(executable, ["make", "content"], listing)[1])[1]
+    (folder / "bars.tmc").write_bytes(data)
+    for name, lane in zip(("blue", "green", "red"), capture.lanes_of(data)[0]):
+        (folder / name).write_bytes(lane)
+
+
 @pytest.fixture(scope="module")
 def bars(executable, tmp_path_factory):
     """The folder of a capture with one damaged character, and of the bits of its lanes."""
     folder = tmp_path_factory.mktemp("guide")
-    data = run(executable, ["make", "content"], (TOP / "examples" / "bars.content").read_bytes())[1]
-    data = run(executable, ["damage", "2:28450:0ab"], data)[1]
-    (folder / "bars.tmc").write_bytes(data)
-    for name, lane in zip(("blue", "green", "red"), capture.lanes_of(data)[0]):
-        (folder / name).write_bytes(lane)
+    write_lanes(folder, executable, BARS)
     return folder
+
+
+@pytest.fixture(scope="module")
+def count(bars, compiled):
+    """The first program of the guide, under the sanitizers."""
+    (bars / "count.c").write_text(blocks("c")[0])
+    return compiled(bars / "count.c", *SANITIZERS)
+
+
+def said_of_lanes(program, folder):
+    """What it says of the lanes in a folder."""
+    came = subprocess.run([program, "blue", "green", "red"], cwd=folder, capture_output=True, text=True, timeout=HANGS)
+    assert not came.stderr, came.stderr
+    return came.returncode, came.stdout
 
 
 def blocks(language):
     return re.findall(rf"(?ms)^```{language}\n(.*?)^```", (TOP / "docs" / "guide" / "LIBRARY.md").read_text())
 
 
+def test_the_first_program(bars, count):
+    assert said_of_lanes(count, bars) == (0, f"{BARS_COLUMNS + LAST_COLUMNS} columns, 24 lines, 1 faults\n")
+
+
+def test_the_first_program_reads_to_the_end(count, executable, tmp_path):
+    """Its lanes are longer than 64 KiB; and one of them is cut off."""
+    mode, _, frames = BARS.partition(b"\n")
+    write_lanes(tmp_path, executable, mode + b"\n" + frames.removesuffix(b"end\n") * 20 + b"end\n")
+    columns = 20 * BARS_COLUMNS + LAST_COLUMNS
+    assert (tmp_path / "blue").stat().st_size == (10 * columns + 7) // 8 > 1 << 16
+    assert said_of_lanes(count, tmp_path) == (0, f"{columns} columns, {20 * 24} lines, 1 faults\n")
+    with open(tmp_path / "green", "r+b") as file:
+        file.truncate(5 * 4000)  # 16,000 characters
+    assert said_of_lanes(count, tmp_path)[1].startswith("16000 columns, ")
+
+
 def test_c_as_printed(bars, compiled):
-    source, call, making, parts = blocks("c")
-    (bars / "count.c").write_text(source)
-    came = subprocess.run([compiled(bars / "count.c"), "blue", "green", "red"], cwd=bars, capture_output=True, text=True, timeout=HANGS)
-    columns = 3 * (32 + 8 + 16 + 64) * (8 + 2 + 2 + 3) + 32  # three frames of the listing's mode, and the columns after the last
-    assert (came.returncode, came.stdout) == (0, f"{columns} columns, 24 lines, 1 faults\n")
+    _, call, making, parts = blocks("c")
     given = "const uint8_t capture[] = {84, 77, 67, 51}; const size_t capture_size = 4, room = 4; uint8_t listing[4];"
     (bars / "call.c").write_text(f"#include <vabgrot.h>\n\nint main(void) {{\n{given}\n{call}return size != 0;\n}}\n")
     assert subprocess.run([compiled(bars / "call.c")], timeout=HANGS).returncode == 0  # no capture: nothing is listed
@@ -431,20 +467,20 @@ def test_c_as_printed(bars, compiled):
 
 
 def test_python_as_printed(bars, found):
-    """The events of three files, a whole capture, one that is made, parts of a link, and pieces."""
+    """The events of three files, these in pieces, a whole capture, one that is made, and parts of a link."""
     lanes, whole, listing = ["blue", "green", "red"], ["bars.tmc"], [TOP / "examples" / "skewed.link"]
     says = []
-    for source, words in zip(blocks("python"), (lanes, whole, listing, [], lanes), strict=True):
+    for source, words in zip(blocks("python"), (lanes, lanes, whole, listing, []), strict=True):
         env = {**os.environ, "PYTHONPATH": str(TOP / "python")}
         came = subprocess.run([sys.executable, "-c", source, *words], cwd=bars, capture_output=True, text=True, env=env, timeout=HANGS)
         assert came.returncode == 0, came.stderr
         says.append(came.stdout)
     assert "a line of 32 pixels" in says[0] and "on lane 2 (red): code, the first character of a row on its lane" in says[0]
     assert says[0].endswith(" columns, aligned\n")
-    assert says[1].count("(8, 32, 3)\n") == 3 and "packets" in says[1] and "'code', 2)" in says[1]
-    assert says[2] == "158 bytes, 20 columns\nline 2 is refused: preamble\n"
-    assert says[3] == "(80, 3) ['3ff', '3ff', '0ff']\n"
-    assert " faults, " in says[4] and says[4].endswith("aligned=True)\n")
+    assert " faults, " in says[1] and says[1].endswith("aligned=True)\n")
+    assert says[2].count("(8, 32, 3)\n") == 3 and "packets" in says[2] and "'code', 2)" in says[2]
+    assert says[3] == "158 bytes, 20 columns\nline 2 is refused: preamble\n"
+    assert says[4] == "(80, 3) ['3ff', '3ff', '0ff']\n"
 
 
 def test_without_the_library_the_program_hears(executable, monkeypatch):

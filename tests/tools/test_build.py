@@ -93,7 +93,8 @@ def test_not_proved(building, tmp_path):
     """What the prover said is on standard error, nothing above begins, and what was proved is kept."""
     (tmp_path / "fails.left").write_text("")
     status, said, log = building()
-    assert (status, said) == (1, "left: not proved\n") and "hdmi_cli" not in " ".join(log)
+    lines = ["left: not proved", "build.py: the crate left is not proved. Its log is crates/left/out/built/log."]
+    assert (status, said.splitlines()) == (1, lines) and "hdmi_cli" not in " ".join(log)
     assert not (tmp_path / "top/crates/hdmi_cli/out/hdmi_cli").exists()
     (tmp_path / "fails.left").unlink()
     assert "low" not in names(building()[2], "begin")
@@ -131,7 +132,7 @@ def test_ended_early(building, tmp_path, end):
 def test_no_kit(building, tmp_path):
     (tmp_path / "path/rt").write_text("#!/bin/sh\nexit 1\n")
     status, said, log = building()
-    assert status == 2 and "rt of the Rattle kit" in said and log == []
+    assert status == 2 and "the command rt is not on the PATH" in said and log == []
 
 
 def test_a_kit_with_its_parts_elsewhere(building, tmp_path):

@@ -11,7 +11,9 @@ import pytest
 
 from tests.support import TOP
 
-PROGRAM = '#!/bin/sh\necho "$@"\nexit 2\n'
+PROGRAM = '#!/bin/sh\necho "$@"\nexit 1\n'  # a program that knows all words
+UNKNOWING = '#!/bin/sh\necho "usage: .." >&2\nexit 2\n'
+HINT = "vabgrot: the words name no command. `{} help` lists the commands.\n"
 
 
 @pytest.fixture
@@ -23,7 +25,7 @@ def front(tmp_path, kit):
     (top / "crates.txt").write_text("hdmi_cli:\n")
     (tmp_path / "program").write_text(PROGRAM)
     (tmp_path / "program").chmod(0o755)
-    for name in ("vabgrot", "build.py", "README.md", "CHANGELOG.md"):
+    for name in ("vabgrot", "build.py", "README.md", "CONTRIBUTING.md", "CHANGELOG.md"):
         shutil.copy(TOP / name, top)
     for folder in ("page", "tools", "python", "docs", "examples"):
         shutil.copytree(TOP / folder, top / folder, ignore=shutil.ignore_patterns("__pycache__"))
@@ -40,23 +42,45 @@ def front(tmp_path, kit):
 def test_no_kit_and_no_build(front, tmp_path):
     for words in (["check"], ["install"], ["install", "/nowhere"], ["package"]):
         status, out, said = front(*words, has_kit=False)
-        assert (status, out) == (127, "") and "rt of the Rattle kit is not on the PATH" in said
+        assert (status, out) == (127, "") and "the command rt is not on the PATH. Install the Rattle kit" in said
     (tmp_path / "fails.hdmi_cli").write_text("")
     status, out, said = front("check")
-    assert (status, out) == (70, "") and said.endswith("hdmi_cli: not proved\nvabgrot: the build failed\n")
+    assert (status, out) == (70, "") and "\nhdmi_cli: not proved\nbuild.py: the crate hdmi_cli is not proved." in said
+    assert said.splitlines()[-1].startswith("vabgrot: the build failed. ")
 
 
 def test_built_once_and_run(front):
     """The program's words, output and status are its own; a second run builds nothing."""
     status, out, said = front("recover", "link")
-    assert (status, out) == (2, "recover link\n") and "built in" in said
-    assert front("check") == (2, "check\n", "")
-    assert front("install", "a", "b") == (2, "install a b\n", "")
-    assert front("package", "a", "b") == (2, "package a b\n", "")
-    assert front("--version", "a") == (2, "--version a\n", "")
+    assert (status, out) == (1, "recover link\n") and "built in" in said
+    assert front("check") == (1, "check\n", "")
+    assert front("install", "a", "b") == (1, "install a b\n", "")
+    assert front("package", "a", "b") == (1, "package a b\n", "")
+    assert front("--version", "a") == (1, "--version a\n", "")
     for word in ("help", "--help", "-h"):
         status, out, said = front(word)
         assert (status, said) == (0, "") and out.startswith("usage: ./vabgrot")
+
+
+@pytest.mark.parametrize("is_installed", [False, True])
+def test_words_that_name_no_command(front, tmp_path, is_installed):
+    """The program's line and status are its own; a second line says where the commands are listed."""
+    (tmp_path / "program").write_text(UNKNOWING)
+    front("install", tmp_path / "prefix")
+    if is_installed:
+        front = functools.partial(front, script=tmp_path / "prefix" / "bin" / "vabgrot")
+    said = "usage: ..\n" + HINT.format("vabgrot" if is_installed else "./vabgrot")
+    for words in ([], ["chek"], ["recover", "dvi", "x"], ["sample"], ["sample", "21"], ["sample", "2", "3"]):
+        assert front(*words) == (2, "", said)
+
+
+def test_a_sample_is_run_once(front, tmp_path):
+    """The script asks the program whether it knows the words, but not by a whole sample."""
+    (tmp_path / "program").write_text(f'#!/bin/sh\necho "$@" >> {tmp_path}/runs\n')
+    for words in (["sample", "2"], ["sample", "020"], ["sample", "--", "2"]):
+        front(*words)
+        assert (tmp_path / "runs").read_text() == " ".join(words) + "\n"
+        (tmp_path / "runs").unlink()
 
 
 @pytest.mark.skipif(shutil.which("taskset") is None, reason="taskset of util-linux is missing")
@@ -98,7 +122,8 @@ def test_installed(front, tmp_path):
         came = subprocess.run([local / "bin" / f"vabgrot-{name}", "--help"], capture_output=True, text=True)
         assert came.returncode == 0 and came.stdout.startswith(f"usage: vabgrot-{name}"), came.stderr
         assert not re.search(r"tools/|\./vabgrot|\b(docs|examples)/(?!\w)", came.stdout)
-    for name in ("man/man1/vabgrot.1", "doc/vabgrot/README.md", "doc/vabgrot/docs/guide/FORMATS.md", "doc/vabgrot/examples/red.vcd"):
+    names = ("README.md", "CONTRIBUTING.md", "docs/guide/FORMATS.md", "examples/red.vcd")
+    for name in ("man/man1/vabgrot.1", *(f"doc/vabgrot/{it}" for it in names)):
         assert (local / "share" / name).is_file()
     for name in ("page/index.html", "page/page.js", "python/vabgrot/report/page/report.js", "python/vabgrot/report/page/report.css"):
         assert (local / "lib/vabgrot" / name).is_file()
@@ -133,10 +158,18 @@ def test_the_installed_library(front, tmp_path):
 def test_installed_elsewhere(front, tmp_path):
     assert front("install", tmp_path / "other")[0] == 0 and (tmp_path / "other" / "bin" / "vabgrot-report").exists()
     (tmp_path / "file").write_text("")
-    assert front("install", tmp_path / "file")[0] == 73
+    status, _, said = front("install", tmp_path / "file")
+    assert status == 73 and f"vabgrot: cannot install in {tmp_path / 'file'}. " in said
     if os.geteuid():
         (tmp_path / "shut").mkdir(mode=0o500)
         assert front("install", tmp_path / "shut")[0] == 73
+
+
+def listed(text):
+    """The lines of a help on commands and statuses."""
+    _, _, after = text.partition("--version\n\n")
+    lines, _, _ = re.sub(r"Only this script ends with:\n(  .*\n)+", "", after).partition("\nThe tools")
+    return lines.splitlines()
 
 
 def test_the_installed_script(front, tmp_path):
@@ -149,12 +182,9 @@ def test_the_installed_script(front, tmp_path):
         status, out, said = front(word, script=script, has_kit=False)
         assert (status, said) == (0, "") and out.startswith("usage: vabgrot COMMAND")
         assert "install [" not in out and "127" not in out and "./vabgrot" not in out and "tools/" not in out
-    commands = [line for line in here.splitlines() if line.startswith("  ")]
-    assert [line for line in out.splitlines() if line.startswith("  ") and line.strip() != "vabgrot --version"] == [
-        line for line in commands if "./vabgrot" not in line
-    ]
+    assert listed(out) == listed(here.replace("./vabgrot", "vabgrot")) and len(listed(out)) > 30
     for words in (["check"], ["install"], ["package"], []):
-        assert front(*words, script=script, has_kit=False) == (2, " ".join(words) + "\n", "")
+        assert front(*words, script=script, has_kit=False) == (1, " ".join(words) + "\n", "")
 
 
 def test_version(front, tmp_path):
@@ -171,7 +201,7 @@ def test_version(front, tmp_path):
     shutil.rmtree(tmp_path / "top")
     for name in ("vabgrot", *(f"vabgrot-{name}" for name in tools())):
         assert front("--version", script=tmp_path / "prefix/bin" / name, has_kit=False) == (0, line, "")
-    assert re.search(r"(?m)^## (\S+)$", (TOP / "CHANGELOG.md").read_text())[1] == "1.0.0"
+    assert re.search(r"(?m)^## (\d\S*)$", (TOP / "CHANGELOG.md").read_text())[1] == "1.0.0"
     assert tomllib.loads((TOP / "pyproject.toml").read_text())["project"]["version"] == "1.0.0"
     assert '.TH VABGROT 1 "" "Vabgrot 1.0.0"' in (TOP / "docs/guide/vabgrot.1").read_text()
 
@@ -182,7 +212,12 @@ def test_the_kit_of_another_build(front, tmp_path):
     (tmp_path / "top/crates/hdmi_cli/out/kit").unlink()
     (tmp_path / "path/rt").write_text("#!/bin/sh\n[ $1 = version ] && echo kit of rt && echo more\n")
     assert front("--version")[1] == "vabgrot 1.0.0, built with kit of rt\n"
-    assert front("--version", has_kit=False)[1] == "vabgrot 1.0.0, built with a kit that is not known\n"
+    assert front("--version", has_kit=False)[1] == "vabgrot 1.0.0, built with an unknown kit\n"
+
+
+def asked_for(page):
+    """The packages of Python that the page names."""
+    return set(re.findall(r"\bpython3-[\w-]+", (TOP / page).read_text()))
 
 
 @pytest.mark.skipif(shutil.which("dpkg-deb") is None, reason="dpkg-deb of Debian's package dpkg is missing")
@@ -199,8 +234,8 @@ def test_package(front, tmp_path):
     recommended = {"python3-junitparser", "python3-matplotlib", "python3-numba", "python3-scipy", "python3-skimage"}
     recommended |= {"python3-prometheus-client", "python3-rich"}
     assert recommended == set(fields["Recommends"].split(", "))
-    asked = re.search(r"(?m)^apt-get install ((?:.*\\\n)*.*)$", (TOP / "README.md").read_text())[1].replace("\\\n", " ").split()
-    assert {it for it in asked if it[0] != "-"} == (needed | recommended) - {"libc6", "python3"}
+    assert asked_for("README.md") == needed - {"libc6", "python3"}
+    assert asked_for("docs/guide/TOOLS.md") == recommended | {"python3-distributed"}
     ran(["dpkg-deb", "--extract", package, tmp_path / "root"])
     assert front("install", tmp_path / "prefix")[0] == 0
     names = [
@@ -216,7 +251,8 @@ def test_package(front, tmp_path):
 def test_no_package(front, tmp_path):
     """What is not made leaves nothing behind."""
     (tmp_path / "file").write_text("")
-    assert front("package", tmp_path / "file")[0] == 73
+    status, _, said = front("package", tmp_path / "file")
+    assert status == 73 and f"vabgrot: cannot make a package in {tmp_path / 'file'}. " in said
     (tmp_path / "path/dpkg-deb").write_text("#!/bin/sh\nexit 1\n")
     (tmp_path / "path/dpkg-deb").chmod(0o755)
     assert front("package", tmp_path / "new")[0] == 73 and not [*(tmp_path / "new").iterdir()]

@@ -9,7 +9,7 @@ import pytest
 from tests.support import TOP
 
 EXAMPLES = TOP / "examples"
-# The worked example of docs/guide/FORMATS.md: 270 bits a lane.
+# The capture of examples/red.txt: 270 bits a lane.
 CONTROL = "54534d35d5"
 RED = [
     bytes.fromhex(CONTROL * 3 + "cc320b10d5" + CONTROL * 2 + "54534d35"),

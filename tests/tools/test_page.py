@@ -8,12 +8,14 @@ import shutil
 import subprocess
 import sys
 
+import numpy as np
 import pytest
 
 from tests.models import feeding, model, timed
 from tests.support import HANGS, TOP, built
 from tests.tools.test_channels import AVI_1, CLOCKS, infoframe, packet_line
 from vabgrot import capture, channels, making, packets
+from vabgrot.formats.layouts import LAYOUTS
 from vabgrot.report import whole, words
 
 pages = pytest.importorskip("tests.tools.pages")
@@ -82,8 +84,8 @@ def hits():
 def data_of(page):
     """What a page has of a capture: all but the characters at faults, the sound and the files of pictures."""
     return page.run(
-        "const {thumbs, sound, faultOrder, name, faults: {characters, ...faults}, frames, ...rest} = data;"
-        "return {...rest, faults, frames: frames.map(({picture, kind, ...one}) => one)}"
+        "const {thumbs, sound, rest, name, faults: {characters, ...faults}, frames, ...others} = data;"
+        "return {...others, faults, frames: frames.map(({picture, kind, ...one}) => one)}"
     )
 
 
@@ -391,7 +393,7 @@ def test_a_folder_from_disk(driver):
 def unlike_packets(rng):
     """Packets of all types, most of which are right."""
     kinds = [(kind, version) for kind in (0x81, 0x82, 0x83, 0x84, 0x85, 0x87, 0x86, 0x99) for version in (1, 2, 3, 4)]
-    lengths = packets.LENGTHS | packets.READ_TOO
+    lengths = {it.header[:2]: it.header[2] for it in LAYOUTS.values() if it.is_infoframe and it.least is None}
     for kind, version in kinds * 12:
         length = lengths.get((kind, version), rng.randrange(28))
         header, data = bytes((kind, version, length)), bytearray(rng.randbytes(28))
@@ -409,7 +411,9 @@ def unlike_packets(rng):
 def test_packets_in_words(page):
     """Of each packet what Python says of it."""
     given = [*unlike_packets(random.Random(5))]
-    script = """const [values, done] = arguments; import("/packets.js").then(({packetOf, contentOf, nameOf}) => done(values.map((one) => {
+    script = """const [values, done] = arguments;
+        const modules = Promise.all(["packets", "infoframes"].map((name) => import(`/${name}.js`)));
+        modules.then(([{packetOf, contentOf}, {nameOf}]) => done(values.map((one) => {
         const packet = packetOf(Uint8Array.from(one)); const {words, rows, faults} = contentOf(packet);
         return [nameOf(one[0]), words, rows.map(({name, value, number}) => [name, value, number]), faults]})))"""
     came = page.driver.execute_async_script(script, [list(it) for it in given])
@@ -419,15 +423,14 @@ def test_packets_in_words(page):
         assert found == [packet.name, content.words, [list(row) for row in content.rows], content.faults], data.hex()
 
 
-def test_the_tables_are_current():
-    assert (TOP / "page" / "words.js").read_text("utf-8") == words.text()
-
-
-def test_the_types():
-    """Those that the comments of the JavaScript name."""
+def test_the_types(tmp_path):
+    """Those that the comments of the JavaScript name, of the page and of a report, in a copy that has the tables of Python."""
     if not shutil.which("tsc"):
         pytest.skip("Debian's package node-typescript is missing")
-    came = subprocess.run(["tsc", "-p", TOP / "page" / "jsconfig.json"], capture_output=True, text=True)
+    for folder in (whole.FOLDER, whole.SHARED):
+        shutil.copytree(folder, tmp_path / folder.relative_to(TOP))
+    (tmp_path / "page" / whole.WORDS).write_text(words.text(), "utf-8")
+    came = subprocess.run(["tsc", "-p", tmp_path / "page" / "jsconfig.json"], capture_output=True, text=True)
     assert (came.returncode, came.stdout) == (0, "")
 
 
@@ -449,3 +452,46 @@ def test_only_the_page_is_served(served):
 def test_refused_ports(tool):
     for word in ("65536", "1,2", "x"):
         assert b"--port" in tool("page", "--port", word, status=2).stderr
+
+
+def many_faults(program, counts):
+    """A capture of frames, each with so many control columns that have one wrong character, on lanes 0, 1 and 2 in turn."""
+    rows = ["c 00 20", "c 04 8", "v " + "336699" * WIDTH] * 4
+    frames = [["c 02 60", "c 00 60", *rows, f"c 00 {count + 60}"] for count in counts]
+    listing = ["c 00 60", *(line for frame in frames for line in frame), "c 02 60", "c 00 60", "end", ""]
+    made = program("make", "link", source="\n".join(listing).encode())
+    lanes, bits = capture.lanes_of(made)
+    words = [np.unpackbits(np.frombuffer(lane, np.uint8), bitorder="little")[: bits[0]].reshape(-1, 10) for lane in lanes]
+    at = 60
+    for count in counts:
+        at += 60 + 60 + 4 * (28 + 2 + WIDTH) + 30
+        for lane in range(3):
+            words[lane][at + lane : at + count : 3] = [1, 1, 1, 1, 1, 0, 0, 0, 0, 0]  # no control character, and no guard band
+        at += count + 30
+    out = io.BytesIO()
+    capture.write(out, [io.BytesIO(np.packbits(lane.reshape(-1), bitorder="little").tobytes()) for lane in words], [bits[0]])
+    return out.getvalue()
+
+
+ANSWER = """const [text, done] = arguments; const table = document.querySelector('#fault-table');
+    const [field, says] = [table.querySelector('input[type=search]'), table.querySelector('.bar > span')];
+    const began = performance.now(); field.value = text; field.dispatchEvent(new Event('input'));
+    const look = () => (says.textContent.endsWith('looking on') ? setTimeout(look) : done([performance.now() - began, says.textContent]));
+    setTimeout(look);"""
+
+
+def test_many_faults(page, program, tmp_path):
+    """Of each kind a frame has 10,000 faults listed, and the others are counted; a text is soon found among those that are listed."""
+    wrong = [10_000] * 7 + [300_000]
+    made = many_faults(program, wrong)
+    wanted = program("recover", "link", source=made, status=1)
+    (tmp_path / "a.tmc").write_bytes(made)
+    page.read(tmp_path / "a.tmc")
+    assert wanted.count(b"\n! word") == sum(wrong) == page.count("faults") and page.saved(tmp_path) == wanted
+    assert page.run("return [data.faults.kind.length, data.rest.length]") == [80_000, 1]
+    assert sum(int(times.replace(",", "")) for _, _, times in counts(page)) == sum(wrong)
+    assert "Of each kind the first 10,000 faults of a frame are listed; the others are counted (290,000 word)" in page.text("notes")
+    answers = [page.driver.execute_async_script(ANSWER, f"lane {number % 3}") for number in range(6)]
+    assert [says.rpartition(" ")[2] for _, says in answers] == ["26,672", "26,664", "26,664"] * 2  # of 10,000 lane 0 has one more
+    assert min(milliseconds for milliseconds, _ in answers) < 200
+    page.check()

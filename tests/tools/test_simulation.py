@@ -12,7 +12,7 @@ from tests.tools.test_installed import PARTS
 from tests.tools.test_verilog import need
 
 PAGE = (TOP / "docs" / "guide" / "SIMULATION.md").read_text("utf-8")
-BLOCKS = re.findall(r"(?ms)^```\n(.*?)^```$", PAGE)
+BLOCKS = [text for mark, text in re.findall(r"(?ms)^```(\w*)\n(.*?)^```$", PAGE) if not mark]
 
 
 @pytest.fixture(scope="module")

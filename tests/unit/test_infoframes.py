@@ -14,7 +14,8 @@ import pytest
 from vabgrot import making, packets
 from vabgrot.errors import Refused
 from vabgrot.formats import speakers
-from vabgrot.infoframes import LATER_NAMES, mode_name
+from vabgrot.formats.names import LATER_NAMES
+from vabgrot.infoframes import mode_name
 
 HERE = Path(__file__).resolve().parent
 SOURCE = ("drivers/video/hdmi.c", "include/linux/hdmi.h")
@@ -191,13 +192,10 @@ def test_wrong_infoframes():
 
 
 def numbers(kind, source):
-    layout = making.LAYOUTS[kind]
-    return {
-        name: source.randrange(1 << bits) for name, (_, _, bits) in (*layout.fields.items(), *(layout.in_header or {}).items())
-    }
+    return {name: source.randrange(field.most + 1) for name, field in making.OFFERED[kind].fields.items()}
 
 
-@pytest.mark.parametrize("kind", making.LAYOUTS)
+@pytest.mark.parametrize("kind", making.OFFERED)
 def test_what_is_made_is_read(kind):
     """Each number that is put into a packet is told of it."""
     source = random.Random(kind)

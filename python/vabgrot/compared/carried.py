@@ -18,6 +18,7 @@ from tqdm import tqdm
 
 from vabgrot import link, listing, packets, pcm, program
 from vabgrot.errors import Refused
+from vabgrot.formats.layouts import Type
 from vabgrot.judging.record import Gatherer
 from vabgrot.judging.spans import check_end
 from vabgrot.recovery import array_of_rows
@@ -27,7 +28,6 @@ from vabgrot.video.timings import Ints
 
 Picture = npt.NDArray[np.uint8]  # rows, pixels, and red, green and blue
 SMALL = 16  # pixels of a small picture across and down
-NULL, SAMPLES = 0x00, 0x02
 CAPTURE, WAV = b"TMC", b"RIFF"
 CONVERTED = "pixels of {name} are converted to RGB of full range and 24 bits, as its InfoFrames tell"
 
@@ -167,8 +167,8 @@ def take_capture(found: Carried, path: Path, converts: bool) -> None:
     heard = gatherer.finish().packets
     found.lost = sum(not one.is_whole for one in heard)
     whole = [one.packet for one in heard if one.is_whole]
-    found.packets = Counter((it.header, it.bytes) for it in whole if it.kind not in (NULL, SAMPLES))
-    samples = [it for packet in whole if packet.kind == SAMPLES for it in packets.samples(packet).samples]
+    found.packets = Counter((it.header, it.bytes) for it in whole if it.kind not in (Type.NULL, Type.SAMPLES))
+    samples = [it for packet in whole if packet.kind == Type.SAMPLES for it in packets.samples(packet).samples]
     both = [int.from_bytes(it.left, "little") << 24 | int.from_bytes(it.right, "little") for it in samples]
     found.samples, found.has_sound = np.array(both, np.int64), True
 

@@ -12,13 +12,15 @@ import numpy.typing as npt
 
 from vabgrot import packets
 from vabgrot.formats.audio import BLOCK, RATES
-from vabgrot.judging.of_packets import AUDIO, CLOCK, SAMPLES, first_of, wrong_of
+from vabgrot.formats.layouts import BODIES, BODY, HEADER, LAYOUTS, Type
+from vabgrot.judging.of_packets import first_of, wrong_of
 from vabgrot.judging.record import Heard
 from vabgrot.judging.verdicts import Case, Span, Verdict, counted, every_two, failed, passed, unjudged
 
 MOST_RATE, LEAST_RATE = 1500, 300  # Hz: of 128 fs / N
 STEADY = 0.002  # the part by which a measured rate may be off
 NOT_SOUND = "no sample was received"
+SAMPLE = LAYOUTS["samples"].fields
 ONES = np.array([byte.bit_count() for byte in range(256)], np.int64)  # of a byte
 
 
@@ -41,41 +43,39 @@ class Sound:
 
 def sound_of(case: Case) -> Sound:
     """The samples of a capture."""
-    heard = [one for one in case.whole if one.packet.kind == SAMPLES]
+    heard = [one for one in case.whole if one.packet.kind == Type.SAMPLES]
     found = Sound([one.at for one in heard])
     if not heard:
         return found
-    headers = np.frombuffer(b"".join(one.packet.header for one in heard), np.uint8).reshape(-1, 3)
-    bodies = np.frombuffer(b"".join(one.packet.bytes for one in heard), np.uint8).reshape(-1, 4, 7)
-    layout = headers[:, 1] >> 4 & 1
-    present = (headers[:, 1, None] >> np.arange(4) & 1).astype(bool)
+    headers = np.frombuffer(b"".join(one.packet.header for one in heard), np.uint8).reshape(-1, HEADER)
+    bodies = np.frombuffer(b"".join(one.packet.bytes for one in heard), np.uint8).reshape(-1, BODIES, BODY)
+    layout, present = SAMPLE["layout"].numbers(headers), SAMPLE["sample_present"].flags(headers)
     found.layouts.update(layout.tolist())
     found.counts = np.where(layout, present.any(axis=1), present.sum(axis=1)).tolist()
     present &= layout[:, None] == 0
-    flags = bodies[:, :, 6]
-    for sides, bits in ((bodies[:, :, 0:3], flags & 15), (bodies[:, :, 3:6], flags >> 4)):
-        odd = (ONES[sides].sum(axis=2) + ONES[bits]) % 2 * present
+    for side in ("left", "right"):
+        odd = (ONES[SAMPLE[side].octets(bodies)].sum(axis=2) + ONES[SAMPLE[f"{side} VUCP"].numbers(bodies)]) % 2 * present
         for place in np.flatnonzero(odd.any(axis=1)).tolist():
             found.uneven.append((heard[place], f"odd parity on {counted(int(odd[place].sum()), 'side')}"))
     found.uneven.sort(key=lambda one: one[0].at)
     numbers = np.cumsum(np.append(0, present.sum(axis=1)))
     found.breaks = sorted(set(numbers[np.searchsorted(found.places, case.lost)].tolist()))
-    starts = np.flatnonzero((headers[:, 2, None] >> 4 + np.arange(4) & 1).astype(bool)[present])
+    starts = np.flatnonzero(SAMPLE["B"].flags(headers)[present])
     packets_of = np.searchsorted(numbers, starts, "right") - 1
     found.starts = [(found.places[packet], number) for packet, number in zip(packets_of.tolist(), starts.tolist())]
-    found.status = status_of(flags[present], starts.tolist(), found.breaks)
+    found.status = status_of(bodies[present], starts.tolist(), found.breaks)
     return found
 
 
-def status_of(flags: npt.NDArray[np.uint8], starts: list[int], breaks: list[int]) -> Counter[tuple[tuple[int, ...], ...]]:
-    """The channel status of both sides in each whole block of samples whose V, U, C and P these are, and how often it came."""
+def status_of(bodies: npt.NDArray[np.uint8], starts: list[int], breaks: list[int]) -> Counter[tuple[tuple[int, ...], ...]]:
+    """The channel status of both sides in each whole block of samples with these bodies, and how often it came."""
     found: Counter[tuple[tuple[int, ...], ...]] = Counter()
-    ends = sorted({*starts, *breaks, len(flags)})
+    ends = sorted({*starts, *breaks, len(bodies)})
     for start in starts:
-        end = ends[bisect_right(ends, start)] if start < len(flags) else start
+        end = ends[bisect_right(ends, start)] if start < len(bodies) else start
         if end - start >= BLOCK:
-            block = flags[start : start + BLOCK]
-            found[tuple((block >> 2 & 1).tolist()), tuple((block >> 6 & 1).tolist())] += 1
+            block = bodies[start : start + BLOCK]
+            found[tuple(SAMPLE["left C"].numbers(block).tolist()), tuple(SAMPLE["right C"].numbers(block).tolist())] += 1
     return found
 
 
@@ -228,8 +228,7 @@ def status(case: Case, sound: Sound, clock: Clock | None) -> Verdict:
 
 def audio_of(packet: packets.Packet, layout: int) -> str:
     """What of an audio InfoFrame is not as the samples are sent."""
-    data = packet.bytes
-    channels, coding, rate, size, speakers = data[1] & 7, data[1] >> 4, data[2] >> 2 & 7, data[2] & 3, data[4]
+    channels, coding, rate, size, speakers = (packet.number(name) for name in ("CC", "CT", "SF", "SS", "CA"))
     found = []
     if not layout and channels > 1:
         found.append(f"{channels + 1} channels (CC {channels}), and samples of two are sent")
@@ -245,7 +244,7 @@ def audio_of(packet: packets.Packet, layout: int) -> str:
 
 def infoframes(case: Case, sound: Sound) -> Iterator[Verdict]:
     """The rules on the audio InfoFrame."""
-    frames = case.of_kind(AUDIO)
+    frames = case.of_kind(Type.AUDIO)
     if not sound.samples:
         yield unjudged("audio InfoFrame", NOT_SOUND)
         yield unjudged("audio format", NOT_SOUND)
@@ -254,13 +253,13 @@ def infoframes(case: Case, sound: Sound) -> Iterator[Verdict]:
     among = [Span(pair.begin, pair.end) for pair in case.pairs if first < pair.end and pair.begin <= last]
     yield every_two(case, "audio InfoFrame", "audio InfoFrame", [one.at for one in frames], among)
     layout = int(sound.layouts[1] > sound.layouts[0])
-    readable = [one for one in frames if one.packet.header[1] == 1 and one.packet.header[2] & 31 == 10]
+    readable = [one for one in frames if one.packet.numbers]
     yield first_of("audio format", wrong_of(readable, lambda packet: audio_of(packet, layout)), len(readable), "audio InfoFrame")
 
 
 def judged(case: Case) -> Iterator[Verdict]:
     """The verdicts of these rules."""
-    sound, clocks = sound_of(case), case.of_kind(CLOCK)
+    sound, clocks = sound_of(case), case.of_kind(Type.CLOCK)
     clock = regenerated(clocks)
     yield regeneration(case, sound, clocks)
     yield from rates(case, clock)

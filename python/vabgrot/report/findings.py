@@ -12,9 +12,10 @@ import numpy as np
 
 from vabgrot import packets
 from vabgrot.batch import CARRIED, Batch, Gathering
-from vabgrot.contents import SAMPLES, Contents, odd_sides, sides_of
+from vabgrot.contents import READ_AVI, Contents, odd_sides, sides_of
 from vabgrot.formats.characters import TEN
 from vabgrot.formats.faults import ANEW, LANED, OF_PACKET, UNCOUNTED
+from vabgrot.formats.layouts import Type
 from vabgrot.link import CLOSE, ISLAND_PACKET, KINDS as LISTED, OPEN, VIDEO, Columns, Doubts, Frame, Frames, Ints, Thing
 from vabgrot.report.fields import Fields
 from vabgrot.report.sound import Sound
@@ -31,9 +32,6 @@ KINDS = {name: PERIODS.index(name) for name in ("control", "video", "packet", "o
 OF_KIND = np.array([KINDS.get(name, 0) for name in LISTED], np.int64)  # the period that a line of a batch is
 
 
-LEFT, RIGHT = 0x0F << 48 | 0xFFFFFF, 0xF0 << 48 | 0xFFFFFF << 24  # the bits of a side in the body of a sample
-
-
 class Told:
     """What packets carry, each once: of those of samples without a wrong parity in words alone."""
 
@@ -42,7 +40,7 @@ class Told:
 
     def of(self, packet: packets.Packet) -> packets.Content:
         """What a packet carries."""
-        is_plain = packet.kind == SAMPLES and are_even(packet)
+        is_plain = packet.kind == Type.SAMPLES and are_even(packet)
         return self.of_samples(packet) if is_plain else self.by(packet.header + packet.bytes, packet)
 
     def of_samples(self, packet: packets.Packet) -> packets.Content:
@@ -61,11 +59,7 @@ class Told:
 
 def are_even(packet: packets.Packet) -> bool:
     """Whether each side of each sample of a packet of these has an even number of ones."""
-    for number, body in enumerate(packet.bodies):
-        bits = int.from_bytes(body, "little")
-        if packet.header[1] >> number & 1 and ((bits & LEFT).bit_count() | (bits & RIGHT).bit_count()) & 1:
-            return False
-    return True
+    return not any(sample.uneven() for sample in packets.samples_of(packet))
 
 
 @dataclass
@@ -264,7 +258,7 @@ class Findings(Generic[Shown]):
             return
         self.settle()
         octets = batch.octets(places, 0, CARRIED)
-        samples = octets[:, 0] == SAMPLES
+        samples = octets[:, 0] == Type.SAMPLES
         samples[-1] = False
         together = not odd_sides(*sides_of(octets[samples])).any()
         if together:
@@ -321,17 +315,17 @@ class Findings(Generic[Shown]):
         self.packets.append(received)
         content, packet = received.content, received.packet
         if content is None:
-            if packet.kind == 2:
+            if packet.kind == Type.SAMPLES:
                 self.sound.lose()
             return
         self.signals.take_packet(packet)
         self.content_counts.update(fault.split()[0] for fault in content.faults)
-        if packet.kind == 1 and not content.faults and not self.sound.clock:
+        if packet.kind == Type.CLOCK and not content.faults and not self.sound.clock:
             self.sound.clock = packets.clock_numbers(packet)
-        elif packet.kind == 0x82 and packet.header[1] == 2 and not content.faults:
-            self.vic = packet.bytes[4] & 127
+        elif packet.kind == Type.AVI and packet.version == READ_AVI and not content.faults:
+            self.vic = packet.number("VIC")
             self.sound.vic = self.sound.vic or self.vic
-        elif packet.kind == 0x84 and not content.faults:
+        elif packet.kind == Type.AUDIO and not content.faults:
             self.sound.infoframe(packet)
         self.sound.take(packet)
 

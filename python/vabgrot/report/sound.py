@@ -14,19 +14,25 @@ from vabgrot import channels, packets, pcm
 from vabgrot.channels import Values, Wide
 from vabgrot.formats import speakers
 from vabgrot.formats.audio import BLOCK
+from vabgrot.formats.layouts import BODY, HEADER, LAYOUTS, Type
+from vabgrot.formats.names import FREQUENCIES
 from vabgrot.hearing import NAMED, Heard, Status
-from vabgrot.infoframes import FREQUENCIES
 from vabgrot.judging.of_sound import status_of
 
 Bytes = npt.NDArray[np.uint8]
-BODY, VALUE = 7, 24  # bytes of a body, bits of a value
+SAMPLE = LAYOUTS["samples"].fields
+VALUE = SAMPLE["left"].bits
 MOST_PEAKS, WAVE, TALL = 1200, 1200, 100  # the steps of a waveform, and the size of one channel's
 FULL = 1 << VALUE - 1  # of full scale
 FLOOR = -60  # dB, where the bars of levels begin
 MOST_STATUS = 4  # unlike blocks of channel status that are shown
 SUPPOSED = 48000
-WIDE, PRESENT = 16, 15  # of the second byte of a packet of samples: whether it is of layout 1, and which of its bodies are there
-CARRIED = np.array([bool(it & PRESENT) if it & WIDE else (it & PRESENT).bit_count() for it in range(256)])  # samples, by that byte
+
+
+def carried(headers: Bytes) -> npt.NDArray[np.int64]:
+    """How many samples each of some packets has: in layout 1 one of all its channels."""
+    present = SAMPLE["sample_present"].flags(headers)
+    return np.where(SAMPLE["layout"].numbers(headers), present.any(axis=1), present.sum(axis=1))
 
 
 @dataclass
@@ -47,22 +53,21 @@ class Sound:
         """The next packet that carries sound."""
         if packet.kind in NAMED:
             self.others[NAMED[packet.kind]] += 1
-        elif packet.kind == 2:
+        elif packet.kind == Type.SAMPLES:
             self.headers += packet.header
             self.bodies += packet.bytes
-            self.samples += int(CARRIED[packet.header[1]])
+            self.samples += int(carried(np.frombuffer(packet.header, np.uint8)[None])[0])
 
     def take_samples(self, octets: Bytes) -> None:
         """The next packets of samples: of each a row of its header and its bodies."""
-        self.headers += octets[:, :3].tobytes()
-        self.bodies += octets[:, 3:].tobytes()
-        self.samples += int(CARRIED[octets[:, 1]].sum())
+        self.headers += octets[:, :HEADER].tobytes()
+        self.bodies += octets[:, HEADER:].tobytes()
+        self.samples += int(carried(octets).sum())
 
     def infoframe(self, packet: packets.Packet) -> None:
         """An audio InfoFrame."""
         if self.allocation is None:
-            data = packet.bytes
-            self.frequency, self.allocation = FREQUENCIES[data[2] >> 2 & 7], data[4]
+            self.frequency, self.allocation = FREQUENCIES[packet.number("SF")], packet.number("CA")
 
     def lose(self) -> None:
         """Samples may be missing before the next one."""
@@ -70,12 +75,11 @@ class Sound:
 
     def read(self) -> Samples:
         """The samples of all pairs of channels."""
-        headers = np.frombuffer(bytes(self.headers), np.uint8).reshape(-1, 3)
+        headers = np.frombuffer(bytes(self.headers), np.uint8).reshape(-1, HEADER)
         bodies = np.frombuffer(bytes(self.bodies), np.uint8).reshape(-1, packets.PAIRS, BODY)
-        wide = (headers[:, 1] >> 4 & 1).astype(bool)
-        present = (headers[:, 1, None] >> np.arange(packets.PAIRS) & 1).astype(bool)
-        starts = (headers[:, 2, None] >> 4 + np.arange(packets.PAIRS) & 1).astype(bool)
-        counts = np.where(wide, present.any(axis=1), present.sum(axis=1))
+        wide = SAMPLE["layout"].numbers(headers).astype(bool)
+        present, starts = SAMPLE["sample_present"].flags(headers), SAMPLE["B"].flags(headers)
+        counts = carried(headers)
         firsts = np.cumsum(counts) - counts
         count = 1 + max(np.flatnonzero((present & wide[:, None]).any(axis=0)), default=0)
         found = Samples(np.zeros((count, self.samples, BODY), np.uint8), [np.zeros(0, np.int64)] * count, bool(wide.any()), self.gaps)
@@ -104,19 +108,18 @@ class Samples:
     def values(self) -> Values:
         """Of the shape samples, channels."""
         pairs, samples, _ = self.bodies.shape
-        data = self.bodies[:, :, :6].reshape(pairs, samples, 2, 3).astype(np.int32)
-        found = data[..., 0] | data[..., 1] << 8 | data[..., 2] << 16
+        found = np.stack([SAMPLE[side].numbers(self.bodies) for side in ("left", "right")], axis=2)
         signed: Values = np.where(found >= FULL, found - 2 * FULL, found).astype(np.int32)
         return signed.transpose(1, 0, 2).reshape(samples, 2 * pairs)
 
     def side(self, right: bool) -> bytes:
         """Of the first pair the samples of a side: three bytes each, high byte first."""
-        found: bytes = self.bodies[0][:, [5, 4, 3] if right else [2, 1, 0]].tobytes()
+        found: bytes = SAMPLE["right" if right else "left"].octets(self.bodies[0])[:, ::-1].tobytes()
         return found
 
     def status(self, pair: int) -> Counter[tuple[tuple[int, ...], ...]]:
         """The channel status of both channels of a pair in each whole block, and how often it came."""
-        return status_of(self.bodies[pair, :, 6], self.starts[pair].tolist(), sorted(set(self.gaps)))
+        return status_of(self.bodies[pair], self.starts[pair].tolist(), sorted(set(self.gaps)))
 
 
 @dataclass(frozen=True)

@@ -10,10 +10,12 @@ from pathlib import Path
 
 from vabgrot import place
 from vabgrot.errors import Refused
+from vabgrot.report import words
 
 FOLDER = place.TOP / "page"
 SHARED = Path(__file__).resolve().parent / "page"  # what the page of a report has too
 MODULE = "vabgrot.wasm"
+WORDS = "words.js"  # is made of the tables of this package, wherever the page is
 PAGE, WORKER = "page.js", "worker.js"  # modules that nothing else imports
 STYLES = ("report.css", "page.css")
 SCRIPTS = ("tables.js", "sound.js", "report.js")
@@ -32,6 +34,8 @@ def place_of(name: str) -> Path:
 
 def read(name: str) -> bytes:
     """A file of the page. Raises Refused where the receiver is missing."""
+    if name == WORDS:
+        return words.text().encode()
     try:
         return place_of(name).read_bytes()
     except FileNotFoundError:

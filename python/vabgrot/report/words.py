@@ -1,6 +1,5 @@
-"""The tables of this package that the page's JavaScript reads too: `page/words.js`, which is made of them, so that each stands once.
-
-    PYTHONPATH=python python3 -m vabgrot.report.words > page/words.js"""
+"""The tables of this package that the page's JavaScript reads too, as the module `words.js`, so that each stands once. `tools/page` makes
+it when it is asked for it; `page/build` writes it beside the receiver for other servers."""
 
 from __future__ import annotations
 
@@ -8,28 +7,41 @@ import json
 from typing import Any
 
 from vabgrot import infoframes, packets, program
-from vabgrot.formats import audio, modes, speakers
+from vabgrot.contents import READ_AVI
+from vabgrot.formats import audio, layouts, modes, names, speakers
 from vabgrot.formats.faults import BY_ROW, CONTENT
 from vabgrot.hearing import NAMED
 from vabgrot.report import fields, said, sound
 from vabgrot.video.colours import BT601, BT709, BT2020, DEPTHS
 from vabgrot.video.signals import BY_EXTENDED
 
-WIDTH = 120  # of a line
-HEAD = """// What Python has of the fields of packets, of formats and of faults. Made by `python3 -m vabgrot.report.words`: do not edit.
+HEAD = """// What Python has of the fields of packets, of formats and of faults. Made by `page/build`: do not edit.
 
 """
 CODES = range(256)
-OF_INFOFRAMES = (
-    *("EXTENDED", "ADDITIONAL", "FORMATS", "COLORIMETRY", "ASPECTS", "SCANS", "RANGES", "YCC_RANGES", "SCALINGS", "CONTENTS", "ACTIVE"),
-    *("CODINGS", "FURTHER", "FREQUENCIES", "SIZES", "LFE_LEVELS", "SOURCES", "HDMI", "FORUM", "FOUR_K", "STRUCTURES", "SAMPLINGS"),
-    *("CURVES", "MPEG_FRAMES", "PROTECTIONS", "ISRC_STATES", "SEQUENCES", "PRECISIONS", "GAMUT_SPACES"),
-)
+TYPED = {  # the types of tables whose values are unlike; "" where each name is to be known
+    "LAYOUTS": 'import("./infoframes.js").Layout[]',
+    "TABLES": "Record<string, {known: Record<string, string>, other: string}>",
+    "TYPES": "",
+}
 
 
-def _lengths(table: dict[tuple[int, int], int]) -> dict[str, int]:
-    """A table by type and version, with one text for both."""
-    return {f"{kind} {version}": length for (kind, version), length in table.items()}
+def _layout(name: str, it: layouts.Layout) -> dict[str, Any]:
+    """A layout as the page reads it."""
+    fields = {
+        label: {"byte": one.byte, "low": one.low, "bits": one.bits, "inHeader": one.in_header, "isBig": one.is_big}
+        for label, one in it.all_fields.items()
+    }
+    lines = [line._asdict() | {"when": {label: [*values] for label, values in line.when.items()}} for line in it.lines]
+    octets = {label: one._asdict() for label, one in it.octets.items()}
+    head = {"name": name, "header": it.header, "isStrict": it.is_strict, "least": it.least, "where": it.where}
+    return head | {"fields": fields, "octets": octets, "lines": lines}
+
+
+def _layouts() -> list[dict[str, Any]]:
+    """The layouts, in the order in which a packet is held against them."""
+    known = {id(it): name for name, it in layouts.LAYOUTS.items()}
+    return [_layout(known[id(it)], it) for its in layouts.BY_TYPE.values() for it in its]
 
 
 def _widths() -> dict[int, int]:
@@ -48,17 +60,16 @@ def tables() -> dict[str, Any]:
     """Each table by its name in JavaScript."""
     matrices = {matrix.name: [matrix.red, matrix.blue] for matrix in (BT601, BT709, BT2020)}
     return {
-        **{name: getattr(infoframes, name) for name in OF_INFOFRAMES},
-        "NAMES": packets.NAMES,
-        "LENGTHS": _lengths(packets.LENGTHS),
-        "READ_TOO": _lengths(packets.READ_TOO),
-        "DEPTHS": packets.DEPTHS,
+        "TYPES": {it.name: int(it) for it in layouts.Type},
+        "NAMES": layouts.NAMES,
+        "LAYOUTS": _layouts(),
+        "TABLES": {name: it._asdict() for name, it in infoframes.TABLES.items()},
         "SHORT": sorted(packets.SHORT),
-        "MODES": {code: name for code in CODES if not (name := infoframes.mode_name(code)).startswith("video")},
+        "READ_AVI": READ_AVI,
+        "FREQUENCIES": names.FREQUENCIES,
         "MODE_SIZES": {code: timing.mode.size for code, timing in modes.VICS.items()},
         "MODE_WIDTHS": _widths(),
         "INTERLACED": _interlaced(),
-        "SPEAKERS": [speakers.words(code) for code in range(len(speakers.ALLOCATIONS))],
         "ALLOCATIONS": speakers.ALLOCATIONS,
         "SPEAKER_WORDS": speakers.WORDS,
         "MASK": speakers.MASK,
@@ -93,11 +104,11 @@ def _type_of(value: Any) -> str:
     return {str: "string", bool: "boolean"}.get(type(value), "number")
 
 
-def _wrapped(name: str, value: Any) -> str:
-    """A table as JavaScript, a line where it fits one, else a line an entry; one by keys with its type."""
+def _declared(name: str, value: Any) -> str:
+    """A table as JavaScript; one by keys with its type."""
     line = f"export const {name} = {json.dumps(value, ensure_ascii=False)};"
-    if len(line) > WIDTH:
-        line = f"export const {name} = {json.dumps(value, ensure_ascii=False, indent=2)};"
+    if name in TYPED:
+        return f"/** @type {{{TYPED[name]}}} */\n{line}" if TYPED[name] else line
     if not isinstance(value, dict):
         return line
     return f"/** @type {{Record<string, {_type_of(next(iter(value.values())))}>}} */\n{line}"
@@ -105,7 +116,7 @@ def _wrapped(name: str, value: Any) -> str:
 
 def text() -> str:
     """The text of `words.js`."""
-    return HEAD + "\n".join(_wrapped(name, value) for name, value in tables().items()) + "\n"
+    return HEAD + "\n".join(_declared(name, value) for name, value in tables().items()) + "\n"
 
 
 if __name__ == "__main__":

@@ -198,7 +198,7 @@ def signal_words(parser: ArgumentParser) -> None:
     parser.add_argument("--depth", type=int, choices=sorted(CODES), default=24, help=text)
     text = "send each pixel N times, 1 to 10: the images have so many fewer pixels a row than the mode"
     parser.add_argument("--repeat", type=int, choices=range(1, 11), default=1, metavar="N", help=text)
-    text = f"a packet of each frame: one of {', '.join(making.LAYOUTS)}, and the numbers of its fields; `text` is that of ISRC packets"
+    text = f"a packet of each frame: one of {', '.join(making.OFFERED)}, and the numbers of its fields; `text` is that of ISRC packets"
     parser.add_argument("--packet", action="append", default=[], metavar="KIND:FIELD=N,..", help=text)
 
 

@@ -40,10 +40,11 @@ class Handler(BaseHTTPRequestHandler):
         name = self.path.partition("?")[0].removeprefix("/") or "index.html"
         path = whole.place_of(name)
         host = (self.headers.get("Host") or "").rpartition(":")[0]
-        if "/" in name or path.suffix not in KINDS or not path.is_file() or host not in (HOST, "localhost"):
+        is_there = name == whole.WORDS or path.is_file()
+        if "/" in name or path.suffix not in KINDS or not is_there or host not in (HOST, "localhost"):
             self.send_error(404)
             return
-        data = path.read_bytes()
+        data = whole.read(name)
         self.send_response(200)
         for key, value in {**HEADERS, "Content-Type": KINDS[path.suffix], "Content-Length": str(len(data))}.items():
             self.send_header(key, value)

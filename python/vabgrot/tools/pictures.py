@@ -203,7 +203,7 @@ class Pictures:
 
     def note(self, notes: Iterable[str]) -> None:
         """Keeps what is assumed, once each."""
-        known = self.signals.avi and modes.of_vic(self.signals.avi.vic)
+        known = self.signals.avi and modes.of_vic(self.signals.avi["VIC"])
         if self.weaver and not self.listed.is_link and known and known.interlaced:
             notes = [*notes, FIELDS]
         for text in notes:

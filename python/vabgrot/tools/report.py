@@ -353,7 +353,7 @@ def frames_in_words(found: Found, parts: int) -> str:
 
 def interlaced_by(found: Found, measured: list[Timing]) -> str:
     """Who says that the video is interlaced; "" where none does."""
-    known = found.signals.avi and of_vic(found.signals.avi.vic)
+    known = found.signals.avi and of_vic(found.signals.avi["VIC"])
     if known and known.interlaced:
         return f"The AVI InfoFrame says ({known.name})"
     return "VSYNC says" if any(one.raster.interlaced for one in measured) else ""

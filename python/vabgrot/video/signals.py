@@ -1,17 +1,20 @@
 """How a source sends its pixels, by its AVI InfoFrames and general control packets, and what is assumed where they do not say."""
 
+from collections.abc import Mapping
 from dataclasses import dataclass, field
 
-from vabgrot import packets
+from vabgrot import making, packets
 from vabgrot.formats import modes
-from vabgrot.infoframes import EXTENDED, Avi, avi_of
+from vabgrot.formats.layouts import Type
+from vabgrot.formats.names import EXTENDED
 from vabgrot.video.colours import BT601, BT709, BT2020, DEPTHS, Encoding, Matrix, Signal
 
 PHASES = {24: 1, 30: 5, 36: 3, 48: 2}  # the columns of a group of pixels (HDMI 1.4, section 6.5.2)
 BY_EXTENDED = {0: BT601, 1: BT709, 2: BT601, 3: BT601, 6: BT2020}  # the matrix by EC of an AVI InfoFrame
 HD = 1280  # pixels of a row from which on a format is one of high definition
 NOT_CONVERTED = "the bytes of the lanes are shown as red, green and blue"
-AVI_VERSIONS = {2: 13, 3: 13, 4: 14}  # and their lengths
+TOLD = "S B A Y R M C SC Q EC ITC VIC PR top bottom left right".split()  # the fields of an `avi` line of a content listing
+Avi = Mapping[str, int]  # the numbers of an AVI InfoFrame; YQ and CN only where they are known
 
 
 @dataclass(frozen=True)
@@ -35,12 +38,10 @@ class Signals:
 
     def take_packet(self, packet: packets.Packet) -> None:
         """A packet without a lost block; one whose length or sum is wrong tells nothing."""
-        header, data = packet.header, packet.bytes
-        if packet.kind == 3:
-            self.take_control(data[1] & 15, data[1] >> 4)
-        elif packet.kind == 0x82 and header[2] & 31 == AVI_VERSIONS.get(header[1]):
-            if not (sum(header) + sum(data[: (header[2] & 31) + 1])) & 255:
-                self.avi = avi_of(header[1], data)
+        if packet.kind == Type.CONTROL:
+            self.take_control(packet.number("CD"), packet.number("PP"))
+        elif packet.kind == Type.AVI and not packet.total:
+            self.avi = packet.numbers or self.avi
 
     def take_control(self, depth: int, phase: int | None = None) -> None:
         """CD and PP of a general control packet; a CD of 0 tells no depth, and leaves the last one."""
@@ -52,13 +53,12 @@ class Signals:
         if name == "gcp":
             self.take_control(numbers[2])
             return
-        s, b, a, y, r, m, c, sc, q, ec, itc, vic, pr, *bars = numbers
-        self.avi = Avi(y, a, b, s, c, m, r, itc, ec, q, sc, vic, None, None, pr, tuple(bars))
+        self.avi = dict(zip(TOLD, numbers))
 
     def take_info(self, kind: int, version: int, payload: bytes) -> None:
         """An `info` line of a content listing."""
-        if kind == 0x82 and len(payload) == AVI_VERSIONS.get(version):
-            self.avi = avi_of(version, bytes(1) + payload)
+        if kind == Type.AVI:
+            self.avi = making.infoframe(kind, version, payload).numbers or self.avi
 
     def reading(self, columns: int) -> Reading:
         """How rows of so many columns are read."""
@@ -78,15 +78,15 @@ class Signals:
         return DEPTHS.get(self.depth or 4, 24)
 
     def _signal(self, avi: Avi, bits: int, columns: int, notes: list[str]) -> Signal:
-        if avi.y > Encoding.YCC444:
-            name = "YCbCr 4:2:0" if avi.y == Encoding.YCC420 else f"pixels of the encoding {avi.y}"
+        if avi["Y"] > Encoding.YCC444:
+            name = "YCbCr 4:2:0" if avi["Y"] == Encoding.YCC420 else f"pixels of the encoding {avi['Y']}"
             notes.append(f"{name} are not converted: {NOT_CONVERTED}")
             return Signal(bits=bits)
-        encoding = Encoding(avi.y)
-        times = avi.pr + 1 if avi.pr < 10 else 1
+        encoding = Encoding(avi["Y"])
+        times = avi["PR"] + 1 if avi["PR"] < 10 else 1
         if encoding == Encoding.RGB:
-            is_limited = avi.q == 1
-            if avi.q == 0 and avi.vic > 1:
+            is_limited = avi["Q"] == 1
+            if avi["Q"] == 0 and avi["VIC"] > 1:
                 notes.append("RGB of the default range, which CTA-861 makes the limited one here, is shown as it was sent")
             return Signal(encoding, None, not is_limited, bits, times)
         if encoding == Encoding.YCC422:
@@ -101,13 +101,13 @@ class Signals:
     def _matrix(avi: Avi, width: int, notes: list[str]) -> Matrix | None:
         """The matrix by the colorimetry, and where none is told the one that CTA-861 has for the size; None where the colours are
         not converted."""
-        if avi.c == 3:
-            if avi.ec not in BY_EXTENDED:
-                notes.append(f"the colorimetry {EXTENDED[avi.ec]} is not converted: {NOT_CONVERTED}")
-            return BY_EXTENDED.get(avi.ec)
-        if avi.c:
-            return BT601 if avi.c == 1 else BT709
-        known = modes.of_vic(avi.vic)
+        if avi["C"] == 3:
+            if avi["EC"] not in BY_EXTENDED:
+                notes.append(f"the colorimetry {EXTENDED.of(avi['EC'])} is not converted: {NOT_CONVERTED}")
+            return BY_EXTENDED.get(avi["EC"])
+        if avi["C"]:
+            return BT601 if avi["C"] == 1 else BT709
+        known = modes.of_vic(avi["VIC"])
         width = known.across.active // (known.repetitions[0] + 1) if known else width
         matrix = BT709 if width >= HD else BT601
         notes.append(f"no colorimetry is told: {matrix.name} is taken, as CTA-861 has it for {width} pixels a row")
@@ -116,10 +116,10 @@ class Signals:
     @staticmethod
     def _is_full(avi: Avi, notes: list[str]) -> bool:
         """Whether YCbCr is of full range: YQ says so, and where the listing has none, Q, which a source gives the same range."""
-        if avi.yq is not None:
-            return avi.yq == 1
-        if avi.q in (1, 2):
-            return avi.q == 2
+        if "YQ" in avi:
+            return avi["YQ"] == 1
+        if avi["Q"] in (1, 2):
+            return avi["Q"] == 2
         notes.append("the range of YCbCr is not told by a content listing: the limited one is taken")
         return False
 

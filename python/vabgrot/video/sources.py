@@ -81,9 +81,8 @@ class Sender:
         phase = (self.columns.active_across - 1) % group
         mode = self.columns
         aligned = all(number % group == 0 for number in (mode.active_across, mode.sync_across, mode.back_across, mode.across))
-        told = CODES[self.signal.bits] | (0 if phase == 4 else phase) << 4
-        body = bytes((0, told, int(aligned), 0, 0, 0, 0))
-        return Packet(bytes((3, 0, 0)), [body] * making.BODIES)
+        told = {"CD": CODES[self.signal.bits], "PP": 0 if phase == 4 else phase, "Default_Phase": int(aligned)}
+        return making.packet("control", told)
 
     def rows(self, path: str) -> list[str]:
         """The lines of a picture's rows."""

@@ -13,15 +13,16 @@ from vabgrot import link, packets
 from vabgrot.batch import CARRIED
 from vabgrot.formats.characters import HSYNC, PACKET, VSYNC
 from vabgrot.formats.faults import OF_PACKET, UNCOUNTED
+from vabgrot.formats.layouts import LAYOUTS, Type
+from vabgrot.formats.names import DEPTHS
 
 if TYPE_CHECKING:
     from vabgrot.batch import Batch
 
 Ints = npt.NDArray[np.int64]
 PARTS = ("active", "front porch", "sync", "back porch", "total")
-AVI_TYPE, CONTROL_TYPE = 0x82, 0x03  # packets: an AVI InfoFrame, general control
-TOLD = (f"{AVI_TYPE:02x}", f"{CONTROL_TYPE:02x}")
-BITS = {4: 24, 5: 30, 6: 36, 7: 48}  # of a pixel, by the depth that general control says (HDMI 1.4, section 6.5.3)
+LEAST_AVI = LAYOUTS["avi"].fields["PR"].byte  # bytes of an AVI InfoFrame that says how often pixels are sent
+TOLD = (f"{Type.AVI:02x}", f"{Type.CONTROL:02x}")
 DEPTH = 24  # bits of a pixel that takes one column
 LOST = 2  # in place of a level: what follows is not known to follow at once
 STABLE = 16  # neighbouring rows of one width and one level of both syncs, from which on the two hold
@@ -215,7 +216,7 @@ class Meter:
             columns += [batch.at[islands[alike]], (batch.at[islands[~alike], None] + np.arange(PACKET)).reshape(-1)]
             levels += [syncs[alike, 0], syncs[~alike].reshape(-1)]
             types = batch.values[islands]
-            for place in islands[(types == AVI_TYPE) | (types == CONTROL_TYPE)].tolist():
+            for place in islands[(types == Type.AVI) | (types == Type.CONTROL)].tolist():
                 self.tell(int(batch.at[place]), batch.packet(place))
         return np.concatenate(columns), np.concatenate(levels)
 
@@ -263,23 +264,21 @@ class Meter:
 
     def tell(self, at: int, packet: packets.Packet) -> None:
         """An AVI InfoFrame or a general control packet."""
-        if packet.kind == AVI_TYPE:
+        if packet.kind == Type.AVI:
             self.avi(at, packet)
         else:
             self.depth(at, packet)
 
     def depth(self, at: int, packet: packets.Packet) -> None:
         """Keeps the depth of colour of a general control packet that says one."""
-        depth = packet.bytes[1] & 15
-        if depth in BITS:
-            self.depths.append((at, BITS[depth]))
+        depth = packet.number("CD")
+        if depth in DEPTHS:
+            self.depths.append((at, DEPTHS[depth]))
 
     def avi(self, at: int, packet: packets.Packet) -> None:
         """Keeps what an AVI InfoFrame says; one with a wrong checksum says nothing."""
-        count, data = packet.header[2] & 31, packet.bytes
-        if (sum(packet.header) + sum(data[: count + 1])) & 255 or count < 5:
-            return
-        self.avis.append((at, Avi(data[4] & (127 if packet.header[1] < 3 else 255), data[5] & 15)))
+        if not packet.total and packet.length >= LEAST_AVI:
+            self.avis.append((at, Avi(packet.number("VIC"), packet.number("PR"))))
 
     def follow(self, begin: int, end: int, columns: Ints, values: Ints) -> int:
         """Columns from one up to another, of which none is damaged: HSYNC plus twice VSYNC as they are told, and where. Answers the value

@@ -12,6 +12,7 @@ import numpy.typing as npt
 from PIL import Image
 
 from vabgrot import packets
+from vabgrot.formats.layouts import Type
 from vabgrot.link import Columns
 from vabgrot.report.sound import Channel, Sound, Told
 from vabgrot.video import images
@@ -19,13 +20,12 @@ from vabgrot.video.colours import Signal
 from vabgrot.video.matching import Rate, Timing, timings
 from vabgrot.video.signals import Signals
 from vabgrot.video.timings import Meter
-from vabgrot.watching.counting import SAMPLES, SLIP, Batch, Ints, Syncs, places_of
+from vabgrot.watching.counting import SLIP, Batch, Ints, Syncs, places_of
 from vabgrot.watching.records import MANY, packet_of
 
 SHARE, GRACE = 0.05, 0.2  # of the time that may be looked, and seconds that may be so in any case
 FRAMES = 12  # whole frames after which a look begins anew: its raster and its sound are those of so many
 ENOUGH, MOST = 2, 1 << 27  # whole frames, or bytes of events, that a look has before it ends for want of time
-AUDIO = 0x84  # the type of audio InfoFrames
 Colours = npt.NDArray[np.uint8]
 FINER = 4  # rows of a frame that are taken for a row of its small picture
 SMALL = (64, 48)  # the pixels of a small picture, at most
@@ -123,9 +123,9 @@ class Look:
     def hear(self, batch: Batch) -> None:
         """The samples of a batch, and its last audio InfoFrame that is right."""
         found, types = batch.packets
-        if len(samples := found[types == SAMPLES]):
+        if len(samples := found[types == Type.SAMPLES]):
             self.sound.take_samples(batch.octets(samples))
-        for octets in batch.octets(found[types == AUDIO])[::-1]:
+        for octets in batch.octets(found[types == Type.AUDIO])[::-1]:
             allocation = allocation_of(octets.tobytes())
             if allocation is not None:
                 self.sound.allocation = allocation
@@ -136,7 +136,7 @@ class Look:
 def allocation_of(data: bytes) -> int | None:
     """The speakers of an audio InfoFrame by its bytes; None where it has a fault. Most are as one before."""
     packet = packet_of(data)
-    return None if packets.content_of(packet).faults else packet.bytes[4]
+    return None if packets.content_of(packet).faults else packet.number("CA")
 
 
 @dataclass

@@ -12,6 +12,7 @@ from vabgrot.events import BLOCKED, LANED, Kind
 from vabgrot.formats.characters import HSYNC, VSYNC
 from vabgrot.formats.characters import PACKET as COLUMNS
 from vabgrot.link import Columns, Thing
+from vabgrot.formats.layouts import Type
 from vabgrot.packets import Packet
 from vabgrot.receiving import Octets, Records
 from vabgrot.video.timings import Meter
@@ -23,7 +24,6 @@ AT_NAMED = {Kind.CUT: 0, Kind.NOISE: 1, Kind.EMPTY: GUARDS}  # events that tell 
 AT_COLUMN = {Kind.RUN: 0, Kind.LINE: 0, Kind.OPEN: 1, Kind.PACKET: 1, Kind.CLOSE: 1}  # and those that tell them up to their own
 TELLS = np.isin(np.arange(SLIP + 1), [*AT_NAMED, *AT_COLUMN])
 OPEN, CLOSE, LOST = map(int, (Kind.OPEN, Kind.CLOSE, Kind.LOST))
-AVI, CONTROL = 0x82, 3  # types of packets that a meter reads
 LOW = (1 << 32) - 1  # of a number of 64 bits that holds two of 32
 RECORD = 48  # bytes of a record
 KIND_AT, VALUE_AT, SECOND_AT = 36, 40, 44  # where the lowest bytes of these numbers stand in it
@@ -147,7 +147,7 @@ class Recorded:
             before = last[places] if places[0] >= 0 else np.append(last, level)[places]
             meter.lines(self.column[lines], (self.sizes[lines] & LOW) // PIXEL, before)
         packets, types = self.packets
-        told = packets[(types == AVI) | (types == CONTROL)] if len(packets) else packets
+        told = packets[(types == Type.AVI) | (types == Type.CONTROL)] if len(packets) else packets
         for column, octets in zip(self.named[told].tolist(), self.octets(told)):
             meter.tell(column, packet_of(octets.tobytes()))
 

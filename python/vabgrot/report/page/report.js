@@ -1,18 +1,52 @@
 "use strict";
 
-const by = (id) => document.getElementById(id);
+/** @typedef {"picture" | "marks" | "loupe" | "time"} Canvas
+ *  @typedef {"show-fields" | "show-marks" | "files" | "dvi"} Input
+ *  @typedef {"frame-back" | "frame-on" | "pixel-back" | "pixel-on" | "listing-save"} Button */
+/** The element with an id.
+ *  @template {string} Id @typedef {Id extends Canvas ? HTMLCanvasElement : Id extends Input ? HTMLInputElement : Id extends Button ?
+ *  HTMLButtonElement : Id extends "audio" ? HTMLAudioElement : Id extends "sound-choice" ? HTMLSelectElement : Id extends "wave" ?
+ *  SVGSVGElement : Id extends "progress" ? HTMLProgressElement : Id extends "report-sections" ? HTMLTemplateElement : HTMLElement}
+ *  ElementBy */
+/** @typedef {{kind: string[], lane: number[], at: number[], epoch: number[], column: number[], line: number[], more: number[][], frame:
+ *  number[], x: number[], y: number[], rgb: string[], characters?: string[]}} Faults a list a column: the kind, the lane (-1 of none), the
+ *  column of the capture, the alignment and the column counted in it, the line of the listing, its numbers, and where it is in a frame */
+/** @typedef {{kind: number[], at: number[], columns: number[], line: number[], value: number[]}} Periods */
+/** @typedef {{names: string[], at: number[], words: number[], faults: string[][], verdicts: string[][], symbols: number[], line: number[]}}
+ *  Packets */
+/** @typedef {{picture: number, width: number, height: number, whole: boolean, number: number, faults: Record<string, number>, says: string,
+ *  line: number, lines: number[], from: number, to: number, kind: string}} Shot a frame or a field */
+/** @typedef {{at: number, columns: number, faults: number[]}} Burst faults that are near one another */
+/** @typedef {{kind: string, lanes: Record<number, number>, from: number, to: number}} Rest faults of a kind that are counted and not listed */
+/** @typedef {{fault: number[], at: number[]}} Ordered faults in the order of their columns, and these */
+/** @typedef {{frames: number[], isField: boolean}} Shown what is shown as one picture */
+/** @typedef {{name: string, columns: number, epochs: number[], places: number[], hidden: number[], alignments: number[], doubts: number[][],
+ *  periods: Periods, faults: Faults, bursts: Burst[], rest?: Rest[], kinds: Record<string, [string, string]>, limits: string[], frames:
+ *  Shot[], shown: Shown[], thumbs: string[], packets: Packets, packetNames: Record<number, string>, words: string[], blocks: string[],
+ *  lines: string[], sound: {choices: {name: string, gains: number[][]}[], order: number[]} | null}} Data what a page shows of a capture, as
+ *  vabgrot.tools.report writes it */
+
+/** @type {<Id extends string>(id: Id) => ElementBy<Id>} */
+const by = (id) => /** @type {any} */ (document.getElementById(id));
+/** @param {string} text in base 64 @returns {Uint8Array} */
 const bytesOf = (text) => Uint8Array.from(atob(text), (one) => one.charCodeAt(0));
-const count = (number) => number.toLocaleString("en-US");
+/** @param {number} value @param {number} least @param {number} most @returns {number} */
 const clamp = (value, least, most) => Math.min(Math.max(value, least), most);
+/** @param {string} name @returns {string} a colour of the style */
 const colour = (name) => getComputedStyle(document.documentElement).getPropertyValue(`--${name}`).trim();
 const LANES = ["lane 0 (blue)", "lane 1 (green)", "lane 2 (red)"];
 const PERIODS = ["control", "video", "island", "island", "island", "unknown", "unaligned"];
+/** @type {Data} */
 let data;
+/** @type {(() => unknown)[]} */
 const growing = []; // what shows each section anew when data has grown
 let shown = new AbortController(); // ends what listens to the whole page for the data that is shown
 
+/** An element with these properties or attributes.
+ *  @template {keyof HTMLElementTagNameMap} Name @param {Name} name @param {Record<string, any>} words @param {(Node | string)[]} children
+ *  @returns {HTMLElementTagNameMap[Name]} */
 function made(name, words = {}, ...children) {
-  const element = document.createElement(name);
+  const element = /** @type {any} */ (document.createElement(name));
   for (const [key, value] of Object.entries(words)) {
     if (key in element && key !== "list") element[key] = value;
     else element.setAttribute(key, value);
@@ -21,11 +55,56 @@ function made(name, words = {}, ...children) {
   return element;
 }
 
+/** @param {HTMLCanvasElement} canvas @returns {CanvasRenderingContext2D} */
+function penOf(canvas) {
+  return /** @type {CanvasRenderingContext2D} */ (canvas.getContext("2d", { willReadFrequently: canvas.id === "picture" }));
+}
+
+/** @param {number} number a whole number @returns {string} with a comma between thousands; Intl takes five times as long, and texts of
+ *  all faults are looked through */
+function count(number) {
+  let [left, text] = [number, ""];
+  for (; left >= 1000; left = Math.floor(left / 1000)) text = `,${String(left % 1000).padStart(3, "0")}${text}`;
+  return `${left}${text}`;
+}
+
+const SLICE = 60; // milliseconds of work after which a page lets others run
+
+/** Lets what waits for the page run first, such as a key that was pressed.
+ *  @returns {Promise<void>} */
+function breath() {
+  return new Promise((then) => { setTimeout(then); });
+}
+
+/** Works through numbers from 0 on, and pauses each time it has worked for long.
+ *  @param {number} stop @param {(number: number) => void} work @param {() => boolean} isWanted whether to go on after a pause @returns
+ *  {Promise<boolean>} whether it came to the end */
+async function inSlices(stop, work, isWanted) {
+  let began = performance.now();
+  for (let number = 0; number < stop; number++) {
+    work(number);
+    if (number % 256 || performance.now() - began < SLICE) continue;
+    await breath();
+    if (!isWanted()) return false;
+    began = performance.now();
+  }
+  return true;
+}
+
+/** @param {BlobPart} part @param {string} type @param {string} name of the file into which the browser saves it */
+function save(part, type, name) {
+  const url = URL.createObjectURL(new Blob([part], { type }));
+  made("a", { href: url, download: name }).click();
+  setTimeout(() => URL.revokeObjectURL(url), 60_000);
+}
+
+/** @param {number} line @returns {HTMLElement} */
 function lineLink(line) {
   return made("a", { href: `#L${line}` }, `line ${line}`);
 }
 
-/* The greatest place in a sorted list whose value is at most the one that is looked for; -1 where there is none. */
+/** The greatest place in a sorted list whose value is at most the one that is looked for; -1 where there is none.
+ *  @param {number[]} list @param {number} value @returns {number} */
 function placeOf(list, value) {
   let low = 0;
   let high = list.length;
@@ -37,17 +116,20 @@ function placeOf(list, value) {
   return low - 1;
 }
 
+/** @param {number} at @returns {number} */
 function epochOf(at) {
   return Math.max(0, placeOf(data.epochs, at));
 }
 
-/* Whether columns before this one could not be counted. */
+/** Whether columns before this one could not be counted.
+ *  @param {number} at @returns {boolean} */
 function isAbout(at) {
   const place = placeOf(data.doubts[0], at);
   return place >= 0 && at < data.doubts[1][place];
 }
 
-/* A column in words; that of a fault is exact, since its line names it. */
+/** A column in words; that of a fault is exact, since its line names it.
+ *  @param {number} at @returns {string} */
 function columnText(at, isExact = false) {
   const epoch = epochOf(at);
   const late = at - data.epochs[epoch];
@@ -59,25 +141,37 @@ function columnText(at, isExact = false) {
 /* ---- the pictures ---- */
 
 /* A picture is a frame, or two fields of one, woven: `fields` are their numbers among data.frames, of two the upper first. */
-const unseen = () => ({ picture: -1, x: 0, y: 0, isDrawn: false, isChosen: false, pictures: [], pictureOf: [], sides: [], marks: [], places: [], changed: [], loaded: new Map() });
+/** @typedef {{fields: number[], name: string, label: string, width: number, height: number, whole: boolean, isExact: boolean}} Picture */
+const unseen = () => ({
+  picture: -1, x: 0, y: 0, isDrawn: false, isChosen: false, pictures: /** @type {Picture[]} */ ([]),
+  pictureOf: /** @type {number[]} */ ([]), // of each frame
+  sides: /** @type {string[]} */ ([]), // of each field, upper or lower
+  marks: /** @type {number[][]} */ ([]), // the damaged rows of each picture, by the numbers of their faults
+  places: /** @type {number[]} */ ([]), // those of which the pixel is known, in order
+  changed: /** @type {(() => void)[]} */ ([]), // what shows names of frames anew
+  loaded: /** @type {Map<number, Promise<ImageBitmap>>} */ (new Map()),
+});
 const viewer = unseen();
 
-/* What gives a picture by its number: as a file, or as its pixels. */
+/** What gives a picture by its number: as a file, or as its pixels.
+ *  @type {(number: number) => ImageBitmapSource} */
 let pictureOf = () => new ImageData(1, 1);
 
+/** @param {number} number of a picture @returns {Promise<ImageBitmap>} */
 async function bitmap(number) {
   if (!viewer.loaded.has(number)) {
     viewer.loaded.set(number, createImageBitmap(await pictureOf(number)));
-    if (viewer.loaded.size > 6) viewer.loaded.delete(viewer.loaded.keys().next().value);
+    if (viewer.loaded.size > 6) viewer.loaded.delete([...viewer.loaded.keys()][0]);
   }
-  return viewer.loaded.get(number);
+  return /** @type {Promise<ImageBitmap>} */ (viewer.loaded.get(number));
 }
 
 function isInterlaced() {
   return data.shown.some((one) => one.frames.length > 1);
 }
 
-/* What is shown as one picture: as the frames were woven, or each frame and field by itself. */
+/** What is shown as one picture: as the frames were woven, or each frame and field by itself.
+ *  @param {boolean} isWoven */
 function startShown(isWoven) {
   let whole = 0;
   for (const { frames } of data.shown) if (frames.length > 1) [viewer.sides[frames[0]], viewer.sides[frames[1]]] = ["upper", "lower"];
@@ -85,7 +179,7 @@ function startShown(isWoven) {
   viewer.pictures = shown.map(({ frames, isField }) => {
     const first = data.frames[frames[0]];
     const number = isWoven ? whole : first.number;
-    whole += first.whole;
+    whole += Number(first.whole);
     const name = !isField ? `Frame ${number}` : isWoven ? `Frame ${number}, one field` : `Field ${number}`;
     return {
       fields: frames, name: first.whole ? name : "Part of a frame", label: first.whole ? String(number) : "part",
@@ -99,8 +193,10 @@ function startShown(isWoven) {
     const field = data.faults.frame[mark];
     if (kind === "code" && field >= 0) viewer.marks[viewer.pictureOf[field]].push(mark);
   });
-  const order = (one, other) => rowOf(one) - rowOf(other) || data.faults.x[one] - data.faults.x[other];
-  viewer.places = viewer.marks.flatMap((marks) => marks.filter((mark) => data.faults.x[mark] >= 0).sort(order));
+  viewer.places = viewer.marks.flatMap((marks) => {
+    const seen = marks.filter((mark) => data.faults.x[mark] >= 0).map((mark) => ({ mark, row: rowOf(mark), x: data.faults.x[mark] }));
+    return seen.sort((one, other) => one.row - other.row || one.x - other.x).map(({ mark }) => mark);
+  });
 }
 
 /* Whether fields are shown woven, as long as nobody asks for them apart. */
@@ -108,27 +204,32 @@ function areWoven() {
   return !by("show-fields")?.checked;
 }
 
-/* The row of a mark in the picture that it is in: a field's rows are every second one of a woven frame. */
+/** The row of a mark in the picture that it is in: a field's rows are every second one of a woven frame.
+ *  @param {number} mark @returns {number} */
 function rowOf(mark) {
   const { fields } = viewer.pictures[viewer.pictureOf[data.faults.frame[mark]]];
   return data.faults.y[mark] * fields.length + fields.indexOf(data.faults.frame[mark]);
 }
 
-/* Which field of its frame one of data.frames is; "" where that is not known, or it is none. */
+/** Which field of its frame one of data.frames is; "" where that is not known, or it is none.
+ *  @param {number} frame @returns {string} */
 function sideOf(frame) {
   return viewer.sides[frame] || "";
 }
 
+/** @param {number} frame @returns {string} */
 function frameName(frame) {
   const side = sideOf(frame);
   return `${viewer.pictures[viewer.pictureOf[frame]].name}${side && `, ${side} field`}`;
 }
 
+/** @param {number} frame @returns {string} */
 function frameLabel(frame) {
   const { label } = viewer.pictures[viewer.pictureOf[frame]];
   return sideOf(frame) ? `${label} ${sideOf(frame)}` : label;
 }
 
+/** @param {Picture} picture @returns {string} */
 function pictureFaults(picture) {
   const counts = new Map();
   for (const field of picture.fields) {
@@ -137,12 +238,13 @@ function pictureFaults(picture) {
   return [...counts].map(([kind, times]) => `${count(times)} ${kind}`).join(", ");
 }
 
-/* Draws a picture of such files: of two fields the rows of the upper one are rows 0, 2, 4 and so on. */
+/** Draws a picture of such files: of two fields the rows of the upper one are rows 0, 2, 4 and so on.
+ *  @param {Picture} picture @param {ImageBitmap[]} images */
 function drawPicture(picture, images) {
   const canvas = by("picture");
   canvas.width = picture.width;
   canvas.height = picture.height;
-  const pen = canvas.getContext("2d", { willReadFrequently: true });
+  const pen = penOf(canvas);
   pen.imageSmoothingEnabled = false;
   const high = picture.height / images.length;
   if (images.length === 1) {
@@ -159,6 +261,7 @@ function drawPicture(picture, images) {
   pen.putImageData(woven, 0, 0);
 }
 
+/** @param {Picture} picture */
 function sayPicture(picture) {
   const faults = pictureFaults(picture);
   by("picture").setAttribute("aria-label", `${picture.name}, ${picture.width} by ${picture.height} pixels, ${faults || "no faults"}`);
@@ -172,6 +275,7 @@ function sayPicture(picture) {
   }
 }
 
+/** @param {number} number @param {number} [x] the pixel that is enlarged @param {number} [y] */
 async function showPicture(number, x, y) {
   if (number < 0 || number >= viewer.pictures.length) return;
   const picture = viewer.pictures[number];
@@ -191,11 +295,13 @@ async function showPicture(number, x, y) {
   }
   drawMarks();
   const mark = viewer.marks[number].find((one) => data.faults.x[one] >= 0);
-  const place = x !== undefined ? [x, y] : mark !== undefined ? [data.faults.x[mark], rowOf(mark)] : [picture.width >> 1, picture.height >> 1];
-  enlarge(...place);
+  if (x !== undefined && y !== undefined) enlarge(x, y);
+  else if (mark !== undefined) enlarge(data.faults.x[mark], rowOf(mark));
+  else enlarge(picture.width >> 1, picture.height >> 1);
 }
 
-/* Shows the picture of a mark, enlarged about it. */
+/** Shows the picture of a mark, enlarged about it.
+ *  @param {number} mark */
 function showMark(mark) {
   viewer.isChosen = true;
   const number = viewer.pictureOf[data.faults.frame[mark]];
@@ -210,17 +316,18 @@ function drawMarks() {
   const dense = window.devicePixelRatio || 1;
   canvas.width = Math.round(box.width * dense);
   canvas.height = Math.round(box.height * dense);
-  const pen = canvas.getContext("2d");
+  const pen = penOf(canvas);
   const scale = canvas.width / picture.width;
   if (!by("show-marks").checked) return;
   const marks = viewer.marks[viewer.picture];
   const half = Math.max(4 * dense, scale * 0.5 + 2 * dense);
-  const strokes = marks.length > 100 ? [["#ff9500", dense]] : [["#000", 3 * dense], ["#ff9500", 1.5 * dense]];
+  const dark = marks.length > 100 ? [] : [{ style: "#000", width: 3 * dense }];
+  const strokes = [...dark, { style: "#ff9500", width: marks.length > 100 ? dense : 1.5 * dense }];
   for (const mark of marks) {
     const [x, y] = [data.faults.x[mark], rowOf(mark)];
     const boxes = x >= 0 ? [[x, half]] : [[0, half], [picture.width - 1, half]];
     for (const [at] of boxes) {
-      for (const [style, width] of strokes) {
+      for (const { style, width } of strokes) {
         pen.strokeStyle = style;
         pen.lineWidth = width;
         pen.strokeRect((at + 0.5) * scale - half, (y + 0.5) * scale - half, 2 * half, 2 * half);
@@ -229,19 +336,21 @@ function drawMarks() {
   }
 }
 
+/** @param {number} x @param {number} y */
 function enlarge(x, y) {
   const picture = viewer.pictures[viewer.picture];
   viewer.x = clamp(Math.floor(x), 0, picture.width - 1);
   viewer.y = clamp(Math.floor(y), 0, picture.height - 1);
   const loupe = by("loupe");
-  const pen = loupe.getContext("2d");
+  const pen = penOf(loupe);
   const [size, half] = [12, 10];
   pen.imageSmoothingEnabled = false;
   pen.fillStyle = "#000";
   pen.fillRect(0, 0, loupe.width, loupe.height);
   const [left, top] = [viewer.x - half, viewer.y - half];
   pen.drawImage(by("picture"), left, top, 21, 21, 0, 0, loupe.width, loupe.height);
-  let here = [];
+  /** @type {number[]} */
+  const here = [];
   for (const mark of viewer.marks[viewer.picture]) {
     const [at, row] = [data.faults.x[mark], rowOf(mark)];
     if (row === viewer.y && (at === viewer.x || at < 0)) here.push(mark);
@@ -260,9 +369,10 @@ function enlarge(x, y) {
   sayPixel(picture, here);
 }
 
+/** @param {Picture} picture @param {number[]} here the marks at the pixel */
 function sayPixel(picture, here) {
   const exact = here.find((mark) => data.faults.rgb[mark]);
-  const read = by("picture").getContext("2d").getImageData(viewer.x, viewer.y, 1, 1).data;
+  const read = penOf(by("picture")).getImageData(viewer.x, viewer.y, 1, 1).data;
   const digits = exact !== undefined ? data.faults.rgb[exact] : [...read.slice(0, 3)].map((one) => one.toString(16).padStart(2, "0")).join("");
   const about = exact === undefined && !picture.isExact ? "about " : "";
   const swatch = made("span", { className: "swatch" });
@@ -279,8 +389,9 @@ function sayPixel(picture, here) {
   }
 }
 
+/** @param {number} step */
 async function stepFault(step) {
-  const isPast = (mark) => {
+  const isPast = (/** @type {number} */ mark) => {
     const [picture, y, x] = [viewer.pictureOf[data.faults.frame[mark]], rowOf(mark), data.faults.x[mark]];
     return picture - viewer.picture || y - viewer.y || x - viewer.x;
   };
@@ -290,13 +401,14 @@ async function stepFault(step) {
   if (mark !== undefined) await showMark(mark);
 }
 
-/* A small picture with its name and its faults: of two fields the upper one's, as high as both. */
+/** A small picture with its name and its faults: of two fields the upper one's, as high as both.
+ *  @param {Picture} picture @param {number} number @param {string} faults @returns {HTMLElement} */
 function smallPicture(picture, number, faults) {
   const image = made("img", { src: data.thumbs[data.frames[picture.fields[0]].picture], alt: "", loading: "lazy" });
   if (picture.fields.length > 1) image.style.cssText = `object-fit: fill; width: min(100%, ${(5 * picture.width) / picture.height}rem); margin-inline: auto`;
   const says = made("span", {}, picture.name, made("br"), faults ? made("em", {}, faults) : "no faults");
   const button = made("button", { type: "button", onclick: () => showPicture(number) }, image, says);
-  button.dataset.frame = number;
+  button.dataset.frame = String(number);
   button.classList.toggle("small", picture.width < 192);
   return made("li", {}, button);
 }
@@ -307,14 +419,14 @@ function drawStrip() {
   viewer.pictures.forEach((picture, number) => {
     const faults = pictureFaults(picture);
     const key = JSON.stringify([picture, faults]);
-    const old = strip.children[number];
+    const old = /** @type {HTMLElement | undefined} */ (strip.children[number]);
     if (old?.dataset.key === key) return;
     const item = smallPicture(picture, number, faults);
     item.dataset.key = key;
     if (old) old.replaceWith(item);
     else strip.append(item);
   });
-  while (strip.children.length > viewer.pictures.length) strip.lastChild.remove();
+  while (strip.children.length > viewer.pictures.length) strip.lastElementChild?.remove();
 }
 
 /* The picture that is shown first: the first damaged one, or the first whole one. */
@@ -348,19 +460,22 @@ async function switchFields() {
   await showPicture(viewer.pictureOf[field]);
 }
 
+/** @type {Record<string, [number, number]>} */
+const STEPS = { ArrowLeft: [-1, 0], ArrowRight: [1, 0], ArrowUp: [0, -1], ArrowDown: [0, 1] };
+
 function startPictures() {
   const canvas = by("picture");
   if (!canvas) return undefined;
   by("show-fields").onchange = switchFields;
   for (const event of ["pointerdown", "keydown"]) by("pictures").addEventListener(event, () => { viewer.isChosen = true; });
-  const point = (event) => {
+  const point = (/** @type {PointerEvent} */ event) => {
     const box = canvas.getBoundingClientRect();
     enlarge(((event.clientX - box.left) / box.width) * canvas.width, ((event.clientY - box.top) / box.height) * canvas.height);
   };
   canvas.addEventListener("pointermove", point);
   canvas.addEventListener("pointerdown", point);
   canvas.addEventListener("keydown", (event) => {
-    const step = { ArrowLeft: [-1, 0], ArrowRight: [1, 0], ArrowUp: [0, -1], ArrowDown: [0, 1] }[event.key];
+    const step = STEPS[event.key];
     if (event.key === "n" || event.key === "p") stepFault(event.key === "n" ? 1 : -1);
     else if (step) enlarge(viewer.x + step[0] * (event.shiftKey ? 10 : 1), viewer.y + step[1] * (event.shiftKey ? 10 : 1));
     else return;
@@ -378,31 +493,49 @@ function startPictures() {
 
 /* ---- the timeline ---- */
 
-const unmoved = () => ({ first: 0, last: 0, all: 0, cursor: 0, drag: null });
+const SHARES = ["control", "video", "island", "unknown"];
+const unmoved = () => ({
+  first: 0, last: 0, all: 0, cursor: 0, drag: /** @type {{x: number, first: number, moved: boolean} | null} */ (null),
+  sums: SHARES.map(() => [0]), // of each kind of period the columns before each period, so that a stretch's shares are two look-ups
+  order: /** @type {Ordered} */ ({ fault: [], at: [] }),
+});
 const time = unmoved();
 const ROWS = ["frames", "periods", "lane 0", "lane 1", "lane 2", "packets", "structure", "slips"];
 const [ROW, HEAD, LABEL] = [28, 22, 76];
 
-function faultRow(fault) {
-  const lane = data.faults.lane[fault];
-  const row = data.kinds[data.faults.kind[fault]][0];
-  return { lane: 2 + lane, packet: 5, structure: 6, slip: 7 }[row];
+const ROW_OF = { lane: 2, packet: 5, structure: 6, slip: 7 };
+
+/** @param {string} kind of a fault @param {number} lane @returns {number} its row */
+function faultRow(kind, lane) {
+  const row = /** @type {keyof typeof ROW_OF} */ (data.kinds[kind][0]);
+  return ROW_OF[row] + (row === "lane" ? lane : 0);
 }
 
-/* Of each kind of period the columns before each period, so that a stretch's shares are two look-ups. */
+/** Adds the periods that have come. */
 function sumPeriods() {
-  const kinds = ["control", "video", "island", "unknown"];
-  time.sums = kinds.map(() => new Float64Array(data.periods.kind.length + 1));
-  data.periods.kind.forEach((kind, number) => {
-    const place = kinds.indexOf(PERIODS[kind]);
-    time.sums.forEach((sum, other) => { sum[number + 1] = sum[number] + (other === place ? data.periods.columns[number] : 0); });
-  });
+  const { kind, columns } = data.periods;
+  for (let number = time.sums[0].length - 1; number < kind.length; number++) {
+    const place = SHARES.indexOf(PERIODS[kind[number]]);
+    time.sums.forEach((sum, other) => { sum.push(sum[number] + (other === place ? columns[number] : 0)); });
+  }
 }
 
-function upTo(at) {
+/** Puts the faults that have come where their columns are: most behind all others.
+ *  @param {Ordered} ordered @param {Faults} faults */
+function orderFaults({ fault: order, at: columns }, faults) {
+  for (let fault = order.length; fault < faults.at.length; fault++) {
+    const at = faults.at[fault];
+    let place = order.length;
+    for (; place > 0 && columns[place - 1] > at; place--) [order[place], columns[place]] = [order[place - 1], columns[place - 1]];
+    [order[place], columns[place]] = [fault, at];
+  }
+}
+
+/** @param {number} at @returns {number[]} the columns of each kind of period before this one */
+function sharesBefore(at) {
   const number = placeOf(data.periods.at, at);
   if (number < 0) return time.sums.map(() => 0);
-  const kind = ["control", "video", "island", "unknown"].indexOf(PERIODS[data.periods.kind[number]]);
+  const kind = SHARES.indexOf(PERIODS[data.periods.kind[number]]);
   const inside = Math.min(at - data.periods.at[number], data.periods.columns[number]);
   return time.sums.map((sum, other) => sum[number] + (other === kind ? inside : 0));
 }
@@ -413,12 +546,12 @@ function drawTime() {
   const [width, height] = [canvas.clientWidth, HEAD + ROW * ROWS.length + 6];
   canvas.width = width * dense;
   canvas.height = height * dense;
-  const pen = canvas.getContext("2d");
+  const pen = penOf(canvas);
   pen.scale(dense, dense);
   pen.fillStyle = colour("card");
   pen.fillRect(0, 0, width, height);
   const scale = (width - LABEL) / (time.last - time.first);
-  const across = (at) => LABEL + (at - time.first) * scale;
+  const across = (/** @type {number} */ at) => LABEL + (at - time.first) * scale;
   drawScale(pen, across, width, height);
   drawFrames(pen, across, width);
   drawPeriods(pen, scale, width);
@@ -435,10 +568,11 @@ function drawTime() {
   sayTime();
 }
 
+/** @param {CanvasRenderingContext2D} pen @param {(at: number) => number} across @param {number} width @param {number} height */
 function drawScale(pen, across, width, height) {
   const wanted = ((time.last - time.first) * 110) / (width - LABEL);
   const power = 10 ** Math.floor(Math.log10(Math.max(1, wanted)));
-  const step = Math.max(1, [1, 2, 5, 10].find((one) => one * power >= wanted) * power);
+  const step = Math.max(1, ([1, 2, 5].find((one) => one * power >= wanted) ?? 10) * power);
   pen.font = "12px system-ui, sans-serif";
   pen.textAlign = "left";
   for (let at = Math.ceil(time.first / step) * step; at < time.last; at += step) {
@@ -449,6 +583,7 @@ function drawScale(pen, across, width, height) {
   }
 }
 
+/** @param {CanvasRenderingContext2D} pen @param {(at: number) => number} across @param {number} width */
 function drawFrames(pen, across, width) {
   data.frames.forEach((frame, number) => {
     const [left, right] = [Math.max(LABEL, across(frame.from)), Math.min(width, across(frame.to))];
@@ -463,12 +598,13 @@ function drawFrames(pen, across, width) {
   });
 }
 
+/** @param {CanvasRenderingContext2D} pen @param {number} scale @param {number} width */
 function drawPeriods(pen, scale, width) {
-  const names = ["control", "video", "island", "unknown"].map(colour);
+  const names = SHARES.map(colour);
   const step = 1 / (window.devicePixelRatio || 1);
-  let before = upTo(time.first);
+  let before = sharesBefore(time.first);
   for (let x = LABEL; x < width; x += step) {
-    const after = upTo(time.first + (x + step - LABEL) / scale);
+    const after = sharesBefore(time.first + (x + step - LABEL) / scale);
     const shares = after.map((value, kind) => value - before[kind]);
     const total = shares.reduce((sum, one) => sum + one, 0);
     let top = HEAD + ROW + 3;
@@ -482,14 +618,18 @@ function drawPeriods(pen, scale, width) {
   }
 }
 
+/** @param {CanvasRenderingContext2D} pen @param {(at: number) => number} across @param {number} width @param {number} height */
 function drawFaults(pen, across, width, height) {
   const [fault, slip] = [colour("fault"), colour("slip")];
-  const drawn = ROWS.map(() => -9);
-  const first = Math.max(0, placeOf(data.faultOrder.at, time.first - 1) + 1);
-  for (let place = first; place < data.faultOrder.at.length; place++) {
-    const at = data.faultOrder.at[place];
+  const drawn = ROWS.map(() => -9); // where the last fault of each row was drawn
+  const { order } = time;
+  for (const { kind, lanes, from, to } of data.rest ?? []) {
+    for (const lane of Object.keys(lanes)) drawRest(pen, faultRow(kind, Number(lane)), across(from), across(to + 1), width);
+  }
+  for (let place = placeOf(order.at, time.first - 1) + 1; place < order.at.length; place++) {
+    const [at, number] = [order.at[place], order.fault[place]];
     if (at > time.last) break;
-    const row = faultRow(data.faultOrder.fault[place]);
+    const row = faultRow(data.faults.kind[number], data.faults.lane[number]);
     const x = across(at);
     const wide = Math.max(2, across(at + 1) - x);
     if (x - drawn[row] < 0.7) continue;
@@ -500,7 +640,19 @@ function drawFaults(pen, across, width, height) {
   }
 }
 
-/* Bits of which nothing is shown are hatched. */
+/** Faults that are counted and not listed, as a bar where the first and the last one are.
+ *  @param {CanvasRenderingContext2D} pen @param {number} row @param {number} from @param {number} to @param {number} width */
+function drawRest(pen, row, from, to, width) {
+  const [left, right] = [Math.max(LABEL, from), Math.min(width, to)];
+  if (right < left) return;
+  pen.fillStyle = colour("fault");
+  pen.globalAlpha = 0.35;
+  pen.fillRect(left, HEAD + ROW * row + 4, Math.max(2, right - left), ROW - 8);
+  pen.globalAlpha = 1;
+}
+
+/** Bits of which nothing is shown are hatched.
+ *  @param {CanvasRenderingContext2D} pen @param {(at: number) => number} across @param {number} width @param {number} height */
 function drawUnaligned(pen, across, width, height) {
   data.hidden.forEach((hidden, epoch) => {
     const [left, right] = [Math.max(LABEL, across(data.epochs[epoch])), Math.min(width, across(data.epochs[epoch] + Math.ceil(hidden / 10)))];
@@ -527,9 +679,10 @@ function drawUnaligned(pen, across, width, height) {
   });
 }
 
+/** @param {number} at @returns {[string, number]} what stands there, and its line */
 function periodText(at) {
   const number = placeOf(data.periods.at, at);
-  if (number < 0) return "";
+  if (number < 0) return ["", 0];
   const [kind, value] = [data.periods.kind[number], data.periods.value[number]];
   const columns = count(data.periods.columns[number]);
   const text = [
@@ -545,38 +698,42 @@ function periodText(at) {
 }
 
 function sayTime() {
-  const [text, line] = periodText(time.cursor) || ["", 0];
+  const [text, line] = periodText(time.cursor);
   const frame = data.frames.findIndex((one) => one.from <= time.cursor && time.cursor < one.to);
-  const place = placeOf(data.faultOrder.at, time.cursor);
+  const { order } = time;
   const at = [];
-  for (let one = place; one >= 0 && data.faultOrder.at[one] === time.cursor; one--) at.push(data.faultOrder.fault[one]);
+  for (let one = placeOf(order.at, time.cursor); one >= 0 && order.at[one] === time.cursor; one--) at.push(order.fault[one]);
   const parts = [columnText(time.cursor, at.length > 0), text, frame >= 0 ? frameName(frame).toLowerCase() : ""].filter(Boolean);
   const faults = at.reverse().map((fault) => faultText(fault));
-  by("time").setAttribute("aria-valuenow", time.cursor);
+  by("time").setAttribute("aria-valuenow", String(time.cursor));
   by("time").setAttribute("aria-valuetext", [...parts, ...faults].join(", "));
   by("time-says").replaceChildren(`${parts.join(", ")} `);
   if (line) by("time-says").append(lineLink(line));
   for (const fault of at) by("time-says").append(" ", made("span", { className: "bad" }, faultText(fault)), " ", lineLink(data.faults.line[fault]));
 }
 
-/* Zooms about the cursor where it is in view, else about the middle. */
+/** Zooms about the cursor where it is in view, else about the middle.
+ *  @param {number} factor */
 function zoomHere(factor) {
   const isSeen = time.first <= time.cursor && time.cursor <= time.last;
   zoom(factor, isSeen ? time.cursor : undefined);
 }
 
+/** @param {number} factor */
 function zoom(factor, around = (time.first + time.last) / 2) {
   const wide = clamp((time.last - time.first) * factor, Math.min(20, data.columns), data.columns);
   const share = (around - time.first) / (time.last - time.first);
   look(around - share * wide, wide);
 }
 
+/** @param {number} first @param {number} wide */
 function look(first, wide) {
   time.first = clamp(first, 0, data.columns - wide);
   time.last = time.first + wide;
   drawTime();
 }
 
+/** @param {number} column */
 function pointTo(column, isMoving = true) {
   time.cursor = clamp(Math.round(column), 0, data.columns - 1);
   const wide = time.last - time.first;
@@ -584,8 +741,9 @@ function pointTo(column, isMoving = true) {
   else drawTime();
 }
 
+/** @param {number} step */
 function stepTimeFault(step) {
-  const order = data.faultOrder;
+  const { order } = time;
   if (!order.at.length) return;
   let place = step > 0 ? placeOf(order.at, time.cursor) + 1 : placeOf(order.at, time.cursor - 1);
   place = place < 0 ? order.at.length - 1 : place % order.at.length;
@@ -594,18 +752,17 @@ function stepTimeFault(step) {
 
 /* Columns have come: where all were in view all are. */
 function growTime() {
-  const order = data.faults.at.map((_, fault) => fault).sort((a, b) => data.faults.at[a] - data.faults.at[b] || a - b);
-  data.faultOrder = { fault: order, at: order.map((fault) => data.faults.at[fault]) };
+  orderFaults(time.order, data.faults);
   sumPeriods();
   if (time.first === 0 && time.last === time.all) time.last = data.columns;
   time.all = data.columns;
-  by("time").setAttribute("aria-valuemax", data.columns - 1);
+  by("time").setAttribute("aria-valuemax", String(data.columns - 1));
   drawTime();
 }
 
 function startTime() {
   const canvas = by("time");
-  const columnAt = (event) => {
+  const columnAt = (/** @type {MouseEvent} */ event) => {
     const box = canvas.getBoundingClientRect();
     return time.first + ((event.clientX - box.left - LABEL) / (box.width - LABEL)) * (time.last - time.first);
   };
@@ -631,6 +788,7 @@ function startTime() {
   });
   canvas.addEventListener("keydown", (event) => {
     const step = Math.max(1, Math.round((time.last - time.first) / 100));
+    /** @type {Record<string, () => void>} */
     const keys = {
       ArrowLeft: () => pointTo(time.cursor - (event.shiftKey ? 1 : step)), ArrowRight: () => pointTo(time.cursor + (event.shiftKey ? 1 : step)),
       ArrowDown: () => pointTo(time.cursor - (event.shiftKey ? 1 : step)), ArrowUp: () => pointTo(time.cursor + (event.shiftKey ? 1 : step)),
@@ -658,6 +816,7 @@ function startTime() {
 const LINES = 100;
 
 function startListing() {
+  /** @type {Paged<number>} */
   const paged = new Paged(by("lines"), "the listing", LINES, (shown) => {
     const list = made("ol", { className: "lines" });
     for (const number of shown) {
@@ -668,19 +827,19 @@ function startListing() {
     }
     return list;
   });
-  const show = (number, isFocused) => {
+  const show = (/** @type {number} */ number, /** @type {boolean} */ isFocused) => {
     paged.go(Math.floor((number - 1) / LINES));
     const item = by(`L${number}`);
     for (const other of document.querySelectorAll(".is-here")) other.classList.remove("is-here");
     item.classList.add("is-here");
-    item.scrollIntoView({ block: "center", behavior: "instant" });
-    if (isFocused) item.querySelector("a").focus({ preventScroll: true });
+    item.scrollIntoView({ block: "center", behavior: /** @type {ScrollBehavior} */ ("instant") });
+    if (isFocused) item.querySelector("a")?.focus({ preventScroll: true });
   };
-  const search = { text: "", found: [], place: -1 };
+  const search = { text: "", found: /** @type {number[]} */ ([]), place: -1 };
   const text = made("input", { type: "search" });
   const says = made("span");
   says.setAttribute("aria-live", "polite");
-  const find = (step) => {
+  const find = (/** @type {number} */ step) => {
     if (text.value !== search.text) {
       const first = paged.page * LINES;
       const found = data.lines.flatMap((line, number) => (text.value && line.includes(text.value) ? [number + 1] : []));
@@ -692,16 +851,16 @@ function startListing() {
     says.textContent = all ? `${count(search.place + 1)} of ${count(all)}` : text.value ? "in no line" : "";
     if (all) show(search.found[search.place], false);
   };
-  const findForm = made("form", { onsubmit: (event) => { event.preventDefault(); find(1); } },
+  const findForm = made("form", { onsubmit: (/** @type {Event} */ event) => { event.preventDefault(); find(1); } },
     made("label", {}, "text ", text), " ", made("button", {}, "Find →"), " ",
     made("button", { type: "button", onclick: () => find(-1) }, "← Find"), " ", says);
   const input = made("input", { type: "number", min: 1 });
-  const go = (event) => { event.preventDefault(); location.hash = `L${clamp(Number(input.value) || 1, 1, data.lines.length)}`; };
+  const go = (/** @type {Event} */ event) => { event.preventDefault(); location.hash = `L${clamp(Number(input.value) || 1, 1, data.lines.length)}`; };
   paged.bar.prepend(findForm, made("form", { onsubmit: go }, made("label", {}, "line ", input), " ", made("button", {}, "Go")));
   const grow = () => {
-    input.max = data.lines.length;
+    input.max = String(data.lines.length);
     search.text = "";
-    paged.grow(data.lines.map((_, number) => number));
+    paged.grow(upTo(data.lines.length));
   };
   const follow = () => {
     const found = /^#L(\d+)$/.exec(location.hash);
@@ -709,7 +868,7 @@ function startListing() {
   };
   addEventListener("hashchange", follow, { signal: shown.signal });
   document.addEventListener("click", (event) => {
-    const link = event.target.closest?.("a[href^='#L']");
+    const link = event.target instanceof Element && event.target.closest("a[href^='#L']");
     if (link && link.getAttribute("href") === location.hash) { event.preventDefault(); follow(); }
   }, { signal: shown.signal });
   growing.push(grow);
@@ -722,19 +881,27 @@ function startListing() {
 /* Shows data for the first time. */
 async function startReport() {
   startShown(true);
-  startTime();
-  startRules();
-  startFaults();
-  startPackets();
-  startListing();
-  startSound();
-  await startPictures();
+  await oneByOne([startTime, startRules, startFaults, startPackets, startListing, startSound, startPictures]);
 }
 
-/* Shows what has come to data since. */
-function growReport() {
+/** Shows what has come to data since. */
+async function growReport() {
   startShown(areWoven());
-  return Promise.all(growing.map((grow) => grow()));
+  await oneByOne(growing);
+}
+
+/** @param {(() => unknown)[]} steps one after another; what waits for the page may run between two, and may bring other data */
+async function oneByOne(steps) {
+  const { signal } = shown;
+  let began = performance.now();
+  for (const step of [...steps]) {
+    if (performance.now() - began > SLICE) {
+      await breath();
+      began = performance.now();
+    }
+    if (signal.aborted) return;
+    await step();
+  }
 }
 
 /* Forgets the data that was shown; the sections are to be new ones. */

@@ -2,10 +2,14 @@
 
 /* ---- the sound ---- */
 
-/* The numbers of a WAV file's chunk `fmt `, and where its samples are. */
+/** @typedef {{view: DataView, channels: number, rate: number, size: number, first: number, samples: number}} Wav a file, how many channels
+ *  it has, its rate, the bytes of a sample, where the samples begin, and how many each channel has */
+
+/** The numbers of a WAV file's chunk `fmt `, and where its samples are.
+ *  @param {Uint8Array} bytes @returns {Wav} */
 function wavHead(bytes) {
   const view = new DataView(bytes.buffer, bytes.byteOffset, bytes.byteLength);
-  const head = { view };
+  const head = { view, channels: 1, rate: 1, size: 1, first: 0, samples: 0 };
   for (let at = 12; at + 8 <= bytes.length; ) {
     const [name, size] = [String.fromCharCode(...bytes.subarray(at, at + 4)), view.getUint32(at + 4, true)];
     if (name === "fmt ") Object.assign(head, { channels: view.getUint16(at + 10, true), rate: view.getUint32(at + 12, true), size: view.getUint16(at + 22, true) / 8 });
@@ -15,22 +19,43 @@ function wavHead(bytes) {
   return head;
 }
 
-/* A WAV file of two channels, each the sum of the channels of another file times what `gains` has for them. */
-function mixedWav(head, gains) {
-  const { view, channels, rate, size, first, samples } = head;
+/** @param {DataView} view @param {number} at @param {string} text of ASCII */
+function putText(view, at, text) {
+  [...text].forEach((one, place) => view.setUint8(at + place, one.charCodeAt(0)));
+}
+
+/** Puts what stands before the samples of a WAV file: of PCM, and of the extensible format all that it has of the same.
+ *  @param {DataView} view @param {{head: number, count: number, channels: number, rate: number, size: number}} told the bytes before the
+ *  samples, and those of the samples */
+function putWavHead(view, { head, count, channels, rate, size }) {
+  putText(view, 0, "RIFF");
+  view.setUint32(4, head - 8 + count + count % 2, true);
+  putText(view, 8, "WAVEfmt ");
+  view.setUint32(16, 16, true);
+  view.setUint16(20, 1, true);
+  view.setUint16(22, channels, true);
+  view.setUint32(24, rate, true);
+  view.setUint32(28, rate * channels * size, true);
+  view.setUint16(32, channels * size, true);
+  view.setUint16(34, 8 * size, true);
+  putText(view, head - 8, "data");
+  view.setUint32(head - 4, count, true);
+}
+
+/** A WAV file of two channels, each the sum of the channels of another file times what `gains` has for them.
+ *  @param {Wav} wav @param {number[][]} gains @returns {Uint8Array} */
+function mixedWav(wav, gains) {
+  const { view, channels, rate, size, first, samples } = wav;
   const bytes = new Uint8Array(44 + 2 * size * samples);
   const out = new DataView(bytes.buffer);
-  const text = (at, words) => [...words].forEach((one, place) => { bytes[at + place] = one.charCodeAt(0); });
-  text(0, "RIFF"); text(8, "WAVEfmt "); text(36, "data");
-  [[4, 36 + 2 * size * samples], [16, 16], [24, rate], [28, 2 * size * rate], [40, 2 * size * samples]].forEach(([at, value]) => out.setUint32(at, value, true));
-  [[20, 1], [22, 2], [32, 2 * size], [34, 8 * size]].forEach(([at, value]) => out.setUint16(at, value, true));
+  putWavHead(out, { head: 44, count: 2 * size * samples, channels: 2, rate, size });
   const most = 2 ** (8 * size - 1);
-  const terms = gains.map((side) => side.map((gain, channel) => [gain, channel]).filter(([gain]) => gain));
-  const read = (at) => (size === 2 ? view.getInt16(at, true) : view.getUint16(at, true) + 65536 * view.getInt8(at + 2));
+  const terms = gains.map((side) => side.map((gain, channel) => ({ gain, channel })).filter(({ gain }) => gain));
+  const read = (/** @type {number} */ at) => (size === 2 ? view.getInt16(at, true) : view.getUint16(at, true) + 65536 * view.getInt8(at + 2));
   for (let sample = 0; sample < samples; sample++) {
     const from = first + sample * channels * size;
     terms.forEach((side, place) => {
-      const sum = side.reduce((value, [gain, channel]) => value + gain * read(from + channel * size), 0);
+      const sum = side.reduce((value, { gain, channel }) => value + gain * read(from + channel * size), 0);
       const value = clamp(Math.round(sum), -most, most - 1);
       const to = 44 + (2 * sample + place) * size;
       out.setInt16(to, value & 0xffff, true);
@@ -40,9 +65,10 @@ function mixedWav(head, gains) {
   return bytes;
 }
 
-/* What is played of the file: all of it where it has two channels, else what was chosen. */
+/** What is played of the file: all of it where it has two channels, else what was chosen.
+ *  @param {Uint8Array} file @param {number} choice @returns {Uint8Array} */
 function played(file, choice) {
-  const { choices, order } = data.sound;
+  const { choices, order } = data.sound ?? { choices: [], order: [] };
   if (!choices.length) return file;
   const gains = choices[choice].gains.map((side) => {
     const placed = side.map(() => 0);
@@ -52,15 +78,16 @@ function played(file, choice) {
   return mixedWav(wavHead(file), gains);
 }
 
-/* What gives the WAV file of all channels. */
+/** What gives the WAV file of all channels.
+ *  @type {() => Uint8Array} */
 let soundOf = () => new Uint8Array(0);
 
 function startSound() {
   const audio = by("audio");
   if (!audio || !data.sound) return;
   const file = soundOf();
-  const urlOf = (bytes) => URL.createObjectURL(new Blob([bytes], { type: "audio/wav" }));
-  const choose = (choice) => {
+  const urlOf = (/** @type {Uint8Array} */ bytes) => URL.createObjectURL(new Blob([bytes], { type: "audio/wav" }));
+  const choose = (/** @type {number} */ choice) => {
     if (audio.src) URL.revokeObjectURL(audio.src);
     audio.src = urlOf(played(file, choice));
   };
@@ -73,11 +100,7 @@ function startSound() {
       if (wasPlaying) audio.play();
     };
   }
-  by("sound-save").onclick = () => {
-    const url = urlOf(file);
-    made("a", { href: url, download: `${data.name}.wav` }).click();
-    setTimeout(() => URL.revokeObjectURL(url), 60_000);
-  };
+  by("sound-save").onclick = () => save(file, "audio/wav", `${data.name}.wav`);
   const wave = by("wave");
   const { width, height } = wave.viewBox.baseVal;
   const show = () => {

@@ -2,13 +2,24 @@
 
 /* ---- a report, which has its data and its pictures within it ---- */
 
+/** @typedef {Omit<Data, "periods" | "lines"> & {periods: Packed, lines: {of: number[], texts: string[]}}} PackedData
+ *  @typedef {{unlike: number[][], of: number[], at: [number, number][], line: [number, number][]}} Packed */
+
+/** @param {string} id @returns {string} the text of an element */
+function textIn(id) {
+  return by(id).textContent ?? "";
+}
+
+/** @param {string} text @returns {Promise<PackedData>} */
 async function unpacked(text) {
   const stream = new Blob([bytesOf(text)]).stream().pipeThrough(new DecompressionStream("deflate"));
   return JSON.parse(await new Response(stream).text());
 }
 
-/* Numbers that follow one another by these steps, but for those whose place and value are given. */
+/** Numbers that follow one another by these steps, but for those whose place and value are given.
+ *  @param {number[]} steps @param {[number, number][]} given @returns {number[]} */
 function following(steps, given) {
+  /** @type {number[]} */
   const found = [];
   let next = 0;
   let used = 0;
@@ -20,21 +31,21 @@ function following(steps, given) {
   return found;
 }
 
-/* The columns of the table of periods, of which each unlike one stands there once. */
+/** The columns of the table of periods, of which each unlike one stands there once.
+ *  @param {Packed} packed @returns {Periods} */
 function periodsOf({ unlike, of, at, line }) {
   const [kind, columns, value] = [0, 1, 2].map((field) => of.map((number) => unlike[number][field]));
   return { kind, at: following(columns, at), columns, line: following(of.map(() => 1), line), value };
 }
 
 async function start() {
-  data = await unpacked(by("data").textContent);
-  data.periods = periodsOf(data.periods);
-  data.lines = data.lines.of.map((number) => data.lines.texts[number]);
+  const { periods, lines, ...rest } = await unpacked(textIn("data"));
+  data = { ...rest, periods: periodsOf(periods), lines: lines.of.map((number) => lines.texts[number]) };
   pictureOf = (number) => {
-    const { textContent, dataset } = by(`picture-${number}`);
-    return new Blob([bytesOf(textContent)], { type: dataset.kind });
+    const name = `picture-${number}`;
+    return new Blob([bytesOf(textIn(name))], { type: by(name).dataset.kind });
   };
-  soundOf = () => bytesOf(by("sound-file").textContent);
+  soundOf = () => bytesOf(textIn("sound-file"));
   if (data.columns) await startReport();
   document.documentElement.dataset.ready = "yes";
   performance.mark("ready");
