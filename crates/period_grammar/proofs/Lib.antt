@@ -14,10 +14,15 @@ pub mod Joined
 pub mod Bytes
 pub mod Sizes
 pub mod Pixels
-pub mod Balanced
+pub mod Controls
+pub mod Mixing
+pub mod PartPut
+pub mod Firsts
+pub mod Fronts
+pub mod LaneFronts
 pub mod Many
 pub mod InPacket
-pub mod Groups
+pub mod Sixteens
 pub mod Alike
 pub mod Pushed
 pub mod LinkOne

@@ -11,7 +11,7 @@ ghost use Rattle.island_pack.specs.Repaired.{packet_of, verdicts_of, packet_in, 
 ghost use Rattle.period_grammar.specs.Island.{Payload, payload, packet_events, closing_events, breaks, if_so, block_fault, packet_faults};
 ghost use Rattle.period_grammar.specs.After.{island_gain, after_payload};
 ghost use Rattle.period_grammar.specs.GoesOn.{goes_on_packet, count_in_island, AreGoingOn};
-ghost use Rattle.period_grammar.specs.Balanced.{is_pixel};
+ghost use Rattle.period_grammar.specs.Pixels.{is_pixel};
 ghost use Rattle.period_grammar.specs.IslandAfter.{IsIslandAfter, IsBlocked, IsPartsAfter, at_some};
 ghost use Rattle.period_grammar.specs.Noted.{events, Lent, lent};
 

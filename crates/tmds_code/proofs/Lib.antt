@@ -2,5 +2,10 @@ pub mod TableWords
 pub mod Steps
 pub mod Lanes
 pub mod Example
-pub mod StepTable
-pub mod Followed
+pub mod Vectors
+pub mod Parts
+pub mod Sums
+pub mod Decoded
+pub mod Signs
+pub mod Wrongs
+pub mod Following

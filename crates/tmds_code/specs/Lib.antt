@@ -3,4 +3,5 @@ pub mod Lanes
 pub mod Places
 pub mod Pasts
 pub mod Laws
-pub mod Balances
+pub mod Vectors
+pub mod Sixteen

@@ -6,15 +6,15 @@
 //! which are proved entry by entry.
 #![tactic(auto)]
 
-mod balance;
 mod coder;
 mod coding;
 mod judge;
 pub mod laws;
+mod sixteen;
 mod stepping;
 mod tables;
 
-pub use balance::Balance;
 pub use coder::VideoCoder;
 pub use coding::{decode, encode};
 pub use judge::CodeJudge;
+pub use sixteen::{judge_sixteen, parts_of};

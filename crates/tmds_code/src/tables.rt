@@ -1,9 +1,5 @@
-//! The characters of all bytes, the bytes of all characters, and the steps of a disparity.
+//! The characters of all bytes, and the bytes of all characters.
 ghost use Rattle.std.specs.Prelude.{◌≡◌, ◌+◌, ◌*◌, ◌<◌, slice_index};
-
-mod following;
-
-pub(crate) use following::followed;
 
 /// The character of each byte where the disparity is negative, then where it is 0, then where it is
 /// positive.
