@@ -1,5 +1,5 @@
-//! What of a raster's frames and packets is recovered, and what a link's listing reads back as. The functions do
-//! nothing: what they ensure are the laws.
+//! Laws about the frames and packets of a raster that are recovered, and about reading a link's listing back. The functions
+//! have no code: their contracts are the laws.
 ghost use Rattle.listing_laws.specs.FrameLaws.{FramesComeBack, FramesHeard};
 ghost use Rattle.listing_laws.specs.LinkLaws.{AccountReadsBack};
 ghost use Rattle.listing_laws.specs.ListingLaws.{FrameLinesComeBack, LinesOfPayload, PacketLinesAreListed, PacketLinesAsSent, PacketLinesComeBack, PacketsAsSent};
@@ -14,7 +14,7 @@ pub fn frames_come_back()
     ensures { FramesComeBack }
 {}
 
-/// The same of what is heard of the received columns.
+/// The same of what is reported of the received columns.
 pub fn frames_heard()
     ensures { FramesHeard }
 {}
@@ -24,7 +24,7 @@ pub fn packets_come_back()
     ensures { PacketsComeBack }
 {}
 
-/// A packet of which at most one word was received unlike, or few were and no fault is found, is reported with its header
+/// A packet with at most one wrong word, or with few and without a reported fault, is reported with its header
 /// and bodies, and none of its blocks is lost.
 pub fn one_packet_as_sent()
     ensures { OnePacketAsSent }
@@ -40,7 +40,7 @@ pub fn raster_packets()
     ensures { RasterPackets }
 {}
 
-/// The lines `row ..`, `frame ..` and `! ragged ..` of a content listing of what is heard of a raster are the rows and frames
+/// The lines `row ..`, `frame ..` and `! ragged ..` of a content listing of what is reported of a raster are the rows and frames
 /// that were received: none is ragged.
 pub fn frame_lines_come_back()
     ensures { FrameLinesComeBack }

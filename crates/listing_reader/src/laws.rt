@@ -1,4 +1,4 @@
-//! A text has one answer. The function does nothing: what it ensures is the law.
+//! A text has one answer. The function has no code: its contract is the law.
 ghost use Rattle.listing_reader.specs.Laws.{OneContentAnswer, OneLinkAnswer};
 
 /// Two answers of a reader that fit a text are equal.

@@ -2,7 +2,7 @@
 //!
 //! Each law is proved by evaluating the definitions (`refl`), so no program comes between the formats and the definitions. The
 //! row is a line of one red pixel: what its listing reads as, the columns that spell it, the bytes of its capture, what
-//! `make link` makes of the listing, and what is heard of the columns. The functions do nothing: their contracts are the laws.
+//! `make link` makes of the listing, and what is reported of the columns. The functions do nothing: their contracts are the laws.
 #![tactic(auto)]
 
 ghost use Rattle.worked_rows.specs.Row.{IsRead, IsCaptured, IsSpelled, IsHeard, IsMade};
@@ -27,7 +27,7 @@ pub fn is_made()
     ensures { IsMade }
 {}
 
-/// What is heard of the columns has the listing.
+/// What is reported of the columns has the listing.
 pub fn is_heard()
     ensures { IsHeard }
 {}

@@ -1,10 +1,10 @@
-//! Three lanes, and their epochs where an alignment is let go that is doubted twice in a row, as a program finds them that looks
+//! Three lanes, and their epochs where an alignment is dropped that is doubted twice in a row, as a program finds them that looks
 
 use super::Doubted;
 
 /// The rows.
 pub(crate) static ROWS: [Doubted; 9] = [
-    // a lane gains one: let go at the second period
+    // a lane gains one: dropped at the second period
     Doubted {
         bits: [620, 620, 620],
         digits: [

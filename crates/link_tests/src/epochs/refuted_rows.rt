@@ -1,4 +1,4 @@
-//! Three lanes, and their epochs where a refuted alignment is let go, as a program finds them that looks at each place.
+//! Three lanes, and their epochs where a refuted alignment is dropped, as a program finds them that looks at each place.
 
 use super::Doubted;
 
