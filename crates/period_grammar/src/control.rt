@@ -73,7 +73,7 @@ impl ControlState {
         (self.run != 0) & has_value(column, self.value)
     }
 
-    /// Hears a column of the last run's value.
+    /// Receives a column of the last run's value.
     pub fn hear_again(&mut self)
         requires counted { IsCounted self.old }
         requires few { self.old.columns + 1 < 2 ^ 64 }
@@ -101,7 +101,7 @@ impl ControlState {
         count_alike(columns, &first)
     }
 
-    /// Hears columns of the last run's value, this many.
+    /// Receives columns of the last run's value, this many.
     pub fn hear_run(&mut self, count: u64)
         requires counted { IsCounted self.old }
         requires few { self.old.columns + count < 2 ^ 64 }

@@ -29,7 +29,7 @@ impl LaneJudge {
         }
     }
 
-    /// Hears the word of a pixel, and gives its byte.
+    /// Receives the word of a pixel, and gives its byte.
     pub fn hear(&mut self, pixel: u32, word: Word) -> u8
         requires few { pixel < PIXEL_LIMIT }
         requires sized { IsSized self.old pixel }
@@ -53,7 +53,7 @@ impl LaneJudge {
         self.judge.step()
     }
 
-    /// Hears the words from a pixel on at once, by what was judged of them from this lane's step.
+    /// Receives the words from a pixel on at once, by what was judged of them from this lane's step.
     #[inline(always)]
     pub fn hear_front(&mut self, pixel: u32, count: usize, front: LaneFront)
         requires few { pixel + count ≤ PIXEL_LIMIT }

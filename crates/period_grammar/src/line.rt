@@ -65,7 +65,7 @@ impl Line {
         self.red = LaneJudge::new();
     }
 
-    /// Hears one pixel column.
+    /// Receives one pixel column.
     pub fn hear(&mut self, column: &[Word; 3])
         requires { self.old.count + 1 < 2 ^ 64 }
         ensures count { self.new.count ≡ self.old.count + 1 }
@@ -83,7 +83,7 @@ impl Line {
         self.count += 1;
     }
 
-    /// Hears columns as long as they are no control columns, and answers how many these are.
+    /// Receives columns as long as they are no control columns, and answers how many these are.
     pub fn hear_while(&mut self, columns: Columns<'_>) -> usize
         requires few { self.old.count + length (columns_in columns) ≤ MOST_COLUMNS }
         ensures within { result ≤ length (columns_in columns.entry) }
@@ -95,7 +95,7 @@ impl Line {
         front + self.hear_each(columns.from(front))
     }
 
-    /// Hears columns, sixteen at a time, as long as they are no control columns. Answers how many these are: less than
+    /// Receives columns, sixteen at a time, as long as they are no control columns. Answers how many these are: less than
     /// sixteen may be left, or there is no room for sixteen more.
     fn hear_sixteens(&mut self, columns: Columns<'_>) -> usize
         ensures within { result ≤ length (columns_in columns.entry) }
@@ -116,7 +116,7 @@ impl Line {
         at
     }
 
-    /// Hears the columns before the first control column of sixteen, and answers how many these are.
+    /// Receives the columns before the first control column of sixteen, and answers how many these are.
     #[inline(always)]
     fn hear_sixteen(&mut self, columns: Columns<'_>) -> usize
         requires sixteen { length (columns_in columns) ≡ 16 }
@@ -140,7 +140,7 @@ impl Line {
         front.count
     }
 
-    /// Hears columns one by one as long as they are no control columns, and answers how many these are.
+    /// Receives columns one by one as long as they are no control columns, and answers how many these are.
     fn hear_each(&mut self, columns: Columns<'_>) -> usize
         requires few { self.old.count + length (columns_in columns) ≤ MOST_COLUMNS }
         ensures within { result ≤ length (columns_in columns.entry) }

@@ -17,7 +17,7 @@ use std::simd::prelude::*;
 use tmds_code::{judge_sixteen, parts_of};
 use tmds_word::Columns;
 
-/// How many columns are heard at once.
+/// How many columns are received at once.
 pub const SIXTEEN: usize = 16;
 
 /// The places of the bytes of sixteen pixels, sixteen bytes at a time: first of red and green, then of these and blue.

@@ -10,11 +10,11 @@ use crate::coding::{decode, is_coded};
 use std::marker::Model;
 use tmds_word::Word;
 
-/// Hears the characters of one lane in order, from a video period's first pixel on, and says of each
+/// Receives the characters of one lane in order, from a video period's first pixel on, and says of each
 /// whether it is rightly coded.
 #[derive(Clone, Copy)]
 pub struct CodeJudge {
-    /// How many characters were heard, at most 4,097.
+    /// How many characters were received, at most 4,097.
     count: u16,
     /// Their ones minus their zeros.
     disparity: i32,
@@ -70,7 +70,7 @@ impl CodeJudge {
         (self.disparity + 8).clamp(0, 16) as u8 / 2
     }
 
-    /// Hears characters at once whose ones were counted.
+    /// Receives characters at once whose ones were counted.
     #[inline(always)]
     pub fn hear_counted(&mut self, count: u16, ones: u16)
         requires few { self.old.count + count ≤ 4097 }
