@@ -8,7 +8,7 @@ use Rattle.std.proofs.Math.Seq.{take-append-add, take-nil}
 use Rattle.std.proofs.Math.Nat.{pow-suc, mul_assoc}
 use Rattle.std.proofs.lemmas.Int.{ints}
 use Rattle.std.proofs.lemmas.List.Sums.{prefix_len-le-length}
-use Rattle.std.proofs.lemmas.List.{take-take, length-take-le, length-map}
+use Rattle.std.proofs.lemmas.List.{take-take, take_all, length-take-le, length-map}
 use Rattle.std.proofs.lemmas.Nat.{and_mask, mod-mul-add}
 use Rattle.std.proofs.lemmas.Simd.{first_set_mask_l, mask_l-lt}
 use Rattle.tmds_word.specs.Bits.{word_bits, balance}
@@ -171,3 +171,6 @@ wrong_below n step ws lane long heard =
 
 pub long_lane : (f : Column → ℕ) (ws : List ℕ) (cs : List Column) → ws ≡ map f cs → length cs ≡ 16 → length ws ≡ 16
 long_lane f ws cs e long = ap (λ (us : List ℕ). length us) e ∙ (length-map cs f ∙ long)
+
+pub whole_lane : (f : Column → ℕ) (ws : List ℕ) (cs : List Column) (n : ℕ) → ws ≡ map f cs → length cs ≡ n → take n ws ≡ map f cs
+whole_lane f ws cs n e long = ap (take n) e ∙ take_all n (map f cs) (omega (arith, length-map cs f, long))

@@ -24,6 +24,7 @@ pub mod Many
 pub mod InPacket
 pub mod Sixteens
 pub mod Alike
+pub mod Eights
 pub mod Pushed
 pub mod LinkOne
 mod NoControls
