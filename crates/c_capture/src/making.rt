@@ -12,9 +12,8 @@ use crate::maker::Maker;
 use crate::status::ListingStatus;
 use crate::tap::LentTap;
 use crate::text_sink::TextSink;
-use capture_commands::{Ending, SliceSource, make_content, make_dvi, make_link};
+use capture_commands::{Ending, SliceSource, make_content, make_dvi, make_link, note};
 use command_line::TapWords;
-use ending_notes::note;
 use std::alloc::Global;
 
 /// Makes the capture of a tap of a listing by the maker that has a number. Where the buffer has less room than the capture has
