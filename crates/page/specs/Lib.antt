@@ -1,3 +1,4 @@
 pub mod Endings
 pub mod Ears
 pub mod Heard
+pub mod Kinds

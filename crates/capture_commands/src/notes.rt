@@ -3,16 +3,14 @@
 //! `note` returns it to the byte: `usage: make, recover, check, damage or sample` for status 2; for status 3 `input: ` and one
 //! of `line N CAUSE`, `mode I`, `noroom F P`, `long`, `magic P`, `version V`, `short P`, `padding P`, `trailing P`, `place I`,
 //! `subframe N`; nothing for statuses 0 and 1.
-#![tactic(auto)]
-
 ghost use Rattle.std.specs.Prelude.{◌≡◌, ℕ, ◌+◌, ◌≤◌, ◌++◌, length, codes, decimal};
 ghost use Rattle.arrayvec.specs.ArrayVec.{array_vec_len};
 ghost use Rattle.capture_commands.specs.Endings.{note_of};
 ghost use Rattle.capture_commands.specs.Notes.{cause_name, listing_note, capture_name, capture_number, capture_note, frames_note, place_note, raster_note};
 
+use crate::ending::Ending;
 use arrayvec::ArrayVec;
 use biphase_listing::BiphaseFault;
-use capture_commands::Ending;
 use capture_file::CaptureFault;
 use listing_reader::{ListCause, ListFault};
 use source_end::RasterFault;
