@@ -11,6 +11,7 @@ use Rattle.source_end.specs.RasterRefusals.{raster_fault}
 use Rattle.source_end.proofs.RasterLaw.{raster_conforms}
 use Rattle.source_end.specs.declared.refusal.RasterFault.{RasterFault}
 use Rattle.link_sink.specs.Grammar.{link_grammar}
+use Rattle.listing_reader.proofs.Conforming.{taken_conforms}
 use Rattle.link_laws.specs.Account.{account}
 use Rattle.relay.proofs.OneSpelling.{one_spelling}
 use Rattle.capture_file.specs.BlockDamage.{IsDamagedCapture}
@@ -101,8 +102,8 @@ recovered_after t tapped = record {
 }
 
 pub end_to_end : EndToEnd
-end_to_end c listing read good chain made hurt makes damages ok =
-    recovered_after (stream_of c hurt.output) (stream_tapped c good chain made hurt (subst (λ r. MakesLink Spells (tap_asked c.tap) r made) read makes) damages ok)
+end_to_end c listing read chain made hurt makes damages ok =
+    recovered_after (stream_of c hurt.output) (stream_tapped c (taken_conforms listing c.periods read) chain made hurt (subst (λ r. MakesLink Spells (tap_asked c.tap) r made) read makes) damages ok)
 
 pub content_end_to_end : ContentEndToEnd
 unfolding RasterConforms

@@ -23,6 +23,7 @@ use Rattle.hdmi_cli.specs.RelaySettles.{IsWritten, IsWrittenButBit3}
 use Rattle.capture_commands.specs.Relays.{IsRelayed}
 use Rattle.period_grammar.specs.Events.{Event}
 use Rattle.relay.specs.Relayed.{relayed}
+use Rattle.hdmi_cli.specs.Fields.{AreFields}
 use Rattle.hdmi_cli.specs.Pictures.{ArePackets, ArePictures}
 use Rattle.hdmi_cli.specs.Sounds.{AreSamples}
 use Rattle.hdmi_cli.specs.Exact.{IsAlignedCapture, IsJudged}
@@ -72,6 +73,12 @@ pub record Promises (words : List (List ℕ)) (status : ℕ) (before after : Dev
   -- as it was sent.
   pub packets : IsCommand words RecoverContent → (t : TappedStream) → IsTapped t → Aligns t → before.left ≡ Some t.bytes
       → Unless (λ status held holds. FromFirst t (λ d e f a. ArePackets t d e f a held holds)) status before after
+  -- The fields that such a packet of a raster says are listed as they were sent: the line `avi ..`, `audio ..` or `acr ..` that says
+  -- them is in the output, and so is a line `s ..` for each sample. This holds for all modes and contents.
+  pub fields : IsCommand words RecoverContent
+      → (mode : Mode) (frames : List Frame) → raster_fault mode frames ≡ None → (t : TappedStream) → t.periods ≡ raster_of mode frames → IsTapped t → Aligns t
+      → before.left ≡ Some t.bytes
+      → Unless (λ status held holds. FromFirst t (λ d e f a. AreFields frames t d e f a held holds)) status before after
   -- Whatever is received after a column until which damage is so: `recover content` lists the row of each line and each island that
   -- was received with few words damaged, after twelve control columns and before one; so does `check`, of their faults.
   pub content_local : IsCommand words RecoverContent → (t : TappedStream) → (until : ℕ) → IsTappedUntil t until → AlignsBy t until
@@ -168,6 +175,10 @@ pub record Promises (words : List (List ℕ)) (status : ℕ) (before after : Dev
       → Unless (λ status held holds. FromFirst t (λ d e f a. ArePictures mode frames t d e f a held holds)) status before after
   pub content_relock_packets : IsCommand words RecoverContentRelock → (t : TappedStream) → IsTapped t → StaysAligned t → before.left ≡ Some t.bytes
       → Unless (λ status held holds. FromFirst t (λ d e f a. ArePackets t d e f a held holds)) status before after
+  pub content_relock_fields : IsCommand words RecoverContentRelock
+      → (mode : Mode) (frames : List Frame) → raster_fault mode frames ≡ None → (t : TappedStream) → t.periods ≡ raster_of mode frames → IsTapped t → StaysAligned t
+      → before.left ≡ Some t.bytes
+      → Unless (λ status held holds. FromFirst t (λ d e f a. AreFields frames t d e f a held holds)) status before after
   -- By the same premises it lists the content of each line and each island that stands alone, whatever is received around it.
   pub content_relock_local : IsCommand words RecoverContentRelock → (t : TappedStream) → (until : ℕ) → IsTappedUntil t until → AlignsBy t until → StaysClear t until
       → before.left ≡ Some t.bytes

@@ -27,6 +27,8 @@ pub mod PacketLines
 pub mod PictureLines
 pub mod PacketsListed
 pub mod Rasters
+pub mod Said
+pub mod SaidPackets
 pub mod Text
 pub mod Digits
 pub mod LineForms
