@@ -1,6 +1,6 @@
 -- A listing that is taken gives periods that conform.
-use Rattle.std.proofs.Common.{◌≡◌, ℕ, zero, suc, ◌+◌, ◌*◌, ◌%◌, ◌≤◌, Bool, true, false, not, ◌&&◌, ◌==◌, if◌then◌else◌, List, [], ◌∷◌, ◌++◌, map, length, take, drop, refl, ap, sym, subst, ◌∙◌, arith, inl, inr, ◌⊎◌, Option, Some, None, Result, Ok, Err, length-append, length-drop, length-take-le}
-use Rattle.std.specs.Prelude.{nat_le, nat_lt, nat_eq, codes}
+use Rattle.std.proofs.Common.{◌≡◌, ℕ, suc, ◌+◌, ◌-◌, ◌*◌, ◌%◌, ◌≤◌, Bool, true, false, ◌&&◌, ◌==◌, if◌then◌else◌, List, [], ◌∷◌, ◌++◌, map, length, take, drop, refl, ap, sym, subst, ◌∙◌, arith, inl, inr, ◌⊎◌, Option, Some, None, Result, Ok, Err, length-append, length-drop, length-take-le}
+use Rattle.std.specs.Prelude.{nat_le, nat_lt, nat_eq, slice_index, codes}
 use Rattle.std.specs.List.{list_all, starts_with}
 use Rattle.std.proofs.lemmas.Bool.{lt-ltb, leb-true, eqb-true}
 use Rattle.std.proofs.lemmas.List.{length-map}
@@ -8,7 +8,7 @@ use Rattle.std.proofs.lemmas.List.Folds.{list_all-append}
 use Rattle.hex.specs.Hex.{IsBytes, decode_of}
 use Rattle.hex.specs.declared.error.FromHexError.{FromHexError}
 use Rattle.hex.proofs.HexLemmas.{decode_of-ok}
-use Rattle.island_pack.specs.Periods.{ControlRun, DataIsland, SyncPair, Period, control, video, island, period_columns, columns_of}
+use Rattle.island_pack.specs.Periods.{ControlRun, DataIsland, Period, control, video, island, period_columns, columns_of}
 use Rattle.island_pack.specs.Conforming.{are_bytes, is_packet, conforms}
 use Rattle.island_pack.specs.Spelling.{SpellsPeriod, Spells}
 use Rattle.island_pack.specs.declared.packet.Packet.{Packet}
@@ -22,15 +22,15 @@ use Rattle.source_end.proofs.FramingLaws.{link_is_framing}
 use Rattle.source_end.proofs.Pushes.{nothing_yet, pushed, closed}
 use Rattle.source_end.proofs.Turns.{no_columns, columns_of-more}
 use Rattle.listing_reader.specs.declared.fault.ListCause.{ListCause}
-use Rattle.listing_reader.specs.declared.fault.ListCause.TheVariants.{Range, Order, Long}
-use Rattle.listing_reader.specs.Causes.{line_cause, run_cause, video_cause, island_cause, packet_cause, close_cause, end_cause, caused, unless, is_closed, has_room, has_packets}
-use Rattle.listing_reader.specs.Drafts.{OpenIsland, Draft, nothing_reported, draft_columns, with_line}
-use Rattle.listing_reader.specs.Forms.{LineForm, control_line, video_line, island_line, packet_line, close_line, end_line, fault_line, no_line, is_digit, number_of, control_by, control_form, video_by, video_form, pair_by, pair_form, part, has_spaces, packet_by, packet_form, form_of}
+use Rattle.listing_reader.specs.Causes.{line_cause, run_cause, packet_cause, close_cause, end_cause, caused, is_closed, has_room, has_packets}
+use Rattle.listing_reader.specs.Drafts.{Draft, nothing_reported, draft_columns, with_line}
+use Rattle.listing_reader.specs.Forms.{LineForm, control_line, video_line, island_line, packet_line, close_line, end_line, fault_line, no_line, is_digit, number_of, control_by, control_form, video_by, video_form, pair_by, pair_form, part, has_spaces, packet_by, packet_form, is_fault, form_of}
+use Rattle.listing_reader.specs.declared.lines.TheConstants.{LINE_LIMIT}
 use Rattle.listing_reader.specs.Laws.{TakenConforms}
 use Rattle.listing_reader.specs.Lines.{pieces_of}
 use Rattle.listing_reader.specs.LineSteps.{Read, accepts, LineStep, tells, closes, wrong, within_text, cut_short, ended_by, steps_on, read_lines}
 use Rattle.listing_reader.specs.Reading.{link_step_by, link_step, reads_as}
-use Rattle.listing_reader.specs.Reported.{with_open, drafted, MayStand, IsBegun}
+use Rattle.listing_reader.specs.Reported.{with_open, drafted, MayStand}
 use Rattle.listing_reader.proofs.Feeds.{both}
 use Rattle.listing_reader.proofs.FramedOpen.{framed_run, framed_closes}
 use Rattle.listing_reader.proofs.Islands.{room_is, video_judged, end_judged, begins, grows_at, closes_at}
@@ -141,18 +141,61 @@ packet_formed rest true (Ok header) (Err e) b c d laid p q r s t = tt
 packet_formed rest true (Err e) a b c d laid p q r s t = tt
 packet_formed rest false h a b c d laid p q r s t = tt
 
+control_line_formed : (rest : List ℕ) → Formed (control_form rest)
+unfolding control_form
+control_line_formed rest = control_formed (decode_of (take 2 rest)) (slice_index rest 2 == 32) (number_of (drop 3 rest))
+
+video_line_formed : (rest : List ℕ) → Formed (video_form rest)
+unfolding video_form
+video_line_formed rest = video_formed rest (length rest % 6 == 0) (decode_of rest) refl refl
+
+island_line_formed : (rest : List ℕ) → Formed (pair_form island_line rest)
+unfolding pair_form
+island_line_formed rest = (pair_formed ((length rest == 2) && (is_digit (slice_index rest 0) && is_digit (slice_index rest 1))) (slice_index rest 0) (slice_index rest 1)).0
+
+close_line_formed : (rest : List ℕ) → Formed (pair_form close_line rest)
+unfolding pair_form
+close_line_formed rest = (pair_formed ((length rest == 2) && (is_digit (slice_index rest 0) && is_digit (slice_index rest 1))) (slice_index rest 0) (slice_index rest 1)).1
+
+packet_line_formed : (rest : List ℕ) → Formed (packet_form rest)
+unfolding packet_form
+packet_line_formed rest =
+    packet_formed rest ((length rest == 99) && (has_spaces rest && list_all is_digit (part 67 32 rest)))
+    (decode_of (part 0 6 rest)) (decode_of (part 7 14 rest)) (decode_of (part 22 14 rest)) (decode_of (part 37 14 rest)) (decode_of (part 52 14 rest)) refl refl refl refl refl refl
+
+-- what a line may be that is none of those before
+abbrev from_end : List ℕ → LineForm
+from_end line = if starts_with nat_eq line (codes "end") && (length line == 3) then end_line else no_line
+
+abbrev from_close : List ℕ → LineForm
+from_close line = if starts_with nat_eq line (codes "e ") then pair_form close_line (drop 2 line) else from_end line
+
+abbrev from_packet : List ℕ → LineForm
+from_packet line = if starts_with nat_eq line (codes "p ") then packet_form (drop 2 line) else from_close line
+
+abbrev from_island : List ℕ → LineForm
+from_island line = if starts_with nat_eq line (codes "i ") then pair_form island_line (drop 2 line) else from_packet line
+
+abbrev from_video : List ℕ → LineForm
+from_video line = if starts_with nat_eq line (codes "v ") then video_form (drop 2 line) else from_island line
+
+abbrev from_control : List ℕ → LineForm
+from_control line = if starts_with nat_eq line (codes "c ") then control_form (drop 2 line) else from_video line
+
+abbrev from_short : List ℕ → LineForm
+from_short line = if nat_lt LINE_LIMIT (length line) then no_line else from_control line
+
 formed : (line : List ℕ) → Formed (form_of line)
-unfolding form_of control_form video_form pair_form packet_form
+unfolding form_of
 formed line =
-    let rest = drop 2 line in
-    chosen _ _ _ tt
-    (chosen _ _ _ tt
-    (chosen _ _ _ (control_formed _ _ _)
-    (chosen _ _ _ (video_formed rest _ _ refl refl)
-    (chosen _ _ _ (pair_formed _ _ _).0
-    (chosen _ _ _ (packet_formed rest _ _ _ _ _ _ refl refl refl refl refl refl)
-    (chosen _ _ _ (pair_formed _ _ _).1
-    (chosen _ _ _ tt tt)))))))
+    chosen (is_fault line) fault_line (from_short line) tt
+    (chosen (nat_lt LINE_LIMIT (length line)) no_line (from_control line) tt
+    (chosen (starts_with nat_eq line (codes "c ")) (control_form (drop 2 line)) (from_video line) (control_line_formed (drop 2 line))
+    (chosen (starts_with nat_eq line (codes "v ")) (video_form (drop 2 line)) (from_island line) (video_line_formed (drop 2 line))
+    (chosen (starts_with nat_eq line (codes "i ")) (pair_form island_line (drop 2 line)) (from_packet line) (island_line_formed (drop 2 line))
+    (chosen (starts_with nat_eq line (codes "p ")) (packet_form (drop 2 line)) (from_close line) (packet_line_formed (drop 2 line))
+    (chosen (starts_with nat_eq line (codes "e ")) (pair_form close_line (drop 2 line)) (from_end line) (close_line_formed (drop 2 line))
+    (chosen (starts_with nat_eq line (codes "end") && (length line == 3)) end_line no_line tt tt)))))))
 
 -- ---- what was said so far
 
