@@ -1,11 +1,11 @@
 -- One command after another: `make link` or `make content`, then `damage` in whole characters, then `recover`.
-use Rattle.std.specs.Prelude.{◌≡◌, ℕ, ◌+◌, ◌*◌, ◌^◌, ◌<◌, ◌≤◌, List, map, length, None, IsTrue}
+use Rattle.std.specs.Prelude.{◌≡◌, ℕ, ◌+◌, ◌*◌, ◌^◌, ◌<◌, ◌≤◌, List, map, length, None}
 use Rattle.tmds_word.specs.Column.{Column}
 use Rattle.tmds_word.specs.Taps.{HasSmallSkew}
 use Rattle.island_pack.specs.Periods.{Period}
 use Rattle.island_pack.specs.Sparse.{IsSparse}
 use Rattle.island_pack.specs.Spelling.{Spells}
-use Rattle.source_end.specs.Content.{Frame, are_content}
+use Rattle.source_end.specs.Content.{Frame}
 use Rattle.source_end.specs.Raster.{raster_of}
 use Rattle.source_end.specs.RasterRefusals.{raster_fault}
 use Rattle.source_end.specs.declared.mode.Mode.{Mode}
@@ -78,10 +78,10 @@ EndToEnd =
     → (made hurt : RunOutcome) → Does (MakeLink c.tap) listing made → Does (Damage c.damages) made.output hurt → hurt.status ≡ 0
     → IsRecoveredAfter (stream_of c hurt.output)
 
--- and of each content listing that has a raster, of bytes and packets
+-- and of each content listing that is taken: its frames fit its mode
 abbrev pub ContentEndToEnd : Type 0
 ContentEndToEnd =
-    (c : Chain) (listing : List ℕ) (mode : Mode) (frames : List Frame) → content_reads_as listing ≡ accepts (mode, frames) → raster_fault mode frames ≡ None → IsTrue (are_content frames)
+    (c : Chain) (listing : List ℕ) (mode : Mode) (frames : List Frame) → content_reads_as listing ≡ accepts (mode, frames) → raster_fault mode frames ≡ None
     → c.periods ≡ raster_of mode frames → IsChain c
     → (made hurt : RunOutcome) → Does (MakeContent c.tap) listing made → Does (Damage c.damages) made.output hurt → hurt.status ≡ 0
     → IsRecoveredAfter (stream_of c hurt.output)

@@ -135,7 +135,7 @@ pub record Promises (words : List (List ℕ)) (status : ℕ) (before after : Dev
   -- where the lane had no lock before it, and then all is reported as it was sent, from the first full alignment on;
   -- nor where the lane ends before it has twelve characters of the control period after the line.
   pub track_slip_passes : IsCommand words RecoverTrack → (t : TappedStream) → (s : LineSlip) → (y : Fed) → IsSlippedTap t s y → IsUnnoticed t s
-      → before.left ≡ Some t.bytes → Unless (IsTrackedAsOne RecoverLink link_listing t s y) status before after
+      → before.left ≡ Some t.bytes → Unless (IsTrackedAsOne link_listing t s y) status before after
   -- `recover relock` writes the text of `recover link`, and across a slip what `recover track` writes: the alignment of a stream that was
   -- received with sparse damage is confirmed by the guard band after it, refuted by no other edges, and not doubted twice in a row where
   -- damage after it spares one of any two control periods in a row.
@@ -144,7 +144,7 @@ pub record Promises (words : List (List ℕ)) (status : ℕ) (before after : Dev
   pub relock_slip : IsCommand words RecoverRelock → (t : TappedStream) → (s : LineSlip) → (y : Fed) → IsSlippedTap t s y → IsNoticed t s
       → before.left ≡ Some t.bytes → Unless (IsTrackedAcross link_track_listing t s y) status before after
   pub relock_slip_passes : IsCommand words RecoverRelock → (t : TappedStream) → (s : LineSlip) → (y : Fed) → IsSlippedTap t s y → IsUnnoticed t s
-      → before.left ≡ Some t.bytes → Unless (IsTrackedAsOne RecoverLink link_listing t s y) status before after
+      → before.left ≡ Some t.bytes → Unless (IsTrackedAsOne link_listing t s y) status before after
   -- Whatever is received after a column until which damage is so, and after the next one: it writes what `recover link` does, with the row
   -- of each line and each island that stands alone. No lane may have a stray, and near the end of a control period no character may be
   -- received as a control or guard character that it was not.
@@ -190,7 +190,7 @@ pub record Promises (words : List (List ℕ)) (status : ℕ) (before after : Dev
   pub content_relock_slip : IsCommand words RecoverContentRelock → (t : TappedStream) → (s : LineSlip) → (y : Fed) → IsSlippedTap t s y → IsNoticed t s
       → before.left ≡ Some t.bytes → Unless (IsTrackedAcross content_track_listing t s y) status before after
   pub content_relock_slip_passes : IsCommand words RecoverContentRelock → (t : TappedStream) → (s : LineSlip) → (y : Fed) → IsSlippedTap t s y → IsUnnoticed t s
-      → before.left ≡ Some t.bytes → Unless (IsTrackedAsOne RecoverContent content_listing t s y) status before after
+      → before.left ≡ Some t.bytes → Unless (IsTrackedAsOne content_listing t s y) status before after
   pub content_relock_again : IsCommand words RecoverContentRelock → (t : AgainStream) → ComesAgain t → before.left ≡ Some t.bytes
       → Unless (λ _ held holds. IsRelockedAgain content_track_listing t held holds) status before after
   -- `relay` sends on what was received of the periods that were sent, from the first full alignment on; or it ends with 3 and

@@ -29,6 +29,7 @@ pub mod PacketsListed
 pub mod Rasters
 pub mod Said
 pub mod SaidPackets
+pub mod ContentTaken
 pub mod Text
 pub mod Digits
 pub mod LineForms

@@ -137,17 +137,17 @@ module _ {A : Type 0} where
   among_cases x y xs [] after P h here later = let e : x ≡ y = cc in subst P e here
   among_cases x y xs (b ∷ before) after P h here later = let e : xs ≡ before ++ (y ∷ after) = cc in later (before, after, e)
 
+  filter_more : (xs kept_ones : List A) (x y : A) (kept : Bool) → (IsAmong kept_ones y → IsAmong xs y) → IsAmong (cond kept (x ∷ kept_ones) kept_ones) y → IsAmong (x ∷ xs) y
+  filter_more xs kept_ones x y false more h = among_more x y xs (more h)
+  filter_more xs kept_ones x y true more h = among_cases x y kept_ones h.0 h.1 (λ z. IsAmong (x ∷ xs) z) h.2 ([], xs, refl) (λ later. among_more x y xs (more later))
+
   among_filter : (test : A → Bool) (xs : List A) (y : A) → IsAmong (filter test xs) y → IsAmong xs y
   among_filter test [] y h = absurd (nothing h.0 h.1 h.2)
     where
       nothing : (before after : List A) → [] ≡ before ++ (y ∷ after) → ⊥
       nothing [] after e = cc e
       nothing (b ∷ before) after e = cc e
-  among_filter test (x ∷ xs) y h = by (test x) h
-    where
-      by : (kept : Bool) → IsAmong (cond kept (x ∷ filter test xs) (filter test xs)) y → IsAmong (x ∷ xs) y
-      by false k = among_more x y xs (among_filter test xs y k)
-      by true k = among_cases x y (filter test xs) k.0 k.1 (λ z. IsAmong (x ∷ xs) z) k.2 ([], xs, refl) (λ later. among_more x y xs (among_filter test xs y later))
+  among_filter test (x ∷ xs) y h = filter_more xs (filter test xs) x y (test x) (among_filter test xs y) h
 
   are_filter : (test : A → Bool) (xs ys : List A) → AreAmong (filter test xs) ys → AreAmong xs ys
   are_filter test xs [] h = tt

@@ -37,7 +37,7 @@ padded_bytes : (payload : List ℕ) → All IsByte payload → All IsByte (padde
 padded_bytes payload h = All-append IsByte payload (replicate (27 - length payload) 0) h (All-replicate IsByte (27 - length payload) 0 (omega arith))
 
 padded_long : (payload : List ℕ) → length payload ≤ 27 → length (padded payload) ≡ 27
-padded_long payload few = let a = length-append payload (replicate (27 - length payload) 0) in let b = length-replicate (27 - length payload) 0 in omega (arith, a, b)
+padded_long payload few = let a = length-append payload (replicate (27 - length payload) 0) in let b = length-replicate {A = ℕ} (27 - length payload) 0 in omega (arith, a, b)
 
 -- a payload of an InfoFrame
 record IsPayload (x : Info) (payload : List ℕ) : Type 0 where
@@ -55,9 +55,9 @@ whole x h =
     let size = padded_long (payload_of x) (omega arith) in
     record {
       header = refl;
-      header_bytes = All-cons IsByte (type_of x) _ h.type_code (All-cons IsByte (version_of x) _ h.version (All-cons IsByte (length_of x) [] (omega arith) (All-nil IsByte)));
+      header_bytes = All-cons IsByte (type_of x) (version_of x ∷ length_of x ∷ []) h.type_code (All-cons IsByte (version_of x) (length_of x ∷ []) h.version (All-cons IsByte (length_of x) [] (omega arith) (All-nil IsByte)));
       bodies = omega (arith, size);
-      body_bytes = All-cons IsByte _ (padded (payload_of x)) (omega arith) (padded_bytes (payload_of x) h.bytes);
+      body_bytes = All-cons IsByte (balance (type_of x + version_of x + length_of x + sum (payload_of x))) (padded (payload_of x)) (omega arith) (padded_bytes (payload_of x) h.bytes);
       sync = refl;
     }
 
@@ -98,7 +98,7 @@ said_by x zeros h says reserved =
 
 bar_bytes_below : (bars : List ℕ) → All IsByte (bar_bytes bars)
 bar_bytes_below [] = All-nil IsByte
-bar_bytes_below (bar ∷ bars) = All-cons IsByte (bar % 256) _ (omega arith) (All-cons IsByte (bar / 256 % 256) (bar_bytes bars) (omega arith) (bar_bytes_below bars))
+bar_bytes_below (bar ∷ bars) = All-cons IsByte (bar % 256) (bar / 256 % 256 ∷ bar_bytes bars) (omega arith) (All-cons IsByte (bar / 256 % 256) (bar_bytes bars) (omega arith) (bar_bytes_below bars))
 
 bar_bytes_long : (bars : List ℕ) → length (bar_bytes bars) ≡ 2 * length bars
 bar_bytes_long [] = refl
@@ -108,6 +108,9 @@ avi_payload : (x : AviFields) → AviBounds x → length x.bars ≡ 4 → IsPayl
 unfolding payload_of
 avi_payload x b four =
     let bars = bar_bytes_long x.bars in
+    let b1 : ℕ = x.s + 4 * x.b + 16 * x.a + 32 * x.y in
+    let b2 : ℕ = x.r + 16 * x.m + 64 * x.c in
+    let b3 : ℕ = x.sc + 4 * x.q + 16 * x.ec + 128 * x.itc in
     let s = b.s in
     let bb = b.b in
     let a = b.a in
@@ -125,7 +128,8 @@ avi_payload x b four =
       long = omega (arith, bars, four);
       few = omega arith;
       bytes =
-          All-cons IsByte _ _ (omega arith) (All-cons IsByte _ _ (omega arith) (All-cons IsByte _ _ (omega arith) (All-cons IsByte _ _ (omega arith) (All-cons IsByte _ _ (omega arith) (bar_bytes_below x.bars)))));
+          All-cons IsByte b1 (b2 ∷ b3 ∷ x.vic ∷ x.pr ∷ bar_bytes x.bars) (omega arith) (All-cons IsByte b2 (b3 ∷ x.vic ∷ x.pr ∷ bar_bytes x.bars) (omega arith)
+              (All-cons IsByte b3 (x.vic ∷ x.pr ∷ bar_bytes x.bars) (omega arith) (All-cons IsByte x.vic (x.pr ∷ bar_bytes x.bars) (omega arith) (All-cons IsByte x.pr (bar_bytes x.bars) (omega arith) (bar_bytes_below x.bars)))));
       type_code = omega arith;
       version = omega arith;
     }
@@ -139,6 +143,9 @@ avi_said x b four below =
 audio_payload : (x : AudioInfo) → AudioBounds x → x.ca < 256 → IsPayload (Audio x) (payload_of (Audio x))
 unfolding payload_of
 audio_payload x b ca =
+    let b1 : ℕ = x.cc + 16 * x.ct in
+    let b2 : ℕ = x.ss + 4 * x.sf in
+    let b5 : ℕ = 8 * x.lsv + 128 * x.dm in
     let channels = b.cc in
     let ct = b.ct in
     let ss = b.ss in
@@ -149,7 +156,8 @@ audio_payload x b ca =
       long = refl;
       few = omega arith;
       bytes =
-          All-cons IsByte _ _ (omega arith) (All-cons IsByte _ _ (omega arith) (All-cons IsByte _ _ (omega arith) (All-cons IsByte _ _ (omega arith) (All-cons IsByte _ _ (omega arith) (All-replicate IsByte 5 0 (omega arith))))));
+          All-cons IsByte b1 (b2 ∷ 0 ∷ x.ca ∷ b5 ∷ replicate 5 0) (omega arith) (All-cons IsByte b2 (0 ∷ x.ca ∷ b5 ∷ replicate 5 0) (omega arith) (All-cons IsByte 0 (x.ca ∷ b5 ∷ replicate 5 0) (omega arith)
+              (All-cons IsByte x.ca (b5 ∷ replicate 5 0) (omega arith) (All-cons IsByte b5 (replicate 5 0) (omega arith) (All-replicate IsByte 5 0 (omega arith))))));
       type_code = omega arith;
       version = omega arith;
     }

@@ -6,6 +6,7 @@ ghost use Rattle.listing_laws.specs.ListingLaws.{FrameLinesComeBack, LinesOfPayl
 ghost use Rattle.listing_laws.specs.PacketLaws.{PacketsComeBack, OnePacketAsSent, RasterPackets};
 ghost use Rattle.listing_laws.specs.Rasters.{RastersCome, HasRaster};
 ghost use Rattle.listing_laws.specs.Said.{ContentFieldsAreListed, FieldsAreListed, ListedIsSaid, SaidLines};
+ghost use Rattle.listing_laws.specs.Taken.{TakenIsContent};
 
 /// Of the account of a raster's columns, received with sparse damage wherever it lies, the rows are listed of exactly
 /// those frames of whose sync lines three neighbouring control columns were received with VSYNC active: each row that
@@ -85,6 +86,11 @@ pub fn content_fields_are_listed()
 /// The line of an InfoFrame in a content listing gives a packet that says its fields.
 pub fn listed_is_said()
     ensures { ListedIsSaid }
+{}
+
+/// A content listing that is taken gives rows of bytes, and packets of bytes.
+pub fn taken_is_content()
+    ensures { TakenIsContent }
 {}
 
 /// Columns that spell a raster that is not refused, and whose bytes are content, are received for it with no damage.
