@@ -1,5 +1,7 @@
 -- A Null packet, an AVI InfoFrame, clock numbers and a sample.
-use Rattle.std.proofs.Common.{◌≡◌, ℕ, true, List, [], ◌∷◌, ◌++◌, map, length, replicate, refl, arith}
+use Rattle.std.proofs.Common.{◌≡◌, ℕ, ◌+◌, ◌*◌, ◌%◌, ◌==◌, Bool, true, false, List, [], ◌∷◌, ◌++◌, map, length, replicate, refl, ap, ap₂, ◌∙◌, arith, Ok}
+use Rattle.std.specs.Prelude.{count_ones}
+use Rattle.std.proofs.lemmas.Nat.{ones_cat}
 use Rattle.tmds_word.specs.Bits.{number}
 use Rattle.tmds_word.proofs.Below.{passes_below}
 use Rattle.terc4.specs.Tables.{terc_words, value_in, is_terc, is_in}
@@ -15,7 +17,10 @@ use Rattle.infoframe.specs.Fields.{number_of, field, avi_of, avi_table}
 use Rattle.infoframe.specs.Frames.{length_in, frame_in, sum_of, kind_of, has_length, answer, frame_of}
 use Rattle.infoframe.specs.Written.{info_as, info_of}
 use Rattle.listing_reader.specs.InfoPackets.{payload_of, info_packet}
-use Rattle.worked_rows.specs.Fields.{zeros, null, null_columns, IsNull, avi, avi_packet, IsAvi, clock_packet, IsClock, sample, sample_packet, IsSampleRow}
+use Rattle.audio_packets.specs.Samples.{is_even, samples_of, samples_packet, side_bits}
+use Rattle.audio_packets.specs.declared.sample.SampleNote.{SampleNote}
+use Rattle.listing_reader.specs.InfoPackets.{no_sync}
+use Rattle.worked_rows.specs.Fields.{packet, zeros, null, null_columns, IsNull, avi, avi_packet, IsAvi, clock_packet, IsClock, sample, sample_packet, IsSampleRow}
 use Rattle.worked_rows.proofs.Carrying.{packet_whole, all_terc, IsCarried, is_marked, carries}
 
 header_carried : IsCarried (header_bits (map column_words null_columns)) (zeros 3) 0
@@ -65,6 +70,50 @@ clock_row = record {
   refused = refl;
 }
 
+-- the ones of the left value, byte by byte: counting takes as many steps as a number is large
+
+first_byte : count_ones 0x12 ≡ 2
+unfolding lib.Count.ones
+first_byte = refl
+
+second_byte : count_ones 0x34 ≡ 3
+unfolding lib.Count.ones
+second_byte = refl
+
+third_byte : count_ones 0x56 ≡ 4
+unfolding lib.Count.ones
+third_byte = refl
+
+none : count_ones 0 ≡ 0
+unfolding lib.Count.ones
+none = refl
+
+nine : count_ones 0x123456 ≡ 9
+nine = ones_cat 8 0x1234 0x56 (omega arith) ∙ ap₂ (λ a b. a + b) (ones_cat 8 0x12 0x34 (omega arith) ∙ ap₂ (λ a b. a + b) first_byte second_byte) third_byte
+
+left_side : side_bits 0x123456 0 ≡ 8
+left_side = ap₂ (λ a b. 0 + 8 * ((a + b) % 2)) nine none
+
+right_side : side_bits 0 0 ≡ 0
+right_side = ap (λ a. 0 + 8 * ((a + a) % 2)) none
+
+even_at : (value flags parity ones : ℕ) (even : Bool) → count_ones value ≡ ones → count_ones flags ≡ 0 → ((ones + 0 + parity) % 2 == 0) ≡ even → is_even value flags parity ≡ even
+even_at value flags parity ones even v f e = ap₂ (λ a b. (a + b + parity) % 2 == 0) v f ∙ e
+
+sample_written : samples_packet (sample ∷ []) no_sync ≡ sample_packet 8
+unfolding number
+sample_written = ap₂ (λ l r. packet (2 ∷ 1 ∷ 0x10 ∷ []) (0x56 ∷ 0x34 ∷ 0x12 ∷ 0 ∷ 0 ∷ 0 ∷ (l + 16 * r) ∷ zeros 21)) left_side right_side
+
+abbrev note : Bool → Bool → List SampleNote
+note l r = record { place = 0; sample = sample; left_even = l; right_even = r } ∷ []
+
+sample_read : samples_of (sample_packet 8) spotless ≡ Ok (note true true)
+unfolding first_lost
+sample_read = ap₂ (λ l r. Ok (note l r)) (even_at 0x123456 0 1 9 true nine none refl) (even_at 0 0 0 0 true none none refl)
+
+sample_uneven : samples_of (sample_packet 0) spotless ≡ Ok (note false true)
+unfolding first_lost
+sample_uneven = ap₂ (λ l r. Ok (note l r)) (even_at 0x123456 0 0 9 false nine none refl) (even_at 0 0 0 0 true none none refl)
+
 pub sample_row : IsSampleRow
-unfolding first_lost number
-sample_row = record { written = refl; read = refl; uneven = refl }
+sample_row = record { written = sample_written; read = sample_read; uneven = sample_uneven }

@@ -9,3 +9,5 @@ pub mod Fields
 pub mod IslandRead
 pub mod IslandSpelled
 pub mod IslandHeard
+pub mod Content
+pub mod Taps

@@ -6,13 +6,17 @@
 //! - a line of one red pixel: its listing, its columns, its capture, and what `make link` makes of the listing;
 //! - the characters of black and of white pixels, and the block of a packet's header;
 //! - a Null packet, an AVI InfoFrame, clock numbers and a sample, each written and read;
-//! - a data island and a line: the listing, the columns, and what is heard of them with a mended and with a lost block.
+//! - a data island and a line: the listing, the columns, and what is heard of them with a mended and with a lost block;
+//! - a tap with an offset and skews, damaged pixels, a capture that ends within an island, and noise: what is heard of them;
+//! - two frames: the content listing, the periods of their raster, and the content listing of what is heard of the columns.
 #![tactic(auto)]
 
 ghost use Rattle.worked_rows.specs.Codes.{IsBlackRow, IsHeaderBlock, IsWhiteRow};
+ghost use Rattle.worked_rows.specs.Content.{ContentIsHeard, ContentIsRaster, ContentIsRead};
 ghost use Rattle.worked_rows.specs.Fields.{IsAvi, IsClock, IsNull, IsSampleRow};
 ghost use Rattle.worked_rows.specs.Island.{IslandIsHeard, IslandIsLost, IslandIsMended, IslandIsRead, IslandIsSpelled};
 ghost use Rattle.worked_rows.specs.Row.{IsRead, IsCaptured, IsSpelled, IsHeard, IsMade};
+ghost use Rattle.worked_rows.specs.Taps.{CutIsHeard, NoiseIsHeard, PixelIsHeard, SkewedIsHeard};
 
 /// The listing of one red pixel reads as its periods.
 pub fn is_read()
@@ -97,4 +101,39 @@ pub fn island_mended()
 /// With two damaged characters in one column of the packet, a block is lost.
 pub fn island_lost()
     ensures { IslandIsLost }
+{}
+
+/// The content listing of two frames reads as their mode and their rows.
+pub fn content_read()
+    ensures { ContentIsRead }
+{}
+
+/// They have a raster, which has these periods.
+pub fn content_raster()
+    ensures { ContentIsRaster }
+{}
+
+/// What is heard of the raster's columns has the rows of the second frame, and the frame.
+pub fn content_heard()
+    ensures { ContentIsHeard }
+{}
+
+/// What is heard of a tap with an offset and skews begins with the first control period that all lanes have.
+pub fn skewed_row()
+    ensures { SkewedIsHeard }
+{}
+
+/// A damaged character of a pixel is listed as it was received, with a fault if it is no character that a source sends there.
+pub fn pixel_row()
+    ensures { PixelIsHeard }
+{}
+
+/// What is heard of a capture that ends within a packet ends with `cut`, which is no fault.
+pub fn cut_row()
+    ensures { CutIsHeard }
+{}
+
+/// A column of three characters 0 between control columns is noise.
+pub fn noise_row()
+    ensures { NoiseIsHeard }
 {}
