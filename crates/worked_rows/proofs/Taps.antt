@@ -11,6 +11,7 @@ use Rattle.lane_deskew.specs.Aligned.{aligned_columns}
 use Rattle.terc4.specs.Tables.{control_words, is_control, is_in, value_in, terc_words, video_guard, island_guard}
 use Rattle.terc4.specs.Columns.{is_control_column, one_if, video_words, island_words, is_video_guard, is_island_guard, closing_words, closes, is_twelve_or_more}
 use Rattle.tmds_code.specs.Coding.{coded_at, coded_bits, takes_xnor, minimised, balanced, decoded_bits, decoded_byte}
+use Rattle.island_pack.specs.Nibbles.{nibble_of}
 use Rattle.island_pack.specs.Periods.{has_preamble as preamble_there}
 use Rattle.period_grammar.specs.Coding.{is_coded}
 use Rattle.period_grammar.specs.Column.{control_bits, value_of, sync_digit}
@@ -36,7 +37,7 @@ unfolding line_columns aligned_columns columns_from words_of all_words words_fro
 skewed_columns = refl
 
 skewed_heard : heard_of (take 20 (drop 20 (line_columns 20 0x100 0x100 0x200))) ≡ line_events (255 ∷ 0 ∷ 0 ∷ []) [] 5
-unfolding line_columns heard_of heard_so_far at_close at_end codes_of has_preamble in_gap line_bytes line_of other_words runs stretches control_bits value_of sync_digit is_control_column one_if video_words island_words is_video_guard is_island_guard closing_words closes is_twelve_or_more control_words is_control is_in value_in terc_words video_guard island_guard coded_at coded_bits takes_xnor minimised balanced decoded_bits decoded_byte number bits_of word_bits ones zeros balance preamble_there is_coded holds_packet split packet_events closing_events in_island
+unfolding line_columns heard_of heard_so_far at_close at_end codes_of has_preamble in_gap line_bytes line_of other_words runs stretches control_bits value_of sync_digit is_control_column one_if video_words island_words is_video_guard is_island_guard closing_words closes is_twelve_or_more control_words is_control is_in value_in terc_words video_guard island_guard coded_at coded_bits takes_xnor minimised balanced decoded_bits decoded_byte number bits_of word_bits ones zeros balance preamble_there is_coded holds_packet split packet_events closing_events in_island nibble_of
 skewed_heard = refl
 
 abbrev skewed_events : List Event
@@ -50,7 +51,7 @@ unfolding line_columns aligned_columns columns_from words_of all_words words_fro
 other_columns = refl
 
 other_heard : heard_of (line_columns 0 0x100 0x100 0x201) ≡ line_events (0xfc ∷ 0 ∷ 0 ∷ []) [] 12
-unfolding line_columns heard_of heard_so_far at_close at_end codes_of has_preamble in_gap line_bytes line_of other_words runs stretches control_bits value_of sync_digit is_control_column one_if video_words island_words is_video_guard is_island_guard closing_words closes is_twelve_or_more control_words is_control is_in value_in terc_words video_guard island_guard coded_at coded_bits takes_xnor minimised balanced decoded_bits decoded_byte number bits_of word_bits ones zeros balance preamble_there is_coded holds_packet split packet_events closing_events in_island
+unfolding line_columns heard_of heard_so_far at_close at_end codes_of has_preamble in_gap line_bytes line_of other_words runs stretches control_bits value_of sync_digit is_control_column one_if video_words island_words is_video_guard is_island_guard closing_words closes is_twelve_or_more control_words is_control is_in value_in terc_words video_guard island_guard coded_at coded_bits takes_xnor minimised balanced decoded_bits decoded_byte number bits_of word_bits ones zeros balance preamble_there is_coded holds_packet split packet_events closing_events in_island nibble_of
 other_heard = refl
 
 abbrev other_events : List Event
@@ -64,7 +65,7 @@ unfolding line_columns aligned_columns columns_from words_of all_words words_fro
 wrong_columns = refl
 
 wrong_heard : heard_of (line_columns 0 0x100 0x100 0x300) ≡ line_events (1 ∷ 0 ∷ 0 ∷ []) (code 2 14 ∷ []) 12
-unfolding line_columns heard_of heard_so_far at_close at_end codes_of has_preamble in_gap line_bytes line_of other_words runs stretches control_bits value_of sync_digit is_control_column one_if video_words island_words is_video_guard is_island_guard closing_words closes is_twelve_or_more control_words is_control is_in value_in terc_words video_guard island_guard coded_at coded_bits takes_xnor minimised balanced decoded_bits decoded_byte number bits_of word_bits ones zeros balance preamble_there is_coded holds_packet split packet_events closing_events in_island
+unfolding line_columns heard_of heard_so_far at_close at_end codes_of has_preamble in_gap line_bytes line_of other_words runs stretches control_bits value_of sync_digit is_control_column one_if video_words island_words is_video_guard is_island_guard closing_words closes is_twelve_or_more control_words is_control is_in value_in terc_words video_guard island_guard coded_at coded_bits takes_xnor minimised balanced decoded_bits decoded_byte number bits_of word_bits ones zeros balance preamble_there is_coded holds_packet split packet_events closing_events in_island nibble_of
 wrong_heard = refl
 
 abbrev wrong_events : List Event
@@ -78,7 +79,7 @@ unfolding line_columns aligned_columns columns_from words_of all_words words_fro
 right_columns = refl
 
 right_heard : heard_of (line_columns 0 0x100 0x100 0x200) ≡ line_events (255 ∷ 0 ∷ 0 ∷ []) [] 12
-unfolding line_columns heard_of heard_so_far at_close at_end codes_of has_preamble in_gap line_bytes line_of other_words runs stretches control_bits value_of sync_digit is_control_column one_if video_words island_words is_video_guard is_island_guard closing_words closes is_twelve_or_more control_words is_control is_in value_in terc_words video_guard island_guard coded_at coded_bits takes_xnor minimised balanced decoded_bits decoded_byte number bits_of word_bits ones zeros balance preamble_there is_coded holds_packet split packet_events closing_events in_island
+unfolding line_columns heard_of heard_so_far at_close at_end codes_of has_preamble in_gap line_bytes line_of other_words runs stretches control_bits value_of sync_digit is_control_column one_if video_words island_words is_video_guard is_island_guard closing_words closes is_twelve_or_more control_words is_control is_in value_in terc_words video_guard island_guard coded_at coded_bits takes_xnor minimised balanced decoded_bits decoded_byte number bits_of word_bits ones zeros balance preamble_there is_coded holds_packet split packet_events closing_events in_island nibble_of
 right_heard = refl
 
 abbrev right_events : List Event
@@ -92,7 +93,7 @@ unfolding island_columns aligned_columns columns_from words_of all_words words_f
 short_columns = refl
 
 short_heard : heard_of (take 30 (island_columns 0x29c 0x263)) ≡ run 0 4 ∷ run 20 8 ∷ open_island 0 0 ∷ cut 14 ∷ []
-unfolding island_columns heard_of heard_so_far at_close at_end codes_of has_preamble in_gap line_bytes line_of other_words runs stretches control_bits value_of sync_digit is_control_column one_if video_words island_words is_video_guard is_island_guard closing_words closes is_twelve_or_more control_words is_control is_in value_in terc_words video_guard island_guard coded_at coded_bits takes_xnor minimised balanced decoded_bits decoded_byte number bits_of word_bits ones zeros balance preamble_there is_coded holds_packet split packet_events closing_events in_island
+unfolding island_columns heard_of heard_so_far at_close at_end codes_of has_preamble in_gap line_bytes line_of other_words runs stretches control_bits value_of sync_digit is_control_column one_if video_words island_words is_video_guard is_island_guard closing_words closes is_twelve_or_more control_words is_control is_in value_in terc_words video_guard island_guard coded_at coded_bits takes_xnor minimised balanced decoded_bits decoded_byte number bits_of word_bits ones zeros balance preamble_there is_coded holds_packet split packet_events closing_events in_island nibble_of
 short_heard = refl
 
 abbrev short_events : List Event
@@ -106,7 +107,7 @@ unfolding noise_columns aligned_columns columns_from words_of all_words words_fr
 noisy_columns = refl
 
 noisy_heard : heard_of (noise_columns) ≡ run 0 12 ∷ noise 12 ∷ run 0 12 ∷ []
-unfolding noise_columns heard_of heard_so_far at_close at_end codes_of has_preamble in_gap line_bytes line_of other_words runs stretches control_bits value_of sync_digit is_control_column one_if video_words island_words is_video_guard is_island_guard closing_words closes is_twelve_or_more control_words is_control is_in value_in terc_words video_guard island_guard coded_at coded_bits takes_xnor minimised balanced decoded_bits decoded_byte number bits_of word_bits ones zeros balance preamble_there is_coded holds_packet split packet_events closing_events in_island
+unfolding noise_columns heard_of heard_so_far at_close at_end codes_of has_preamble in_gap line_bytes line_of other_words runs stretches control_bits value_of sync_digit is_control_column one_if video_words island_words is_video_guard is_island_guard closing_words closes is_twelve_or_more control_words is_control is_in value_in terc_words video_guard island_guard coded_at coded_bits takes_xnor minimised balanced decoded_bits decoded_byte number bits_of word_bits ones zeros balance preamble_there is_coded holds_packet split packet_events closing_events in_island nibble_of
 noisy_heard = refl
 
 abbrev noisy_events : List Event

@@ -1,6 +1,6 @@
 -- Rows that were worked out by hand: a tap with an offset and skews, damaged pixels, a capture that ends within an island, and noise.
 -- Of each the listing of `recover link`, and of some what `check` says.
-use Rattle.std.specs.Prelude.{◌≡◌, ℕ, Bool, List, [], ◌∷◌, ◌++◌, codes}
+use Rattle.std.specs.Prelude.{◌≡◌, ℕ, ◌+◌, List, [], codes}
 use Rattle.tmds_word.specs.Column.{Column, blues, greens, reds}
 use Rattle.tmds_word.specs.Taps.{part_of}
 use Rattle.lane_deskew.specs.Aligned.{aligned_columns}
