@@ -1,7 +1,7 @@
 mod Searches
 mod BodyBytes
 mod Notes
-mod Marks
-mod WrittenClock
-mod WrittenSamples
+pub mod Marks
+pub mod WrittenClock
+pub mod WrittenSamples
 pub mod Pairs

@@ -1,6 +1,8 @@
 pub mod Ends
 pub mod Headline
 pub mod Pictures
+pub mod Fields
+pub mod FieldsExample
 pub mod Sounds
 pub mod Exact
 pub mod TrackHeadline

@@ -7,6 +7,7 @@ pub mod TrackPasses
 pub mod TrackExamples
 pub mod RelayClauses
 pub mod Pictures
+pub mod Fields
 pub mod Sounds
 pub mod Exact
 pub mod RelaySettles

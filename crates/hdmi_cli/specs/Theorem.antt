@@ -23,6 +23,7 @@ use Rattle.hdmi_cli.specs.RelaySettles.{IsWritten, IsWrittenButBit3}
 use Rattle.capture_commands.specs.Relays.{IsRelayed}
 use Rattle.period_grammar.specs.Events.{Event}
 use Rattle.relay.specs.Relayed.{relayed}
+use Rattle.hdmi_cli.specs.Fields.{AreFields}
 use Rattle.hdmi_cli.specs.Pictures.{ArePackets, ArePictures}
 use Rattle.hdmi_cli.specs.Sounds.{AreSamples}
 use Rattle.hdmi_cli.specs.Exact.{IsAlignedCapture, IsJudged}
@@ -72,6 +73,12 @@ pub record Promises (words : List (List ℕ)) (status : ℕ) (before after : Dev
   -- as it was sent.
   pub packets : IsCommand words RecoverContent → (t : TappedStream) → IsTapped t → Aligns t → before.left ≡ Some t.bytes
       → Unless (λ status held holds. FromFirst t (λ d e f a. ArePackets t d e f a held holds)) status before after
+  -- The fields that such a packet of a raster says are listed as they were sent: the line `avi ..`, `audio ..` or `acr ..` that says
+  -- them is in the output, and so is a line `s ..` for each sample. This holds for all modes and contents.
+  pub fields : IsCommand words RecoverContent
+      → (mode : Mode) (frames : List Frame) → raster_fault mode frames ≡ None → (t : TappedStream) → t.periods ≡ raster_of mode frames → IsTapped t → Aligns t
+      → before.left ≡ Some t.bytes
+      → Unless (λ status held holds. FromFirst t (λ d e f a. AreFields frames t d e f a held holds)) status before after
   -- Whatever is received after a column until which damage is so: `recover content` lists the row of each line and each island that
   -- was received with few words damaged, after twelve control columns and before one; so does `check`, of their faults.
   pub content_local : IsCommand words RecoverContent → (t : TappedStream) → (until : ℕ) → IsTappedUntil t until → AlignsBy t until
@@ -128,7 +135,7 @@ pub record Promises (words : List (List ℕ)) (status : ℕ) (before after : Dev
   -- where the lane had no lock before it, and then all is reported as it was sent, from the first full alignment on;
   -- nor where the lane ends before it has twelve characters of the control period after the line.
   pub track_slip_passes : IsCommand words RecoverTrack → (t : TappedStream) → (s : LineSlip) → (y : Fed) → IsSlippedTap t s y → IsUnnoticed t s
-      → before.left ≡ Some t.bytes → Unless (IsTrackedAsOne RecoverLink link_listing t s y) status before after
+      → before.left ≡ Some t.bytes → Unless (IsTrackedAsOne link_listing t s y) status before after
   -- `recover relock` writes the text of `recover link`, and across a slip what `recover track` writes: the alignment of a stream that was
   -- received with sparse damage is confirmed by the guard band after it, refuted by no other edges, and not doubted twice in a row where
   -- damage after it spares one of any two control periods in a row.
@@ -137,7 +144,7 @@ pub record Promises (words : List (List ℕ)) (status : ℕ) (before after : Dev
   pub relock_slip : IsCommand words RecoverRelock → (t : TappedStream) → (s : LineSlip) → (y : Fed) → IsSlippedTap t s y → IsNoticed t s
       → before.left ≡ Some t.bytes → Unless (IsTrackedAcross link_track_listing t s y) status before after
   pub relock_slip_passes : IsCommand words RecoverRelock → (t : TappedStream) → (s : LineSlip) → (y : Fed) → IsSlippedTap t s y → IsUnnoticed t s
-      → before.left ≡ Some t.bytes → Unless (IsTrackedAsOne RecoverLink link_listing t s y) status before after
+      → before.left ≡ Some t.bytes → Unless (IsTrackedAsOne link_listing t s y) status before after
   -- Whatever is received after a column until which damage is so, and after the next one: it writes what `recover link` does, with the row
   -- of each line and each island that stands alone. No lane may have a stray, and near the end of a control period no character may be
   -- received as a control or guard character that it was not.
@@ -168,6 +175,10 @@ pub record Promises (words : List (List ℕ)) (status : ℕ) (before after : Dev
       → Unless (λ status held holds. FromFirst t (λ d e f a. ArePictures mode frames t d e f a held holds)) status before after
   pub content_relock_packets : IsCommand words RecoverContentRelock → (t : TappedStream) → IsTapped t → StaysAligned t → before.left ≡ Some t.bytes
       → Unless (λ status held holds. FromFirst t (λ d e f a. ArePackets t d e f a held holds)) status before after
+  pub content_relock_fields : IsCommand words RecoverContentRelock
+      → (mode : Mode) (frames : List Frame) → raster_fault mode frames ≡ None → (t : TappedStream) → t.periods ≡ raster_of mode frames → IsTapped t → StaysAligned t
+      → before.left ≡ Some t.bytes
+      → Unless (λ status held holds. FromFirst t (λ d e f a. AreFields frames t d e f a held holds)) status before after
   -- By the same premises it lists the content of each line and each island that stands alone, whatever is received around it.
   pub content_relock_local : IsCommand words RecoverContentRelock → (t : TappedStream) → (until : ℕ) → IsTappedUntil t until → AlignsBy t until → StaysClear t until
       → before.left ≡ Some t.bytes
@@ -179,7 +190,7 @@ pub record Promises (words : List (List ℕ)) (status : ℕ) (before after : Dev
   pub content_relock_slip : IsCommand words RecoverContentRelock → (t : TappedStream) → (s : LineSlip) → (y : Fed) → IsSlippedTap t s y → IsNoticed t s
       → before.left ≡ Some t.bytes → Unless (IsTrackedAcross content_track_listing t s y) status before after
   pub content_relock_slip_passes : IsCommand words RecoverContentRelock → (t : TappedStream) → (s : LineSlip) → (y : Fed) → IsSlippedTap t s y → IsUnnoticed t s
-      → before.left ≡ Some t.bytes → Unless (IsTrackedAsOne RecoverContent content_listing t s y) status before after
+      → before.left ≡ Some t.bytes → Unless (IsTrackedAsOne content_listing t s y) status before after
   pub content_relock_again : IsCommand words RecoverContentRelock → (t : AgainStream) → ComesAgain t → before.left ≡ Some t.bytes
       → Unless (λ _ held holds. IsRelockedAgain content_track_listing t held holds) status before after
   -- `relay` sends on what was received of the periods that were sent, from the first full alignment on; or it ends with 3 and

@@ -1,6 +1,7 @@
 //! That words and bytes have one outcome, what one command makes of another's output, that premises of the top call's clauses can be
 //! met, and that those on slips within a line leave none out. The functions do nothing: what they ensure are the laws.
 ghost use Rattle.hdmi_cli.specs.EndToEnd.{EndToEnd, ContentEndToEnd, HasChain};
+ghost use Rattle.hdmi_cli.specs.Fields.{HasFields};
 ghost use Rattle.hdmi_cli.specs.OneOutcome.{OneOutcome};
 ghost use Rattle.hdmi_cli.specs.RelayChecked.{RelayIsClean, HasCheckedRelay};
 ghost use Rattle.hdmi_cli.specs.RelayExamples.{HasCleanCapture, HasRelayedTwice};
@@ -82,4 +83,10 @@ pub fn chain_example()
 /// A data island and a line that were relayed. `check` says `clean` of them.
 pub fn checked_relay()
     ensures { HasCheckedRelay }
+{}
+
+/// A tap of a raster whose packets say an AVI and an audio InfoFrame, clock numbers and a sample. Each of them is in the aligned
+/// columns, and was received as it was sent.
+pub fn fields_example()
+    ensures { HasFields }
 {}

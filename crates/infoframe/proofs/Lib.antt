@@ -1,7 +1,7 @@
 pub mod Lists
-mod Numbers
+pub mod Numbers
 pub mod Refusals
 pub mod Contents
 pub mod Bounds
-mod Writings
+pub mod Writings
 pub mod Law

@@ -5,6 +5,8 @@ ghost use Rattle.listing_laws.specs.LinkLaws.{AccountReadsBack};
 ghost use Rattle.listing_laws.specs.ListingLaws.{FrameLinesComeBack, LinesOfPayload, PacketLinesAreListed, PacketLinesAsSent, PacketLinesComeBack, PacketsAsSent};
 ghost use Rattle.listing_laws.specs.PacketLaws.{PacketsComeBack, OnePacketAsSent, RasterPackets};
 ghost use Rattle.listing_laws.specs.Rasters.{RastersCome, HasRaster};
+ghost use Rattle.listing_laws.specs.Said.{ContentFieldsAreListed, FieldsAreListed, ListedIsSaid, SaidLines};
+ghost use Rattle.listing_laws.specs.Taken.{TakenIsContent};
 
 /// Of the account of a raster's columns, received with sparse damage wherever it lies, the rows are listed of exactly
 /// those frames of whose sync lines three neighbouring control columns were received with VSYNC active: each row that
@@ -64,6 +66,31 @@ pub fn packet_lines_as_sent()
 /// So are those of each such packet of conforming periods, as it is reported.
 pub fn packet_lines_come_back()
     ensures { PacketLinesComeBack }
+{}
+
+/// A packet that says fields of an InfoFrame, clock numbers or samples has the lines of these, and no others.
+pub fn said_lines()
+    ensures { SaidLines }
+{}
+
+/// The lines of the fields that a packet says are in the content listing, if the packet was received whole and as it was sent.
+pub fn fields_are_listed()
+    ensures { FieldsAreListed }
+{}
+
+/// So are those of each packet of a content.
+pub fn content_fields_are_listed()
+    ensures { ContentFieldsAreListed }
+{}
+
+/// The line of an InfoFrame in a content listing gives a packet that says its fields.
+pub fn listed_is_said()
+    ensures { ListedIsSaid }
+{}
+
+/// A content listing that is taken gives rows of bytes, and packets of bytes.
+pub fn taken_is_content()
+    ensures { TakenIsContent }
 {}
 
 /// Columns that spell a raster that is not refused, and whose bytes are content, are received for it with no damage.

@@ -23,3 +23,4 @@ pub mod Pieces
 pub mod Refused
 pub mod HexPairs
 pub mod OneAnswer
+pub mod Conforming
