@@ -23,13 +23,13 @@ pub mod AccountEnds
 pub mod SkewColumns
 pub mod Uncontended
 pub mod Doubting
-pub mod Between
 pub mod Spared
+pub mod Begun
 pub mod Upholding
 pub mod UntilEnds
 pub mod Undoubted
 pub mod ClearEnds
 pub mod UndoubtedExample
-pub mod SecondSettling
-pub mod SecondExample
-pub mod TwiceExample
+pub mod WholeSettling
+pub mod SkewedExample
+pub mod WholeFromExample
