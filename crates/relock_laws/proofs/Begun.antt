@@ -37,7 +37,7 @@ two_before kinds alternates h none then le is =
     (subst (λ m. kind_at kinds m ≡ control_column) there then)
 
 -- and so is the one before that
-three_before : (kinds : List Kind) → IsAlternating kinds → (h k : ℕ) → (kind_at kinds h ≡ control_column → ⊥) → kind_at kinds (h + 1) ≡ control_column → k < 3 → k ≤ h
+pub three_before : (kinds : List Kind) → IsAlternating kinds → (h k : ℕ) → (kind_at kinds h ≡ control_column → ⊥) → kind_at kinds (h + 1) ≡ control_column → k < 3 → k ≤ h
     → kind_at kinds (h - k) ≡ control_column → ⊥
 three_before kinds alternates h zero none then lt le is = let at : h - 0 ≡ h = omega arith in none (subst (λ m. kind_at kinds m ≡ control_column) at is)
 three_before kinds alternates h (suc zero) none then lt le is = two_before kinds alternates h none then le is

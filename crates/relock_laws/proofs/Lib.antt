@@ -33,3 +33,4 @@ pub mod UndoubtedExample
 pub mod WholeSettling
 pub mod SkewedExample
 pub mod WholeFromExample
+pub mod WholeColumns

@@ -1,5 +1,6 @@
 //! Where the epochs of three lanes end whose alignment is let go too where it is refuted, or doubted.
 ghost use Rattle.relock_laws.specs.RefutingLaws.{PayloadIsLastUnrefuted, UntilIsLastUnrefuted, EndsOrIsUnrefuted, OneRefutingEnd, SlipStands, SlipEndsAlone, HasUnrefutedExample, HasSlipFirstExample};
+ghost use Rattle.relock_laws.specs.WholePeriods.{WholeComesWhole};
 ghost use Rattle.relock_laws.specs.RefutingSettled.{SettlesByRefuting, SettlesUnrefuted, SettledHasSkew, SameSkewIsLast, SameSkewIsAccounted, RecoversUnrefuted, HasWholeExample, SettlesAtWhole, WholeHasSkew, RecoversAtWhole, HasSkewedExample, HasWholeFromExample};
 
 /// The lanes of a tap whose damage lies in pixels and packets alone have one epoch.
@@ -84,6 +85,12 @@ pub fn settles_at_whole()
 /// So from there on the lanes of a tap of columns received with sparse damage have one epoch, and it has their skew.
 pub fn recovers_at_whole()
     ensures { RecoversAtWhole }
+{}
+
+/// The lanes of a tap have a control period so whose columns were received as they were sent: nineteen, the three before them and the
+/// fifteen after them.
+pub fn whole_comes_whole()
+    ensures { WholeComesWhole }
 {}
 
 /// The premise can be met: lanes with such a control period, one of which gains a character before it, so that an earlier alignment,

@@ -1,4 +1,4 @@
--- `recover relock` at the second of two control periods in a row: the text ends with the listing of what follows.
+-- `recover relock` at a control period that comes whole: the text ends with the listing of what follows.
 use Rattle.std.proofs.Common.{◌≡◌, ℕ, ◌+◌, ◌-◌, ◌*◌, ◌/◌, ◌≤◌, Bool, List, [], ◌∷◌, ◌++◌, length, drop, ap, ◌∙◌, subst, append_assoc, arith, inr, length-drop}
 use Rattle.std.specs.Prelude.{min, Some, Option, codes}
 use Rattle.std.specs.Io.KnownBytes.{Appends}
@@ -22,7 +22,7 @@ use Rattle.capture_commands.specs.TrackListings.{link_track_listing}
 use Rattle.capture_commands.specs.TrackText.{track_lines, track_lines_append, track_text, event_lines}
 use Rattle.capture_commands.specs.declared.ending.Ending.{Ending}
 use Rattle.hdmi_cli.specs.RelockAgain.{AgainStream, columns_from, IsRelockedAgain}
-use Rattle.hdmi_cli.specs.RelockSecond.{ComesTwice, columns_left, IsListedOn}
+use Rattle.hdmi_cli.specs.RelockWhole.{ComesWhole, columns_left, IsListedOn}
 use Rattle.hdmi_cli.proofs.Headline.{unless_so}
 use Rattle.hdmi_cli.proofs.RelockAgain.{relocked_again}
 
@@ -65,10 +65,10 @@ all_left t start p q r n settled same at =
     let l = length-lane_columns (words_from rest.blue (p - 120)) (words_from rest.green (q - 120)) (words_from rest.red (r - 120)) in
     omega arith
 
-listed_on : (t : AgainStream) (d e f : ℕ) → ComesTwice t d e f → (old new : Option (List ℕ)) → IsRelockedAgain link_track_listing t old new → IsListedOn t old new
-listed_on t d e f twice old new r =
-    let same = r.second d e f twice.two in
-    let w = r.written same (twice.spared, inr twice.two.second) in
+listed_on : (t : AgainStream) (n : ℕ) → ComesWhole t n → (old new : Option (List ℕ)) → IsRelockedAgain link_track_listing t old new → IsListedOn t old new
+listed_on t m comes old new r =
+    let same = r.whole m comes.whole in
+    let w = r.written same (comes.spared, inr comes.whole.good) in
     let n = w.0 in
     let ends = w.2 in
     let many = all_left t r.start r.edge_blue r.edge_green r.edge_red n r.settled same w.1 in
@@ -84,9 +84,9 @@ listed_on t d e f twice old new r =
           (subst (λ (bytes : List ℕ). Appends old new bytes) (text_splits ends.first _) ends.written);
     }
 
-pub listed_at_second : (words : List (List ℕ)) (ending : Ending) (before after : Devices) (status : ℕ) → RunEnds words ending before after → status ≡ status_of ending → IsCommand words RecoverRelock
-    → (t : AgainStream) (d e f : ℕ) → ComesTwice t d e f → before.left ≡ Some t.bytes → Unless (λ _ old new. IsListedOn t old new) status before after
-listed_at_second words ending before after status ends is named t d e f twice left =
+pub listed_at_whole : (words : List (List ℕ)) (ending : Ending) (before after : Devices) (status : ℕ) → RunEnds words ending before after → status ≡ status_of ending → IsCommand words RecoverRelock
+    → (t : AgainStream) (n : ℕ) → ComesWhole t n → before.left ≡ Some t.bytes → Unless (λ _ old new. IsListedOn t old new) status before after
+listed_at_whole words ending before after status ends is named t n comes left =
     unless_so (λ _ old new. IsRelockedAgain link_track_listing t old new) (λ _ old new. IsListedOn t old new) status before after
-    (listed_on t d e f twice before.held after.held)
-    (relocked_again words ending before after status ends is named t twice.again left)
+    (listed_on t n comes before.held after.held)
+    (relocked_again words ending before after status ends is named t comes.again left)
