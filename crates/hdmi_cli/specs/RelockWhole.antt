@@ -1,22 +1,23 @@
 -- What `recover relock` makes of a stream from one control period on that is received whole, whatever bits came before.
 use Rattle.std.specs.Prelude.{◌≡◌, ℕ, ◌+◌, ◌-◌, ◌/◌, min, List, ◌++◌, length, drop, Option}
 use Rattle.std.specs.Io.KnownBytes.{Appends}
+use Rattle.capture_file.specs.Captures.{IsCaptureOf}
 use Rattle.island_pack.specs.Periods.{Period, columns_of}
 use Rattle.link_laws.specs.Account.{account_from}
 use Rattle.link_laws.specs.Local.{twelve_before}
 use Rattle.link_sink.specs.Sinks.{Fed}
 use Rattle.listing_writer.specs.Texts.{link_text}
 use Rattle.relock_laws.specs.Doubted.{EachIsSpared}
-use Rattle.relock_laws.specs.RefutingSettled.{IsWholeGoodFrom}
-use Rattle.hdmi_cli.specs.RelockAgain.{AgainStream, ComesAgain}
+use Rattle.relock_laws.specs.WholePeriods.{ComesWholeAgain}
+use Rattle.hdmi_cli.specs.RelockAgain.{AgainStream}
 
--- One control period of n columns comes whole on all lanes, from three characters before it on: its control characters, the guard band
--- after it, and no control character among the fifteen after it. From there on damage spares the beginning or the end of each control
--- period.
-pub record ComesWhole (t : AgainStream) (n : ℕ) : Type 0 where
-  pub again : ComesAgain t
-  pub whole : IsWholeGoodFrom t.lanes t.blue t.green t.red n
-  pub spared : EachIsSpared t.periods t.sent t.received (t.a + 12)
+-- Any bits come first, and then those of a tapped stream, received with sparse damage. One control period of it came whole: its columns,
+-- nineteen at least from column j on, the three before them and the fifteen after them were received as they were sent. After it damage
+-- spares the beginning or the end of each control period.
+pub record ComesWhole (t : AgainStream) (j : ℕ) : Type 0 where
+  pub comes : ComesWholeAgain t.periods t.sent t.received t.offset t.skews t.counts t.tapped t.lanes t.before j t.a t.blue t.green t.red
+  pub captured : IsCaptureOf t.lanes.blue t.lanes.green t.lanes.red t.bytes
+  pub spared : EachIsSpared t.periods t.sent t.received (t.a + 13)
 
 -- how many whole columns three lanes have from three places on
 abbrev pub columns_left : Fed → (d e f : ℕ) → ℕ
@@ -37,4 +38,4 @@ pub record IsListedOn (t : AgainStream) (old new : Option (List ℕ)) : Type 0 w
 
 -- There is such a stream, after other bits.
 abbrev pub HasWholeStream : Type 0
-HasWholeStream = (t : AgainStream) × (n : ℕ) × ComesWhole t n
+HasWholeStream = (t : AgainStream) × (j : ℕ) × ComesWhole t j

@@ -150,7 +150,7 @@ pub record Promises (words : List (List ℕ)) (status : ℕ) (before after : Dev
       → Unless (IsHeardBy link_listing t until) status before after
   -- Whatever bits came before: from one control period on that came whole, from three characters before its beginning to fifteen after its
   -- end, it lists all that follows as it was sent.
-  pub relock_at_whole : IsCommand words RecoverRelock → (t : AgainStream) → (n : ℕ) → ComesWhole t n → before.left ≡ Some t.bytes
+  pub relock_at_whole : IsCommand words RecoverRelock → (t : AgainStream) → (j : ℕ) → ComesWhole t j → before.left ≡ Some t.bytes
       → Unless (λ _ held holds. IsListedOn t held holds) status before after
   -- `recover content relock` writes the text of `recover content`, and so the rows, frames and packets that were received.
   pub content_relock_headline : IsCommand words RecoverContentRelock → (t : TappedStream) → IsTapped t → StaysAligned t → before.left ≡ Some t.bytes

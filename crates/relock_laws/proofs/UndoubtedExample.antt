@@ -106,7 +106,7 @@ long_sent = refl
 
 -- of the first its beginning is spared, with which the stream begins
 
-control_kind : (k : Kind) → is_control_kind k ≡ true → k ≡ control_column
+pub control_kind : (k : Kind) → is_control_kind k ≡ true → k ≡ control_column
 control_kind control_column is = refl
 control_kind first_guard is = cc
 control_kind second_guard is = cc
