@@ -1,14 +1,14 @@
 -- Where control periods begin that end at the edges of an alignment, and of lanes that grow.
-use Rattle.std.proofs.Common.{◌≡◌, ◌⊎◌, ℕ, ◌+◌, ◌-◌, ◌<◌, ◌≤◌, Bool, true, false, List, ◌++◌, length, slice_index, Option, Some, None, refl, ◌∙◌, sym, subst, arith, inl, inr}
+use Rattle.std.proofs.Common.{◌≡◌, ℕ, ◌+◌, ◌-◌, ◌<◌, ◌≤◌, Bool, true, false, List, ◌++◌, length, slice_index, Option, Some, None, refl, ◌∙◌, sym, subst, arith, inl, inr}
 use Rattle.std.specs.Prelude.{MatchOption, MatchBool}
 use Rattle.std.proofs.lemmas.Bool.{cases_lt}
 use Rattle.lane_align.specs.Lanes.{IsRun, IsEdge}
 use Rattle.lane_align.proofs.Edges.{edge_within}
-use Rattle.lane_edges.specs.Begins.{IsBegin, IsBeginOf, IsLastBegin}
+use Rattle.lane_edges.specs.Begins.{IsBeginOf, IsLastBegin}
 use Rattle.lane_edges.specs.declared.finder.EdgeFinder.{EdgeFinder}
 use Rattle.lane_edges.proofs.Beginning.{begun_at_edge, begin_of_stays, begin_of_was}
 use Rattle.alignment_search.specs.Alignments.{greatest}
-use Rattle.alignment_search.specs.Begins.{BeginsSo, HasBegun, HaveBegun, HaveOneBegin}
+use Rattle.alignment_search.specs.Begins.{BeginsSo, HasBegun, HaveBegun}
 use Rattle.alignment_search.specs.Reached.{IsAt, HasLocked, HasReached, IsBound}
 use Rattle.alignment_search.specs.Searches.{HaveReached, AreBounds, AreWithin}
 use Rattle.alignment_search.specs.declared.lane.LaneEdges.{LaneEdges}

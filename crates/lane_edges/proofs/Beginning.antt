@@ -2,7 +2,7 @@
 use Rattle.std.proofs.Common.{◌≡◌, ◌⊎◌, ℕ, ◌+◌, ◌-◌, ◌*◌, ◌%◌, ◌<◌, ◌≤◌, min, Bool, true, false, List, ◌++◌, length, Option, Some, None, refl, sym, subst, arith, inl, inr}
 use Rattle.std.proofs.lemmas.Bool.{cases_lt}
 use Rattle.lane_align.specs.Lanes.{HasControl, IsLock, IsEdge}
-use Rattle.lane_align.proofs.Controls.{one_lock, control_within, run_within, not_both}
+use Rattle.lane_align.proofs.Controls.{one_lock, control_within, not_both}
 use Rattle.lane_align.proofs.Growing.{control_stays, control_was, lock_stays, lock_was}
 use Rattle.lane_edges.specs.Begins.{IsBegin, IsBeginOf, IsLastBegin}
 use Rattle.lane_edges.specs.Finders.{HasScanned, HasCounted, others_after}
@@ -208,7 +208,7 @@ begun_at_edge xs lock e finder was edge at =
     ] in
     begun_back xs e finder.next finder.begun (omega arith)
     (λ q from less b.
-        let apart = begin_apart xs lock finder.next q was.is_lock was.aligned b in
-        let p : q ≡ e = omega arith in
-        not_both xs e edge.word edge.here edge.no_control (subst (HasControl xs) p b.control))
+    let apart = begin_apart xs lock finder.next q was.is_lock was.aligned b in
+    let p : q ≡ e = omega arith in
+    not_both xs e edge.word edge.here edge.no_control (subst (HasControl xs) p b.control))
     (counted.begun few)

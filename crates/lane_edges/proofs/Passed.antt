@@ -43,8 +43,8 @@ module _ (bits xs : List Bool) (skip base count : ℕ) (holds : HoldsBits (drop 
         let past = was.past in
         counted_others xs lock now.next now.others now.begun (omega arith) (omega arith) (omega arith)
         (λ k lt has.
-            let e : now.next - 10 - 10 * k ≡ before.next + (passed - 10 - 10 * k) = omega arith in
-            other_lane (passed - 10 - 10 * k) (omega arith) (end.three k lt) (subst (HasControl xs) e has))
+        let e : now.next - 10 - 10 * k ≡ before.next + (passed - 10 - 10 * k) = omega arith in
+        other_lane (passed - 10 - 10 * k) (omega arith) (end.three k lt) (subst (HasControl xs) e has))
     | inr nought ↦
         let e : before.next ≡ now.next = omega arith in
         subst (λ n. HasCounted xs lock n now.others now.begun) e

@@ -1,5 +1,5 @@
 -- What a finder knows after it looked at one more character.
-use Rattle.std.proofs.Common.{◌≡◌, ℕ, suc, zero, ◌+◌, ◌-◌, ◌*◌, ◌%◌, ◌<◌, ◌≤◌, min, Bool, true, false, List, ◌++◌, Option, Some, None, ◌⊎◌, length, length-append, take, drop, refl, ap, ◌∙◌, sym, subst, arith, inl, inr}
+use Rattle.std.proofs.Common.{◌≡◌, ℕ, suc, zero, ◌+◌, ◌-◌, ◌*◌, ◌%◌, ◌<◌, ◌≤◌, min, Bool, true, false, List, ◌++◌, Some, None, ◌⊎◌, length, length-append, take, drop, refl, ap, ◌∙◌, sym, subst, arith, inl, inr}
 use Rattle.std.proofs.lemmas.Bool.{cases_lt}
 use Rattle.tmds_word.specs.Bits.{number}
 use Rattle.lane_align.specs.Lanes.{HasControl, IsLock, IsEdge, IsNextEdge}

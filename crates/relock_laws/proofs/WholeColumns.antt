@@ -3,7 +3,7 @@ use Rattle.std.proofs.Common.{◌≡◌, ℕ, ◌+◌, ◌-◌, ◌*◌, ◌<◌
 use Rattle.std.specs.Prelude.{slice_index}
 use Rattle.std.proofs.lemmas.List.{length-map, get_or-map}
 use Rattle.tmds_word.specs.Bits.{number, window}
-use Rattle.tmds_word.specs.Column.{Column, blues, greens, reds}
+use Rattle.tmds_word.specs.Column.{Column, blues}
 use Rattle.tmds_word.specs.Taps.{part_of, IsTap}
 use Rattle.terc4.specs.Tables.{is_control}
 use Rattle.terc4.proofs.Words.{few_turns}
@@ -19,7 +19,6 @@ use Rattle.link_laws.proofs.Freely.{free_received}
 use Rattle.link_laws.proofs.Shapes.{alternating}
 use Rattle.link_laws.proofs.Spelled.{FitsWord, FitsColumn}
 use Rattle.link_laws.proofs.Tapped.{characters}
-use Rattle.link_sink.specs.Sinks.{Fed}
 use Rattle.relock_sink.specs.Bands.{AtEdges}
 use Rattle.relock_sink.specs.Relocks.{is_announced}
 use Rattle.relock_sink.specs.Rivals.{is_guard_band}

@@ -1,5 +1,5 @@
 -- Whether an alignment is let go for the next edges.
-use Rattle.std.proofs.Common.{◌≡◌, ℕ, ◌+◌, ◌<◌, ◌≤◌, Bool, true, false, List, slice_index, inl, inr, arith}
+use Rattle.std.proofs.Common.{ℕ, ◌<◌, Bool, true, false, List, slice_index, inl, inr, arith}
 use Rattle.std.specs.Prelude.{◌^◌, MatchBool}
 use Rattle.tmds_word.specs.declared.TheConstants.{MOST_BITS}
 use Rattle.alignment_search.specs.Alignments.{greatest}
@@ -9,7 +9,6 @@ use Rattle.link_sink.specs.Sinks.{Fed}
 use Rattle.track_sink.specs.Epochs.{most_of}
 use Rattle.relock_sink.specs.Rivals.{IsRefuted}
 use Rattle.relock_sink.specs.Doubts.{IsContender, IsLetGo}
-use Rattle.relock_sink.specs.Judges.{IsOwn}
 use Rattle.relock_sink.specs.Verdicts.{Contends, Says}
 use Rattle.relock_sink.specs.RefutedDecided.{same_own}
 use Rattle.relock_sink.specs.RivalSearches.{LetGoFor, IsKnownBefore, IsKnownAfter}

@@ -1,8 +1,7 @@
 -- What is known of the edges for which an alignment is let go, when bits arrive.
-use Rattle.std.proofs.Common.{◌≡◌, ◌⊎◌, ℕ, ◌+◌, ◌≤◌, max, true, slice_index, arith, inl, inr}
+use Rattle.std.proofs.Common.{◌≡◌, max, true, slice_index, arith, inl, inr}
 use Rattle.std.proofs.lemmas.Bool.{cases_lt}
 use Rattle.link_sink.specs.Sinks.{Fed}
-use Rattle.track_sink.specs.Epochs.{most_of}
 use Rattle.track_sink.specs.Tracks.{Grows}
 use Rattle.track_sink.specs.Feds.{most_grows, grows_twice}
 use Rattle.relock_sink.specs.Growing.{first_so_stays}

@@ -1,4 +1,4 @@
-use Rattle.std.proofs.Common.{◌≡◌, ℕ, slice_index, Option, true, false, subst}
+use Rattle.std.proofs.Common.{slice_index, subst}
 use Rattle.alignment_search.proofs.Beginning.{HasBits, begin_alike, begin_apart, begin_nowhere}
 use Rattle.alignment_search.proofs.finder.AlignmentFinder.begins_so.Goals as goal
 

@@ -1,4 +1,4 @@
-use Rattle.std.proofs.Common.{◌≡◌, ◌∙◌, sym, refl}
+use Rattle.std.proofs.Common.{◌∙◌, sym, refl}
 use Rattle.alignment_search.proofs.Beginning.{last_of, none_begun, some_begun}
 use Rattle.alignment_search.proofs.lane.LaneEdges.bits_before.Goals as goal
 

@@ -1,5 +1,4 @@
 use Rattle.std.proofs.Common.{sym, subst}
-use Rattle.std.proofs.lemmas.Bool.{MatchBool-at_true, MatchBool-at_false}
 use Rattle.std.specs.Prelude.{MatchBool}
 use Rattle.relock_sink.specs.Verdicts.{Says}
 use Rattle.relock_sink.specs.RivalSearches.{LetGoFor, IsKnownBefore, IsKnownAfter}
