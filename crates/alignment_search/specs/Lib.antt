@@ -3,3 +3,4 @@ pub mod Parts
 pub mod Reached
 pub mod Searches
 pub mod OneAlignment
+pub mod Begins

@@ -2,6 +2,8 @@
 ghost use Rattle.std.specs.Prelude.{◌≡◌, ◌⊎◌, ◌<◌, ◌≤◌, ◌+◌, ◌-◌, ◌*◌, ◌^◌, ℕ, Bool, List, length, Some, IfSome, MatchOption};
 ghost use Rattle.lane_align.specs.Lanes.{IsRun, IsLock, IsNextEdge};
 ghost use Rattle.lane_edges.specs.Finders.{HasScanned, HasNoEdge};
+ghost use Rattle.lane_edges.specs.Begins.{IsBeginOf};
+ghost use Rattle.alignment_search.specs.Begins.{HasBegun};
 ghost use Rattle.alignment_search.specs.Parts.{HasRoom, IsPartOf};
 ghost use Rattle.alignment_search.specs.Reached.{IsAt, CanLook, HasReached, CanReach, IsBound};
 
@@ -80,6 +82,20 @@ impl LaneEdges {
             Some(finder) => match not_before(self.edge, from) {
                 Some(edge) => edge,
                 None => self.look_on(finder, part, base, from, limit),
+            },
+        }
+    }
+
+    /// How many bits before the edge that was found last a control period begins.
+    pub(crate) fn bits_before(&self, edge: u64) -> Option<u64>
+        requires begun { (xs : List Bool) × HasBegun xs edge self.now }
+        ensures { (xs : List Bool) → HasBegun xs edge self.now → MatchOption result ((q : ℕ) → IsBeginOf xs edge q → ⊥) (λ bits. (bits ≤ edge) × IsBeginOf xs edge (edge - bits)) }
+    {
+        match self.finder {
+            None => None,
+            Some(finder) => match finder.begun() {
+                None => None,
+                Some(begun) => Some(edge - begun),
             },
         }
     }

@@ -28,8 +28,8 @@ pub mod RelayLocal
 pub mod LocalPictures
 pub mod TrackLocal
 pub mod RelockLocal
-pub mod RelockSecond
-pub mod SecondStream
+pub mod RelockWhole
+pub mod WholeStream
 pub mod BurstExample
 pub mod Swapped
 pub mod ChainHits

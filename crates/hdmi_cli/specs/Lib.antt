@@ -18,7 +18,7 @@ pub mod DviLocal
 pub mod RelayLocal
 pub mod LocalPictures
 pub mod RelockLocal
-pub mod RelockSecond
+pub mod RelockWhole
 pub mod Chain
 pub mod EndToEnd
 pub mod RelayChecked

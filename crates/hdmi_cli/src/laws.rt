@@ -6,7 +6,10 @@ ghost use Rattle.hdmi_cli.specs.OneOutcome.{OneOutcome};
 ghost use Rattle.hdmi_cli.specs.RelayChecked.{RelayIsClean, HasCheckedRelay};
 ghost use Rattle.hdmi_cli.specs.RelayExamples.{HasCleanCapture, HasRelayedTwice};
 ghost use Rattle.hdmi_cli.specs.RelockLocal.{ClearIsUncontended, HasBurst};
-ghost use Rattle.hdmi_cli.specs.RelockSecond.{HasSecondStream};
+ghost use Rattle.hdmi_cli.specs.RelockAgain.{RelocksAgain};
+ghost use Rattle.hdmi_cli.specs.RelockWhole.{HasWholeStream};
+ghost use Rattle.capture_commands.specs.TrackListings.{link_track_listing, content_track_listing};
+ghost use Rattle.command_line.specs.declared.command.Command.TheVariants.{RecoverRelock, RecoverContentRelock};
 ghost use Rattle.hdmi_cli.specs.TrackExamples.{HasNoticedSlip, HasShortSlip, HasUnlockedSlip};
 ghost use Rattle.hdmi_cli.specs.TrackPasses.{SlipsAreNoticedOrNot};
 
@@ -48,7 +51,7 @@ pub fn short_slip()
     ensures { HasShortSlip }
 {}
 
-/// No other edges contend with the alignment if, near the end of each control period, no character was received as a control or guard
+/// The alignment is let go for no other edges if, near the end of each control period, no character was received as a control or guard
 /// character that it was not.
 pub fn clear_is_uncontended()
     ensures { ClearIsUncontended }
@@ -60,9 +63,16 @@ pub fn burst()
     ensures { HasBurst }
 {}
 
-/// A capture of a stream that comes after other bits. The first of two good control periods of one skew ends in these.
-pub fn second_stream()
-    ensures { HasSecondStream }
+/// Whatever bits came before: from a control period on of which nineteen characters were received on each lane, and a guard band after
+/// it, `recover relock` lists the stream as it was sent, where its alignment has the skew of that control period.
+pub fn relock_again()
+    ensures link { RelocksAgain RecoverRelock link_track_listing }
+    ensures content { RelocksAgain RecoverContentRelock content_track_listing }
+{}
+
+/// A capture of a stream that comes after other bits, a control period of which comes whole.
+pub fn whole_stream()
+    ensures { HasWholeStream }
 {}
 
 /// A capture of which `check` says `clean`, and whose aligned columns end in a control period.

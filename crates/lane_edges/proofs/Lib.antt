@@ -1,3 +1,4 @@
+pub mod Beginning
 mod Scanning
 mod Holding
 mod Passing

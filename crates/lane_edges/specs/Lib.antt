@@ -1,3 +1,4 @@
+pub mod Begins
 pub mod Finders
 pub mod Passing
 pub mod OneFound

@@ -2,8 +2,9 @@
 ghost use Rattle.std.specs.Prelude.{◌≡◌, ◌<◌, ◌≤◌, ◌+◌, ◌-◌, ◌*◌, ◌/◌, ◌%◌, ◌^◌, max, ℕ, false, length, take, drop};
 ghost use Rattle.tmds_word.specs.Bits.{bytes_bits, number};
 ghost use Rattle.terc4.specs.Tables.{is_control};
-ghost use Rattle.lane_edges.specs.Passing.{IsPast, HasOther, Repeats, AreOthers};
+ghost use Rattle.lane_edges.specs.Passing.{IsPast, HasOther, EndsOther, Repeats, AreOthers};
 
+use crate::finder::OTHERS;
 use lane_align::RUN_BITS;
 use lane_track::eight_bytes;
 
@@ -24,8 +25,47 @@ const COMPARED: usize = 8;
 const TURNING: u32 = 2;
 
 /// How many bits can be passed from a place on, of the characters that begin in so many, since one of any twelve is no
-/// control word: the last that is passed is none.
+/// control word: the last three that are passed are none.
 pub(crate) fn passed_others(bytes: &[u8], place: u32, bits: u32) -> u32
+    requires some { 0 < bits }
+    requires room { place + bits + 23 ≤ 8 * length bytes.now }
+    requires small { place + bits < 2 ^ 31 }
+    ensures past { IsPast bits result }
+    ensures others { HasOther (bytes_bits bytes.now) place result }
+    ensures ends { 0 < result → EndsOther (bytes_bits bytes.now) place result }
+{
+    let spread = spread_others(bytes, place, bits);
+    until_three_others(bytes, place, spread)
+}
+
+/// How many of so many bits from a place on there are up to the end of the last three characters in a row that are no control
+/// words; 0 where there are none.
+fn until_three_others(bytes: &[u8], place: u32, bits: u32) -> u32
+    requires whole { bits % 10 ≡ 0 }
+    requires room { place + bits + 14 ≤ 8 * length bytes.now }
+    requires small { place + bits < 2 ^ 32 }
+    ensures within { result ≤ bits }
+    ensures whole { result % 10 ≡ 0 }
+    ensures ends { 0 < result → EndsOther (bytes_bits bytes.now) place result }
+{
+    let mut left = bits;
+    let mut others = 0;
+    while others < u32::from(OTHERS) && others * WORD_BITS < left {
+        let before = (others + 1) * WORD_BITS;
+        let at = place + left - before;
+        if may_be_control(bytes, at as usize / 8, at % 8 + 1) {
+            left -= before;
+            others = 0;
+        } else {
+            others += 1;
+        }
+    }
+    if others < u32::from(OTHERS) { 0 } else { left }
+}
+
+/// How many bits from a place on, of the characters that begin in so many, have no control word at one of any twelve characters:
+/// the last of them is none.
+fn spread_others(bytes: &[u8], place: u32, bits: u32) -> u32
     requires some { 0 < bits }
     requires room { place + bits + 23 ≤ 8 * length bytes.now }
     requires small { place + bits < 2 ^ 31 }

@@ -4,3 +4,4 @@ pub mod Refuted
 pub mod RefutingLaws
 pub mod RefutingSettled
 pub mod Doubted
+pub mod WholePeriods

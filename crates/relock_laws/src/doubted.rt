@@ -1,5 +1,5 @@
-//! When an alignment is doubted twice in a row. Each law is over definitions alone.
-ghost use Rattle.relock_laws.specs.Doubted.{PayloadHasNoContender, SlipHasNoContender, UntilIsUndoubted, ClearHasNoContender, DoubtsAtSecond, LetsGoAtSecond, HasUndoubtedExample};
+//! When an alignment is doubted. Each law is over definitions alone.
+ghost use Rattle.relock_laws.specs.Doubted.{PayloadHasNoContender, SlipHasNoContender, UntilIsUndoubted, ClearHasNoContender, DoubtsAtWhole, HasUndoubtedExample};
 
 /// By the alignment of a tap whose damage lies in pixels and packets alone no control period ends in the midst of edges of another
 /// skew at which a guard band is received whole.
@@ -13,7 +13,7 @@ pub fn slip_has_no_contender()
 {}
 
 /// Where damage is sparse, wherever it lies, spares control and guard characters until a column that each lane has, and from there on
-/// the end of one of any two control periods in a row, the alignment of a tap is not doubted twice in a row.
+/// the beginning or the end of each control period, the alignment of a tap is not doubted.
 pub fn until_is_undoubted()
     ensures { UntilIsUndoubted }
 {}
@@ -24,15 +24,10 @@ pub fn clear_has_no_contender()
     ensures { ClearHasNoContender }
 {}
 
-/// Each earlier alignment with another skew is doubted at the second of two control periods in a row of nineteen characters whose
-/// guard bands are received whole, at one skew: it is let go there at the latest.
-pub fn doubts_at_second()
-    ensures { DoubtsAtSecond }
-{}
-
-/// It is let go there, too, if other control periods end between the two at their skew.
-pub fn lets_go_at_second()
-    ensures { LetsGoAtSecond }
+/// Each earlier alignment with another skew is doubted at a control period of nineteen characters that is received whole, from three
+/// characters before it to fifteen after it: it is let go there at the latest.
+pub fn doubts_at_whole()
+    ensures { DoubtsAtWhole }
 {}
 
 /// The premises can be met: a stream with a damaged pixel beside the end of a control period, and a tap of it.

@@ -1,5 +1,5 @@
-//! The reasons for which an epoch ends: a stray of a lane, an alignment that is not confirmed, or one that is refuted or doubted twice
-//! in a row.
+//! The reasons for which an epoch ends: a stray of a lane, an alignment that is not confirmed, or one that is refuted or
+//! doubted.
 ghost use Rattle.std.specs.Prelude.{◌≡◌, ◌≤◌, ◌+◌, ◌-◌, ◌<◌, ◌^◌, None, MatchOption, IfSome};
 ghost use Rattle.link_sink.specs.Sinks.{Fed};
 ghost use Rattle.track_sink.specs.Epochs.{most_of};

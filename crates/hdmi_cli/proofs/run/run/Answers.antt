@@ -22,8 +22,7 @@ use Rattle.hdmi_cli.proofs.TrackHeadline.{stays_aligns, tracks_as_link, relocks_
 use Rattle.hdmi_cli.proofs.TrackLocal.{tracked_locally}
 use Rattle.hdmi_cli.proofs.TrackSlip.{tracked_across, relocked_across, content_relocked_across}
 use Rattle.hdmi_cli.proofs.TrackPasses.{tracked_as_one, relocked_as_one, content_relocked_as_one}
-use Rattle.hdmi_cli.proofs.RelockAgain.{relocked_again, content_relocked_again}
-use Rattle.hdmi_cli.proofs.RelockSecond.{listed_at_second}
+use Rattle.hdmi_cli.proofs.RelockWhole.{listed_at_whole}
 use Rattle.hdmi_cli.proofs.RelockLocal.{clear_is_uncontended, relocked_locally, content_relocked_locally}
 use Rattle.hdmi_cli.proofs.Fields.{fielded}
 use Rattle.hdmi_cli.proofs.Pictures.{packeted, pictured}
@@ -90,8 +89,7 @@ returns g c =
         relock_local = λ named t until tapped aligns clear.
             relocked_locally words ending before after status ends known named t until tapped aligns (clear_is_uncontended t until tapped aligns clear);
         relock_uncontended = relocked_locally words ending before after status ends known;
-        relock_again = relocked_again words ending before after status ends known;
-        relock_at_second = listed_at_second words ending before after status ends known;
+        relock_at_whole = listed_at_whole words ending before after status ends known;
         content_relock_headline = recovered StaysAligned stays_aligns content_listing RecoverContentRelock relocks_as_content words ending before after status ends known;
         content_relock_pictures = pictured StaysAligned stays_aligns RecoverContentRelock relocks_as_content words ending before after status ends known;
         content_relock_packets = packeted StaysAligned stays_aligns RecoverContentRelock relocks_as_content words ending before after status ends known;
@@ -101,7 +99,6 @@ returns g c =
         content_relock_uncontended = content_relocked_locally words ending before after status ends known;
         content_relock_slip = content_relocked_across words ending before after status ends known;
         content_relock_slip_passes = content_relocked_as_one words ending before after status ends known;
-        content_relock_again = content_relocked_again words ending before after status ends known;
         relay_headline = relay_headlined (relayed_account facts) words ending before after status ends known;
         relay_local = relayed_locally (line_relayed facts) (island_relayed facts) words ending before after status ends known;
         relay_clean = relay_passes (whole_relayed facts) words ending before after status ends known;

@@ -1,5 +1,6 @@
--- `recover relock` at the second of two control periods in a row: the text ends with the listing of what follows.
-use Rattle.std.proofs.Common.{◌≡◌, ℕ, ◌+◌, ◌-◌, ◌*◌, ◌/◌, ◌≤◌, Bool, List, [], ◌∷◌, ◌++◌, length, drop, ap, ◌∙◌, subst, append_assoc, arith, inr, length-drop}
+-- `recover relock` at a control period that comes whole: the text ends with the listing of what follows.
+use Rattle.std.proofs.Common.{◌≡◌, ℕ, ◌+◌, ◌-◌, ◌*◌, ◌/◌, ◌≤◌, Bool, List, [], ◌∷◌, ◌++◌, length, drop, ap, ◌∙◌, subst, append_assoc, arith, inl, inr, length-drop}
+use Rattle.std.proofs.lemmas.Bool.{cases_lt}
 use Rattle.std.specs.Prelude.{min, Some, Option, codes}
 use Rattle.std.specs.Io.KnownBytes.{Appends}
 use Rattle.tmds_word.specs.Words.{columns_of as lane_columns}
@@ -16,13 +17,15 @@ use Rattle.track_sink.specs.Epochs.{rest_of}
 use Rattle.track_sink.specs.TrackEvents.{TrackEvent, track_events_of}
 use Rattle.relock_sink.specs.Refuting.{refuting_rule}
 use Rattle.relock_sink.specs.Rivals.{HaveSameSkew}
-use Rattle.relock_laws.specs.RefutingSettled.{IsSettledBy}
+use Rattle.relock_laws.specs.RefutingSettled.{IsSettledBy, IsWholeGoodFrom}
+use Rattle.relock_laws.specs.Doubted.{EachIsSpared}
+use Rattle.relock_laws.proofs.WholeColumns.{whole_comes_whole}
 use Rattle.capture_commands.specs.Endings.{Devices, RunEnds, Unless, status_of}
 use Rattle.capture_commands.specs.TrackListings.{link_track_listing}
 use Rattle.capture_commands.specs.TrackText.{track_lines, track_lines_append, track_text, event_lines}
 use Rattle.capture_commands.specs.declared.ending.Ending.{Ending}
-use Rattle.hdmi_cli.specs.RelockAgain.{AgainStream, columns_from, IsRelockedAgain}
-use Rattle.hdmi_cli.specs.RelockSecond.{ComesTwice, columns_left, IsListedOn}
+use Rattle.hdmi_cli.specs.RelockAgain.{AgainStream, ComesAgain, columns_from, IsRelockedAgain}
+use Rattle.hdmi_cli.specs.RelockWhole.{ComesWhole, columns_left, IsListedOn}
 use Rattle.hdmi_cli.proofs.Headline.{unless_so}
 use Rattle.hdmi_cli.proofs.RelockAgain.{relocked_again}
 
@@ -65,10 +68,26 @@ all_left t start p q r n settled same at =
     let l = length-lane_columns (words_from rest.blue (p - 120)) (words_from rest.green (q - 120)) (words_from rest.red (r - 120)) in
     omega arith
 
-listed_on : (t : AgainStream) (d e f : ℕ) → ComesTwice t d e f → (old new : Option (List ℕ)) → IsRelockedAgain link_track_listing t old new → IsListedOn t old new
-listed_on t d e f twice old new r =
-    let same = r.second d e f twice.two in
-    let w = r.written same (twice.spared, inr twice.two.second) in
+-- it comes again, and the lanes have it whole
+again_of : (t : AgainStream) (j : ℕ) → ComesWhole t j → ComesAgain t × IsWholeGoodFrom t.lanes t.blue t.green t.red (t.a + 12 - j)
+again_of t j comes =
+    let both = whole_comes_whole t.periods t.sent t.received t.offset t.skews t.counts t.tapped t.lanes t.before j t.a t.blue t.green t.red comes.comes in
+    (record { again = both.0; captured = comes.captured }, both.1)
+
+-- its own end is spared too
+each_spared : (t : AgainStream) (j : ℕ) → ComesWhole t j → EachIsSpared t.periods t.sent t.received (t.a + 12)
+each_spared t j comes i late ends inside = elim (cases_lt (t.a + 11) i) [
+  | inl past ↦ comes.spared i (omega arith) ends inside
+  | inr here ↦
+      let long = comes.comes.whole.long in
+      inl (λ k low high. comes.comes.whole.as_sent k (omega arith) (omega arith))
+]
+
+listed_on : (t : AgainStream) (j : ℕ) → ComesWhole t j → (old new : Option (List ℕ)) → IsRelockedAgain link_track_listing t old new → IsListedOn t old new
+listed_on t j comes old new r =
+    let whole = (again_of t j comes).1 in
+    let same = r.whole (t.a + 12 - j) whole in
+    let w = r.written same (each_spared t j comes, inr whole.good) in
     let n = w.0 in
     let ends = w.2 in
     let many = all_left t r.start r.edge_blue r.edge_green r.edge_red n r.settled same w.1 in
@@ -84,9 +103,9 @@ listed_on t d e f twice old new r =
           (subst (λ (bytes : List ℕ). Appends old new bytes) (text_splits ends.first _) ends.written);
     }
 
-pub listed_at_second : (words : List (List ℕ)) (ending : Ending) (before after : Devices) (status : ℕ) → RunEnds words ending before after → status ≡ status_of ending → IsCommand words RecoverRelock
-    → (t : AgainStream) (d e f : ℕ) → ComesTwice t d e f → before.left ≡ Some t.bytes → Unless (λ _ old new. IsListedOn t old new) status before after
-listed_at_second words ending before after status ends is named t d e f twice left =
+pub listed_at_whole : (words : List (List ℕ)) (ending : Ending) (before after : Devices) (status : ℕ) → RunEnds words ending before after → status ≡ status_of ending → IsCommand words RecoverRelock
+    → (t : AgainStream) (j : ℕ) → ComesWhole t j → before.left ≡ Some t.bytes → Unless (λ _ old new. IsListedOn t old new) status before after
+listed_at_whole words ending before after status ends is named t j comes left =
     unless_so (λ _ old new. IsRelockedAgain link_track_listing t old new) (λ _ old new. IsListedOn t old new) status before after
-    (listed_on t d e f twice before.held after.held)
-    (relocked_again words ending before after status ends is named t twice.again left)
+    (listed_on t j comes before.held after.held)
+    (relocked_again words ending before after status ends is named t (again_of t j comes).0 left)

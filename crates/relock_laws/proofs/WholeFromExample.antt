@@ -1,4 +1,4 @@
--- A tap of the short stream after bits of the same skew in which another good control period ends: its first one is the second.
+-- A tap of the short stream after other bits: its first control period is received whole, and three others come before it on each lane.
 use Rattle.std.proofs.Common.{◌≡◌, ℕ, ◌+◌, ◌<◌, Bool, true, List, [], ◌∷◌, ◌++◌, length, drop, replicate, refl, subst, arith, Some, length-append}
 use Rattle.std.proofs.lemmas.List.{length-map}
 use Rattle.std.proofs.Math.Seq.{drop-append_seam}
@@ -15,27 +15,26 @@ use Rattle.link_laws.proofs.Computed.{has}
 use Rattle.link_sink.specs.Sinks.{Fed}
 use Rattle.track_laws.proofs.SlipStream.{stream, sent, received, long_received, reception}
 use Rattle.relock_laws.specs.Settled.{IsGoodPeriod, IsAgain}
-use Rattle.relock_laws.specs.RefutingSettled.{IsWholeGoodPeriod, AreTwoGood, HasTwiceExample}
+use Rattle.relock_laws.specs.RefutingSettled.{IsWholeGoodPeriod, IsWholeGoodFrom, HasWholeFromExample}
 use Rattle.relock_laws.proofs.AgainExample.{nineteen_at, nineteen, guard_apart, announced_test}
-use Rattle.relock_laws.proofs.Between.{quiet_between}
-use Rattle.relock_laws.proofs.SecondExample.{quiet_at, quiet}
-use Rattle.relock_laws.proofs.UndoubtedExample.{one_of_two}
+use Rattle.relock_laws.proofs.SkewedExample.{run_at, whole_run}
+use Rattle.relock_laws.proofs.UndoubtedExample.{each_is_spared}
 use Rattle.relock_laws.proofs.WholeExample.{other, others_at, goes_on, whole_test}
 
 -- The lanes.
 
--- so many control characters, a guard band, and characters of a line: 37 in all
-abbrev words : ℕ → ℕ → ℕ → List ℕ
-words guard controls more = replicate controls 0x354 ++ (guard ∷ (guard ∷ replicate more 0x1f0))
+-- characters of a line and so many control characters, with which the first control period is as long on each lane: 37 in all
+abbrev words : ℕ → ℕ → List ℕ
+words others controls = replicate others 0x1f0 ++ replicate controls 0x354
 
 unfoldable blue_ahead : List Bool
-blue_ahead = row_bits (words 0x2cc 21 14)
+blue_ahead = row_bits (words 37 0)
 
 unfoldable green_ahead : List Bool
-green_ahead = row_bits (words 0x133 20 15)
+green_ahead = row_bits (words 36 1)
 
 unfoldable red_ahead : List Bool
-red_ahead = row_bits (words 0x2cc 19 16)
+red_ahead = row_bits (words 35 2)
 
 unfoldable blue : List Bool
 blue = blue_ahead ++ part_of (blues received) 0 900
@@ -79,53 +78,29 @@ red_after : drop 370 red ≡ x.red
 unfolding red
 red_after = after red_ahead (part_of (reds received) 20 880) long_red
 
--- The tests of a lane whose control periods end at two places.
+-- The tests of a lane whose control period ends at a place.
 
-record HasTests (xs : List Bool) (d i : ℕ) : Type 0 where
-  first : nineteen_at xs d ≡ true
-  first_on : others_at xs d ≡ true
-  second : nineteen_at xs i ≡ true
-  second_on : others_at xs i ≡ true
-  none_between : quiet_at xs d 399 ≡ true
+record HasTests (xs : List Bool) (i : ℕ) : Type 0 where
+  good : nineteen_at xs i ≡ true
+  on : others_at xs i ≡ true
+  run : run_at xs i 24 ≡ true
 
-blue_tests : HasTests blue 210 610
-unfolding passes_below nineteen_at others_at other blue blue_ahead received values_of has window row_bits word_bits bits_of number is_control is_in control_words video_guard
-blue_tests = record { first = refl; first_on = refl; second = refl; second_on = refl; none_between = refl }
+blue_tests : HasTests blue 610
+unfolding passes_below nineteen_at others_at run_at other blue blue_ahead received values_of has window row_bits word_bits bits_of number is_control is_in control_words video_guard
+blue_tests = record { good = refl; on = refl; run = refl }
 
-green_tests : HasTests green 200 600
-unfolding passes_below nineteen_at others_at other green green_ahead received values_of has window row_bits word_bits bits_of number is_control is_in control_words video_guard
-green_tests = record { first = refl; first_on = refl; second = refl; second_on = refl; none_between = refl }
+green_tests : HasTests green 600
+unfolding passes_below nineteen_at others_at run_at other green green_ahead received values_of has window row_bits word_bits bits_of number is_control is_in control_words video_guard
+green_tests = record { good = refl; on = refl; run = refl }
 
-red_tests : HasTests red 190 590
-unfolding passes_below nineteen_at others_at other red red_ahead received values_of has window row_bits word_bits bits_of number is_control is_in control_words video_guard
-red_tests = record { first = refl; first_on = refl; second = refl; second_on = refl; none_between = refl }
+red_tests : HasTests red 590
+unfolding passes_below nineteen_at others_at run_at other red red_ahead received values_of has window row_bits word_bits bits_of number is_control is_in control_words video_guard
+red_tests = record { good = refl; on = refl; run = refl }
 
 -- Three lanes.
 
 abbrev guards : Column
 guards = column_of video_guard
-
-first_good : IsGoodPeriod fed 210 200 190
-unfolding aligned_column blue green red blue_ahead green_ahead red_ahead window row_bits word_bits bits_of number video_guard received values_of
-first_good = record {
-  blue = nineteen blue 210 (omega arith) blue_tests.first;
-  green = nineteen green 200 (omega arith) green_tests.first;
-  red = nineteen red 190 (omega arith) red_tests.first;
-  blue_green = (omega arith, omega arith);
-  green_red = (omega arith, omega arith);
-  blue_red = (omega arith, omega arith);
-  opens = record { here = guards; next = guards; is_here = refl; is_next = refl; so = announced_test };
-}
-
-first : IsWholeGoodPeriod fed 210 200 190
-unfolding aligned_column blue green red blue_ahead green_ahead red_ahead window row_bits word_bits bits_of number video_guard received values_of
-first = record {
-  good = first_good;
-  band = record { here = guards; next = guards; is_here = refl; is_next = refl; so = whole_test };
-  blue_on = goes_on blue 210 blue_tests.first_on;
-  green_on = goes_on green 200 green_tests.first_on;
-  red_on = goes_on red 190 red_tests.first_on;
-}
 
 here_test : aligned_column blue green red 610 600 590 12 ≡ Some guards
 unfolding aligned_column blue green red blue_ahead green_ahead red_ahead received values_of control_words video_guard window row_bits word_bits bits_of number
@@ -135,36 +110,35 @@ next_test : aligned_column blue green red 610 600 590 13 ≡ Some guards
 unfolding aligned_column blue green red blue_ahead green_ahead red_ahead received values_of control_words video_guard window row_bits word_bits bits_of number
 next_test = refl
 
-second_good : IsGoodPeriod fed 610 600 590
-second_good = record {
-  blue = nineteen blue 610 (omega arith) blue_tests.second;
-  green = nineteen green 600 (omega arith) green_tests.second;
-  red = nineteen red 590 (omega arith) red_tests.second;
+good : IsGoodPeriod fed 610 600 590
+good = record {
+  blue = nineteen blue 610 (omega arith) blue_tests.good;
+  green = nineteen green 600 (omega arith) green_tests.good;
+  red = nineteen red 590 (omega arith) red_tests.good;
   blue_green = (omega arith, omega arith);
   green_red = (omega arith, omega arith);
   blue_red = (omega arith, omega arith);
   opens = record { here = guards; next = guards; is_here = here_test; is_next = next_test; so = announced_test };
 }
 
-second : IsWholeGoodPeriod fed 610 600 590
-second = record {
-  good = second_good;
+whole : IsWholeGoodPeriod fed 610 600 590
+whole = record {
+  good = good;
   band = record { here = guards; next = guards; is_here = here_test; is_next = next_test; so = whole_test };
-  blue_on = goes_on blue 610 blue_tests.second_on;
-  green_on = goes_on green 600 green_tests.second_on;
-  red_on = goes_on red 590 red_tests.second_on;
+  blue_on = goes_on blue 610 blue_tests.on;
+  green_on = goes_on green 600 green_tests.on;
+  red_on = goes_on red 590 red_tests.on;
 }
 
-two : AreTwoGood fed 210 200 190 610 600 590
-two = record {
-  first = first;
-  second = second;
-  later = omega arith;
-  same_skew = (refl, refl);
-  between = quiet_between fed 210 200 190 610 600 590 (quiet blue 210 399 610 blue_tests.none_between (omega arith)) (quiet green 200 399 600 green_tests.none_between (omega arith)) (quiet red 190 399 590 red_tests.none_between (omega arith));
+whole_from : IsWholeGoodFrom fed 610 600 590 24
+whole_from = record {
+  good = whole;
+  blue = whole_run blue 610 24 (omega arith) blue_tests.run;
+  green = whole_run green 600 24 (omega arith) green_tests.run;
+  red = whole_run red 590 24 (omega arith) red_tests.run;
 }
 
--- The second is that of the tap.
+-- It is that of the tap.
 
 here_kind : kind_at (kinds_of stream) 23 ≡ control_column
 unfolding stream kinds_of kinds_in values_of
@@ -202,7 +176,7 @@ again =
       blue_whole = omega arith;
       green_whole = omega arith;
       red_whole = omega arith;
-      good = second_good;
+      good = good;
     }
 
 short : length fed.blue + length fed.green + length fed.red < 4000
@@ -223,6 +197,6 @@ short =
     let z = long_red in
     omega arith
 
-pub twice_example : HasTwiceExample
-twice_example =
-    (stream, sent, received, 0, 0 ∷ (10 ∷ (20 ∷ [])), 900 ∷ (890 ∷ (880 ∷ [])), x, fed, 370 ∷ (370 ∷ (370 ∷ [])), 12, 210, 200, 190, 610, 600, 590, again, two, one_of_two, short)
+pub whole_from_example : HasWholeFromExample
+whole_from_example =
+    (stream, sent, received, 0, 0 ∷ (10 ∷ (20 ∷ [])), 900 ∷ (890 ∷ (880 ∷ [])), x, fed, 370 ∷ (370 ∷ (370 ∷ [])), 12, 610, 600, 590, 24, again, whole_from, each_is_spared, short)
