@@ -16,7 +16,7 @@ const RUN_SPAN: u64 = RUN_BITS as u64 - 1;
 /// How far apart two edges of an alignment are at most.
 const NEAR: u64 = GREATEST_SKEW as u64;
 
-/// Bits of three lanes that are lent, from one place of all on.
+/// Bits of three lanes that are borrowed, from one place of all on.
 #[derive(Clone, Copy)]
 pub struct LaneParts<'a> {
     pub blue: LanePart<'a>,
@@ -148,7 +148,7 @@ impl AlignmentFinder {
     }
 }
 
-/// Whether bits are so many.
+/// Whether bits are this many.
 fn are_so_many(found: Option<u64>, bits: u64) -> bool
     ensures { IsTrue result ↔ (found ≡ Some bits) }
 {

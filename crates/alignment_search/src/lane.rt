@@ -20,7 +20,7 @@ const RUN_SPAN: u32 = RUN_BITS - 1;
 /// The phase at which nothing is left out.
 const ANY: u32 = 10;
 
-/// Bits of a lane that are lent: so many, after a few others of the first byte. Behind them is room for two bytes.
+/// Bits of a lane that are borrowed: this many, after a few others of the first byte. Behind them is room for two bytes.
 #[derive(Clone, Copy)]
 pub struct LanePart<'a> {
     pub bytes: &'a [u8],

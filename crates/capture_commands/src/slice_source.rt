@@ -1,4 +1,4 @@
-//! A source over bytes that are lent.
+//! A source over bytes that are borrowed.
 ghost use Rattle.std.specs.Prelude.{◌≡◌};
 
 use outside_io::{Failed, Source};

@@ -1,5 +1,5 @@
 //! That words and bytes have one outcome, what one command makes of another's output, that premises of the top call's clauses can be
-//! met, and that those on slips within a line leave none out. The functions do nothing: what they ensure are the laws.
+//! met, and that those on slips within a line leave none out. The functions have no code: their contracts are the laws.
 ghost use Rattle.hdmi_cli.specs.EndToEnd.{EndToEnd, ContentEndToEnd, HasChain};
 ghost use Rattle.hdmi_cli.specs.Fields.{HasFields};
 ghost use Rattle.hdmi_cli.specs.OneOutcome.{OneOutcome};
@@ -51,7 +51,7 @@ pub fn short_slip()
     ensures { HasShortSlip }
 {}
 
-/// The alignment is let go for no other edges if, near the end of each control period, no character was received as a control or guard
+/// The alignment is dropped for no other edges if, near the end of each control period, no character was received as a control or guard
 /// character that it was not.
 pub fn clear_is_uncontended()
     ensures { ClearIsUncontended }

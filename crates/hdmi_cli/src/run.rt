@@ -31,7 +31,7 @@ use std::thread::Threads;
 /// content listing; `recover link` reads a capture and writes its link listing while it reads, `recover track` with the
 /// slips of its lanes, `recover relock` the same from an alignment that is confirmed, until it is refuted or doubted, `recover dvi` that of a stream without guard bands, `recover content` its pictures and sound, `recover content relock` those of what `recover relock` lists,
 /// `recover biphase` the frames of one pair of channels, and `check` only the lines of its faults and of a cut and whether
-/// there was a fault; `read biphase` lists such frames; `relay` writes the capture of what was heard, sent anew; `damage`
+/// there was a fault; `read biphase` lists such frames; `relay` writes the capture of what was received, sent again; `damage`
 /// copies a capture, block by block, with the ten bits of each hit replaced, and `slip` without some bits of a lane;
 /// `sample` reads nothing, and counts what becomes of generated frames that were damaged and recovered. A worker of
 /// each lane passes the gate for each block.

@@ -16,13 +16,13 @@ const ENOUGH: u8 = RUN as u8;
 /// How many bits a character has.
 const WORD_BITS: u64 = 10;
 
-/// So many words of a run show that the next are control words too, where each is the one as many before it.
+/// This many words of a run show that the next are control words too, where each is the one as many before it.
 const REPEATED: u8 = 4;
 
 /// How many bits these have.
 const REPEATED_BITS: u64 = REPEATED as u64 * WORD_BITS;
 
-/// So many characters that are no control words make the next control word the beginning of a control period.
+/// This many characters that are no control words make the next control word the beginning of a control period.
 pub(crate) const OTHERS: u8 = 3;
 
 /// How far the characters of a lane were looked through for its edges.
@@ -161,7 +161,7 @@ fn begun_at(place: u64, control: bool, others: u8, begun: Option<u64>) -> Option
     }
 }
 
-/// How many control words run up to the character after so many bits of more.
+/// How many control words run up to the character after this many bits of more.
 fn grown(run: u8, bits: u32) -> u8
     ensures { result ≡ min (run + bits / 10) 12 }
 {

@@ -62,7 +62,7 @@ fn recover_by<S: Source, K: Sink, T: Teller>(
     }
 }
 
-/// Recovers a capture as `recover link` does, or as another hearing hears it: the ear's sink gets its listing while it is read, and the
+/// Recovers a capture as `recover link` does, or as another hearing receives it: the ear's sink gets its listing while it is read, and the
 /// teller is told what each block says. The ear is fresh. Eight records for each column that a block can have suffice in its room, and
 /// three bytes for each and 12,288 more.
 pub fn recover<H: Hears, S: Source, K: Sink, T: Teller>(
@@ -116,7 +116,7 @@ fn unheard(error: ReadCaptureError) -> Ending
     }
 }
 
-/// How it ends after its last line, and so many faults.
+/// How it ends after its last line, and this many faults.
 fn judged(last: Result<(), Failed>, faults: u64) -> Ending
     ensures { result ≡ judged_as last faults }
 {

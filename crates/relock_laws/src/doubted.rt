@@ -1,7 +1,7 @@
 //! When an alignment is doubted. Each law is over definitions alone.
 ghost use Rattle.relock_laws.specs.Doubted.{PayloadHasNoContender, SlipHasNoContender, UntilIsUndoubted, ClearHasNoContender, DoubtsAtWhole, HasUndoubtedExample};
 
-/// By the alignment of a tap whose damage lies in pixels and packets alone no control period ends in the midst of edges of another
+/// By the alignment of a tap whose damage lies only in pixels and packets no control period ends in the midst of edges of another
 /// skew at which a guard band is received whole.
 pub fn payload_has_no_contender()
     ensures { PayloadHasNoContender }
@@ -25,7 +25,7 @@ pub fn clear_has_no_contender()
 {}
 
 /// Each earlier alignment with another skew is doubted at a control period of nineteen characters that is received whole, from three
-/// characters before it to fifteen after it: it is let go there at the latest.
+/// characters before it to fifteen after it: it is dropped there at the latest.
 pub fn doubts_at_whole()
     ensures { DoubtsAtWhole }
 {}

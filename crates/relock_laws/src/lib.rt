@@ -20,7 +20,7 @@ ghost use Rattle.relock_laws.specs.Settled.{EndsOrIsLast, OneEnd, SettlesAtPerio
 pub mod doubted;
 pub mod refuted;
 
-/// The lanes of a tap whose damage lies in pixels and packets alone have one epoch.
+/// The lanes of a tap whose damage lies only in pixels and packets have one epoch.
 pub fn payload_is_last_epoch()
     ensures { PayloadIsLastEpoch }
 {}
@@ -89,7 +89,7 @@ pub fn ends_open()
     ensures { EndsOpen }
 {}
 
-/// So the alignment of a tap is refuted by no other edges: where damage lies in pixels and packets alone, and where it is sparse,
+/// So the alignment of a tap is refuted by no other edges: where damage lies only in pixels and packets, and where it is sparse,
 /// wherever it lies, and spares control and guard characters until a column that each lane has.
 pub fn true_alignment_stands()
     ensures payload { PayloadStands }

@@ -1,9 +1,9 @@
-//! Where the epochs of three lanes end whose alignment is let go too where it is refuted, or doubted.
+//! Where the epochs of three lanes end whose alignment is dropped too where it is refuted, or doubted.
 ghost use Rattle.relock_laws.specs.RefutingLaws.{PayloadIsLastUnrefuted, UntilIsLastUnrefuted, EndsOrIsUnrefuted, OneRefutingEnd, SlipStands, SlipEndsAlone, HasUnrefutedExample, HasSlipFirstExample};
 ghost use Rattle.relock_laws.specs.WholePeriods.{WholeComesWhole};
 ghost use Rattle.relock_laws.specs.RefutingSettled.{SettlesByRefuting, SettlesUnrefuted, SettledHasSkew, SameSkewIsLast, SameSkewIsAccounted, RecoversUnrefuted, HasWholeExample, SettlesAtWhole, WholeHasSkew, RecoversAtWhole, HasSkewedExample, HasWholeFromExample};
 
-/// The lanes of a tap whose damage lies in pixels and packets alone have one epoch.
+/// The lanes of a tap whose damage lies only in pixels and packets have one epoch.
 pub fn payload_is_last_unrefuted()
     ensures { PayloadIsLastUnrefuted }
 {}

@@ -1,4 +1,4 @@
-//! The edges for which the alignment of an epoch is let go.
+//! The edges for which the alignment of an epoch is dropped.
 ghost use Rattle.std.specs.Prelude.{◌≡◌, ◌⊎◌, ◌≤◌, ◌+◌, ◌-◌, ◌<◌, ◌^◌, max, MatchBool, MatchOption, IfSome};
 ghost use Rattle.lane_deskew.specs.Triples.{IsAlignment};
 ghost use Rattle.alignment_search.specs.Alignments.{greatest, least};
@@ -27,7 +27,7 @@ pub(crate) enum Own {
     Other,
 }
 
-/// How far an epoch was looked through for edges for which its first alignment is let go.
+/// How far an epoch was looked through for edges for which its first alignment is dropped.
 #[derive(Clone, Copy)]
 pub(crate) struct RivalSearch {
     alignments: AlignmentFinder,
@@ -60,7 +60,7 @@ impl RivalSearch {
         self.seek(lanes, limit)
     }
 
-    /// Looks for edges before `limit`, and answers the place at which the epoch is left where its first alignment is let go for some.
+    /// Looks for edges before `limit`, and answers the place at which the epoch is left where its first alignment is dropped for some.
     fn seek(&mut self, lanes: LentLanes<'_>, limit: u64) -> Option<u64>
         requires lent { (fed : Fed) × AreLent lanes fed × HasSoughtRivals self.old fed × (limit + 89 ≤ most_of fed) }
         requires from { lanes.base ≤ self.old.alignments.limit - 191 }
@@ -76,7 +76,7 @@ impl RivalSearch {
         None
     }
 
-    /// Whether the epoch's first alignment is let go for later edges; where none was found yet, these are it.
+    /// Whether the epoch's first alignment is dropped for later edges; where none was found yet, these are it.
     fn judge(&mut self, lanes: LentLanes<'_>, edges: [u64; 3]) -> bool
         requires found { (fed : Fed) × AreLent lanes fed × IsKnownBefore self.old.own self.old.alignments fed edges }
         requires base { lanes.base + 90 ≤ least edges }

@@ -88,7 +88,7 @@ pub fn island_spelled()
     ensures { IslandIsSpelled }
 {}
 
-/// What is heard of the columns has the listing.
+/// What is reported of the columns has the listing.
 pub fn island_heard()
     ensures { IslandIsHeard }
 {}
@@ -113,12 +113,12 @@ pub fn content_raster()
     ensures { ContentIsRaster }
 {}
 
-/// What is heard of the raster's columns has the rows of the second frame, and the frame.
+/// What is reported of the raster's columns has the rows of the second frame, and the frame.
 pub fn content_heard()
     ensures { ContentIsHeard }
 {}
 
-/// What is heard of a tap with an offset and skews begins with the first control period that all lanes have.
+/// What is reported of a tap with an offset and skews begins with the first control period that all lanes have.
 pub fn skewed_row()
     ensures { SkewedIsHeard }
 {}
@@ -128,7 +128,7 @@ pub fn pixel_row()
     ensures { PixelIsHeard }
 {}
 
-/// What is heard of a capture that ends within a packet ends with `cut`, which is no fault.
+/// What is reported of a capture that ends within a packet ends with `cut`, which is no fault.
 pub fn cut_row()
     ensures { CutIsHeard }
 {}

@@ -1,5 +1,5 @@
 //! Captures of which a damaged control character or guard band ends a control period too early or leaves it unconfirmed, or a lane
-//! of which lost whole characters, so that later edges refute the alignment, and which are aligned anew: their links, and their
+//! of which lost whole characters, so that later edges refute the alignment, and which are aligned again: their links, and their
 //! pictures.
 //! Words, input, status, output and note; the expected values were computed apart from this program.
 
