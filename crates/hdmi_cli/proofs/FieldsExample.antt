@@ -1,8 +1,8 @@
 -- A raster whose packets say an AVI and an audio InfoFrame, clock numbers and a sample, and a tap of it with skews.
-use Rattle.std.proofs.Common.{◌≡◌, ℕ, zero, suc, ◌+◌, ◌-◌, ◌*◌, ◌<◌, ◌≤◌, ◌||◌, Bool, true, false, List, [], ◌∷◌, ◌++◌, length, map, take, drop, get_or, All, refl, ap, sym, ◌∙◌, arith, Option, Some, None}
+use Rattle.std.proofs.Common.{◌≡◌, ℕ, zero, suc, ◌+◌, ◌-◌, ◌*◌, ◌<◌, ◌≤◌, ◌&&◌, ◌||◌, Bool, true, false, List, [], ◌∷◌, ◌++◌, length, map, take, drop, get_or, All, refl, ap, ap₂, sym, ◌∙◌, arith, Option, Some, None}
 use Rattle.std.specs.Prelude.{slice_index, nat_le}
 use Rattle.std.proofs.lemmas.List.{length-map}
-use Rattle.std.proofs.lemmas.List.Elements.{All-nil, All-cons}
+use Rattle.std.proofs.lemmas.List.Elements.{All-nil, All-cons, All-replicate}
 use Rattle.tmds_word.specs.Bits.{number}
 use Rattle.tmds_word.specs.Column.{Column, blues, greens, reds}
 use Rattle.tmds_word.specs.Taps.{HasSmallSkew}
@@ -10,12 +10,14 @@ use Rattle.lane_align.specs.Words.{words_from}
 use Rattle.lane_align.proofs.Words.{length-words_from}
 use Rattle.lane_deskew.specs.Aligned.{aligned_columns}
 use Rattle.lane_track.proofs.Around.{length-part}
+use Rattle.terc4.specs.Columns.{one_if}
 use Rattle.capture_file.specs.Taps.{tap_count, tap_counts, tap_of, tapped_capture}
 use Rattle.capture_file.specs.declared.writing.Tap.{Tap}
 use Rattle.capture_file.proofs.Tapped.{tap_is_tap, tap_is_captured}
 use Rattle.island_pack.specs.Conforming.{IsConforming}
 use Rattle.island_pack.specs.Kinds.{kinds_in, kinds_of, IsAfterControl}
 use Rattle.island_pack.specs.Periods.{Period, values_of, period_columns, columns_of}
+use Rattle.island_pack.specs.Spelling.{column_words}
 use Rattle.island_pack.specs.declared.packet.Packet.{Packet}
 use Rattle.island_pack.proofs.Spelled.{conforming_is_spelled}
 use Rattle.infoframe.specs.Fields.{avi_table, avi_fits, audio_table, audio_fits}
@@ -35,15 +37,18 @@ use Rattle.source_end.specs.RasterRefusals.{raster_fault}
 use Rattle.source_end.proofs.ItemFronts.{parts_at}
 use Rattle.source_end.proofs.RasterLaw.{raster_conforms}
 use Rattle.source_end.proofs.Streams.{Spells-length}
-use Rattle.link_laws.specs.Account.{damage, is_as_sent}
+use Rattle.link_laws.specs.Account.{damage, are_few, is_as_sent}
+use Rattle.period_grammar.specs.Exact.{faultless}
+use Rattle.period_grammar.specs.Island.{packet_faults}
+use Rattle.island_pack.specs.Repaired.{verdicts_of}
+use Rattle.island_pack.specs.Spelling.{Spells}
 use Rattle.link_laws.specs.Laws.{ReceivedOf, BeginColumn, HoldsEnd, AlignsUntil}
 use Rattle.link_laws.proofs.LocalExample.{many_columns}
 use Rattle.listing_reader.specs.InfoPackets.{payload_of as bytes_of_info, info_packet, no_sync}
 use Rattle.listing_laws.specs.PacketLaws.{Placed, placed, each_at, content_packets, payload_of}
 use Rattle.listing_laws.specs.Said.{Said, info, clock, samples, Says, IsAmong}
-use Rattle.listing_laws.proofs.OwnRows.{own_damage}
 use Rattle.listing_laws.proofs.SaidPackets.{listed_is_said}
-use Rattle.listing_laws.proofs.Undamaged.{undamaged}
+use Rattle.listing_laws.proofs.Undamaged.{none_unlike, undamaged}
 use Rattle.hdmi_cli.specs.Fields.{IsSaidAfter, HasFields}
 use Rattle.hdmi_cli.specs.Headline.{TappedStream, IsTapped, aligned_of}
 
@@ -59,7 +64,7 @@ abbrev numbers : Acr
 numbers = record { n = 6144; cts = 25200 }
 
 abbrev sample : Sample
-sample = record { left = 0x123456; right = 0; left_flags = 0; right_flags = 0; start = true; flat = false }
+sample = record { left = 1; right = 2; left_flags = 0; right_flags = 0; start = true; flat = false }
 
 abbrev avi_packet : Packet
 avi_packet = info_packet (AviInfo avi)
@@ -88,19 +93,22 @@ unfolding raster_fault lines_of
 taken = refl
 
 good : IsConforming periods
-unfolding periods RasterConforms info_packet bytes_of_info number
+unfolding periods RasterConforms info_packet bytes_of_info number lib.Count.ones
 good = raster_conforms mode frames taken refl
 
-sent : List Column
-sent = (conforming_is_spelled periods good).0
+spelled : (columns : List Column) × Spells periods columns
+spelled = conforming_is_spelled periods good
+
+abbrev sent : List Column
+sent = spelled.0
 
 reception : ReceivedOf periods sent sent
-reception = undamaged periods sent good (conforming_is_spelled periods good).1
+reception = undamaged periods sent good spelled.1
 
 -- six lines of 48 columns, and 32 columns after them
 long : length sent ≡ 320
-unfolding periods raster_of parts_of laid lines_of gathered columns_of period_columns values_of
-long = Spells-length periods sent (conforming_is_spelled periods good).1 ∙ refl
+unfolding periods raster_of parts_of laid lines_of gathered one_if columns_of period_columns values_of
+long = Spells-length periods sent spelled.1
 
 -- ---- the tap
 
@@ -133,7 +141,7 @@ tapped =
 -- ---- where its lanes align
 
 after : IsAfterControl (kinds_of periods) 60
-unfolding periods raster_of parts_of laid lines_of gathered kinds_of kinds_in values_of
+unfolding periods raster_of parts_of laid lines_of gathered one_if kinds_of kinds_in values_of
 after = record { before = (59, refl, refl); opens = refl }
 
 each_lane : (P : ℕ → Type 0) → P 0 → P 1 → P 2 → (lane : ℕ) → lane < 3 → P lane
@@ -155,10 +163,17 @@ aligns = record { after = after; spares = λ i le no. refl; holds = holds }
 
 -- ---- its packets
 
+own_damage : (cs : List Column) → damage cs cs ≡ 0
+unfolding damage
+own_damage [] = refl
+own_damage (c ∷ cs) = ap₂ (λ (a b : ℕ). a + b) (none_unlike (column_words c)) (own_damage cs)
+
 -- each packet is as it was sent
 as_sent : (k : Placed) → is_as_sent (take 32 (drop k.at sent)) (take 32 (drop k.at sent)) ≡ true
 unfolding is_as_sent
-as_sent k = ap (λ n. nat_le n 1 || _) (own_damage (take 32 (drop k.at sent)))
+as_sent k =
+    let cs : List Column = take 32 (drop k.at sent) in
+    ap (λ n. nat_le n 1 || (are_few cs cs && faultless (packet_faults 0 (verdicts_of cs)))) (own_damage cs)
 
 -- the aligned columns reach the end of the last packet
 reach : (a d e f : ℕ) → BeginColumn 7 (0 ∷ 70 ∷ 35 ∷ []) (a + 12) d e f → 286 ≤ a + length (aligned_of t d e f)
@@ -190,7 +205,7 @@ abbrev place : ℕ → Placed
 place i = get_or (placed 0 periods) i nowhere
 
 five : length (placed 0 periods) ≡ 5
-unfolding periods raster_of parts_of laid lines_of gathered placed each_at values_of period_columns
+unfolding periods raster_of parts_of laid lines_of gathered one_if placed each_at values_of period_columns
 five = refl
 
 -- a packet, where it stands, and what it says
@@ -210,32 +225,33 @@ said_at i n said p among says lt at same late early =
     }
 
 avi_said : IsSaidAfter frames t 60 (info (AviInfo avi))
-unfolding periods raster_of parts_of laid lines_of gathered placed each_at values_of period_columns content_packets fits avi_fits avi_table
+unfolding periods raster_of parts_of laid lines_of gathered one_if placed each_at values_of period_columns content_packets fits avi_fits avi_table
 avi_said =
     said_at 1 62 (info (AviInfo avi)) avi_packet (clock_packet ∷ [], audio_packet ∷ clock_packet ∷ sample_packet ∷ [], refl)
-    (listed_is_said (AviInfo avi) (refl, All-cons (λ bar. bar < 65536) 0 _ (omega arith) (All-cons (λ bar. bar < 65536) 0 _ (omega arith) (All-cons (λ bar. bar < 65536) 0 _ (omega arith) (All-cons (λ bar. bar < 65536) 0 _ (omega arith) (All-nil (λ bar. bar < 65536)))))) refl)
+    (listed_is_said (AviInfo avi) (refl, All-replicate (λ bar. bar < 65536) 4 0 (omega arith)) refl)
     (omega arith) refl refl (omega arith) (omega arith)
 
 audio_said : IsSaidAfter frames t 60 (info (AudioFrame audio))
-unfolding periods raster_of parts_of laid lines_of gathered placed each_at values_of period_columns content_packets fits audio_fits audio_table
+unfolding periods raster_of parts_of laid lines_of gathered one_if placed each_at values_of period_columns content_packets fits audio_fits audio_table
 audio_said =
     said_at 2 110 (info (AudioFrame audio)) audio_packet (clock_packet ∷ avi_packet ∷ [], clock_packet ∷ sample_packet ∷ [], refl)
     (listed_is_said (AudioFrame audio) (omega arith) refl) (omega arith) refl refl (omega arith) (omega arith)
 
 clock_said : IsSaidAfter frames t 60 (clock numbers)
-unfolding periods raster_of parts_of laid lines_of gathered placed each_at values_of period_columns content_packets
+unfolding periods raster_of parts_of laid lines_of gathered one_if placed each_at values_of period_columns content_packets
 clock_said =
     said_at 3 158 (clock numbers) clock_packet (clock_packet ∷ avi_packet ∷ audio_packet ∷ [], sample_packet ∷ [], refl)
     (record { n = omega arith; cts = omega arith }, refl) (omega arith) refl refl (omega arith) (omega arith)
 
 sample_said : IsSaidAfter frames t 60 (samples (sample ∷ []))
-unfolding periods raster_of parts_of laid lines_of gathered placed each_at values_of period_columns content_packets
+unfolding periods raster_of parts_of laid lines_of gathered one_if placed each_at values_of period_columns content_packets
 sample_said =
     said_at 4 254 (samples (sample ∷ [])) sample_packet (clock_packet ∷ avi_packet ∷ audio_packet ∷ clock_packet ∷ [], [], refl)
     (omega arith, omega arith, All-cons IsSample sample [] (record { left = omega arith; right = omega arith; left_flags = omega arith; right_flags = omega arith }) (All-nil IsSample), refl)
     (omega arith) refl refl (omega arith) (omega arith)
 
 pub fields_example : HasFields
+unfolding periods
 fields_example = (
   mode,
   frames,

@@ -16,7 +16,7 @@ use Rattle.source_end.specs.RasterRefusals.{raster_fault}
 use Rattle.listing_writer.specs.ContentText.{content_lines, text_of}
 use Rattle.listing_laws.specs.ListingLaws.{as_sent_at}
 use Rattle.listing_laws.specs.PacketLaws.{Placed, placed, content_packets, payload_of}
-use Rattle.listing_laws.specs.Said.{info, clock, samples, Says, IsAmong, AreFieldsOf}
+use Rattle.listing_laws.specs.Said.{Said, info, clock, samples, Says, IsAmong, AreFieldsOf}
 use Rattle.hdmi_cli.specs.Headline.{TappedStream, IsTapped, AlignsBy, aligned_of}
 
 -- the lines of the content listing of the account of the columns that are aligned at three edges, which begin with column a

@@ -1,6 +1,6 @@
 -- A content listing that is taken gives bytes and packets of bytes.
-use Rattle.std.proofs.Common.{◌≡◌, ℕ, zero, suc, ◌+◌, ◌-◌, ◌*◌, ◌/◌, ◌%◌, ◌^◌, ◌<◌, ◌≤◌, Bool, true, false, ◌&&◌, ◌==◌, if◌then◌else◌, List, [], ◌∷◌, ◌++◌, length, take, drop, replicate, get_or, All, refl, ap, sym, subst, ◌∙◌, arith, inl, inr, ◌⊎◌, Option, Some, None, Result, Ok, Err, length-append, length-drop, length-take-le}
-use Rattle.std.specs.Prelude.{nat_le, nat_lt, nat_eq, slice_index, codes, map, count_ones}
+use Rattle.std.proofs.Common.{◌≡◌, ℕ, suc, ◌+◌, ◌-◌, ◌*◌, ◌/◌, ◌%◌, ◌^◌, ◌<◌, ◌≤◌, Bool, true, false, ◌&&◌, ◌==◌, if◌then◌else◌, List, [], ◌∷◌, ◌++◌, length, take, drop, replicate, get_or, All, refl, ap, sym, subst, ◌∙◌, arith, inl, inr, ◌⊎◌, Option, Some, None, Result, Ok, Err, length-append, length-drop, length-take-le}
+use Rattle.std.specs.Prelude.{nat_le, nat_lt, nat_eq, slice_index, codes, map}
 use Rattle.std.specs.List.{list_all, starts_with, flat_map}
 use Rattle.std.proofs.lemmas.Bool.{lt-ltb, leb-true, ltb-true, eqb-true, and_parts}
 use Rattle.std.proofs.lemmas.List.{length-map, length-replicate}
@@ -11,17 +11,16 @@ use Rattle.hex.specs.declared.error.FromHexError.{FromHexError}
 use Rattle.hex.proofs.HexLemmas.{decode_of-ok}
 use Rattle.tmds_word.specs.Bits.{number}
 use Rattle.island_pack.specs.Conforming.{are_bytes}
-use Rattle.island_pack.specs.Packets.{IsPacket}
 use Rattle.island_pack.specs.declared.packet.Packet.{Packet}
 use Rattle.infoframe.specs.Written.{fits, padded}
 use Rattle.infoframe.specs.declared.content.Info.{Info}
-use Rattle.infoframe.specs.declared.content.Info.TheVariants.{Avi, Audio, Spd, Raw}
+use Rattle.infoframe.specs.declared.content.Info.TheVariants.{Spd, Raw}
 use Rattle.audio_packets.specs.Clock.{acr_packet, clock_body}
 use Rattle.audio_packets.specs.declared.clock.Acr.{Acr}
 use Rattle.audio_packets.proofs.Marks.{four_bits}
 use Rattle.audio_packets.specs.Samples.{IsSample, samples_packet, samples_header, samples_bodies, sample_body, side_bits}
 use Rattle.audio_packets.specs.declared.sample.Sample.{Sample}
-use Rattle.source_end.specs.Content.{Frame, empty_frame, is_payload, is_content, are_content, with_packet, with_row}
+use Rattle.source_end.specs.Content.{Frame, is_payload, is_content, are_content, with_packet, with_row}
 use Rattle.source_end.specs.declared.mode.Mode.{Mode}
 use Rattle.listing_reader.specs.declared.fault.ListCause.{ListCause}
 use Rattle.listing_reader.specs.ContentDrafts.{ContentDraft, no_content, with_samples, settled, with_sample, with_content, content_cause}

@@ -1,6 +1,6 @@
 -- The lines of a content listing that say what a packet says by its fields.
-use Rattle.std.proofs.Common.{◌≡◌, ℕ, zero, suc, ◌+◌, ◌-◌, ◌≤◌, Bool, true, false, ◌&&◌, ◌==◌, cond, List, [], ◌∷◌, ◌++◌, map, length, take, All, refl, ap, ap₂, sym, subst, ◌∙◌, arith, append_assoc, append-nil}
-use Rattle.std.specs.Prelude.{Option, Some, None, Result, Ok, Err, nat_le, is_some, slice_index, codes}
+use Rattle.std.proofs.Common.{◌≡◌, ℕ, ◌+◌, ◌-◌, ◌≤◌, Bool, true, false, ◌&&◌, cond, List, [], ◌∷◌, ◌++◌, map, length, take, All, refl, ap, ap₂, sym, subst, ◌∙◌, arith, append_assoc}
+use Rattle.std.specs.Prelude.{Option, None, nat_le, is_some, slice_index}
 use Rattle.std.specs.List.{filter, flat_map, enumerate_from}
 use Rattle.std.proofs.lemmas.Bool.{le-leb}
 use Rattle.std.proofs.Math.Seq.{take-append_seam}
@@ -12,15 +12,14 @@ use Rattle.island_pack.specs.declared.packet.Packet.{Packet}
 use Rattle.island_pack.specs.declared.packet.PacketVerdicts.{PacketVerdicts}
 use Rattle.infoframe.specs.Fields.{avi_of, audio_of, spd_of}
 use Rattle.infoframe.specs.Frames.{Frame, frame_in, frame_of, kind_of}
-use Rattle.infoframe.specs.Written.{padded, info_as, info_of, type_of, version_of, length_of, fits, IsWritten}
+use Rattle.infoframe.specs.Written.{padded, info_as, info_of, type_of, version_of, fits, IsWritten}
 use Rattle.infoframe.specs.declared.content.Info.{Info}
 use Rattle.infoframe.specs.declared.content.Info.TheVariants.{Avi, Audio, Spd, Raw}
-use Rattle.infoframe.specs.declared.content.InfoKind.{InfoKind}
 use Rattle.infoframe.specs.declared.content.InfoKind.TheVariants.{Avi as AviKind, Audio as AudioKind, Spd as SpdKind, Raw as RawKind}
 use Rattle.infoframe.proofs.Bounds.{raw_bounds}
 use Rattle.infoframe.proofs.Law.{written_is_read}
-use Rattle.audio_packets.specs.Clock.{IsAcr, acr_of, acr_packet}
-use Rattle.audio_packets.specs.Samples.{IsSample, even_note, samples_of, samples_packet, written_notes}
+use Rattle.audio_packets.specs.Clock.{IsAcr, acr_packet}
+use Rattle.audio_packets.specs.Samples.{IsSample, even_note, samples_packet}
 use Rattle.audio_packets.specs.declared.clock.Acr.{Acr}
 use Rattle.audio_packets.specs.declared.sample.Sample.{Sample}
 use Rattle.audio_packets.proofs.WrittenClock.{written_acr_is_read}
@@ -31,7 +30,7 @@ use Rattle.source_end.specs.Raster.{raster_of}
 use Rattle.listing_writer.specs.ContentText.{content_lines, packet_lines, carried_lines, clock_lines, sample_lines, note_lines, info_lines, info_words, sample_words}
 use Rattle.listing_laws.specs.ListingLaws.{Each, as_sent_at, reported_lines, tells_packet}
 use Rattle.listing_laws.specs.PacketLaws.{Placed, Payload, placed, ReportedPacket, received_packet, packets_received, payload_of, content_packets}
-use Rattle.listing_laws.specs.Said.{Said, info, clock, samples, Says, info_line, lines_saying, IsAmong, AreAmong, AreListed, SaidLines, FieldsAreListed, AreFieldsOf, ContentFieldsAreListed}
+use Rattle.listing_laws.specs.Said.{info, clock, samples, info_line, lines_saying, IsAmong, AreAmong, AreListed, SaidLines, FieldsAreListed, AreFieldsOf, ContentFieldsAreListed}
 use Rattle.listing_laws.proofs.Contents.{raster_packets}
 use Rattle.listing_laws.proofs.PacketLines.{lines_of_payload, packet_lines_come_back}
 use Rattle.listing_laws.proofs.PacketsListed.{packet_lines_are_listed}
@@ -179,9 +178,11 @@ are_flat (b ∷ before) after r ys h = are_right (reported_lines b) (flat_map re
 received_one : (sent received : List Column) (a e : ℕ) (before after : List Placed) (k : Placed) → a ≤ k.at → k.at + 32 ≤ e
     → IsAmong (packets_received sent received a e (before ++ (k ∷ after))) (received_packet sent received a k)
 unfolding packets_received
-received_one sent received a e [] after k from to =
-    ([], packets_received sent received a e after,
-    ap₂ (λ (s t : Bool). cond (s && t) (received_packet sent received a k ∷ []) [] ++ packets_received sent received a e after) (le-leb a k.at from) (le-leb (k.at + 32) e to))
+received_one sent received a e [] after k from to = (
+  [],
+  packets_received sent received a e after,
+  ap₂ (λ (s t : Bool). cond (s && t) (received_packet sent received a k ∷ []) [] ++ packets_received sent received a e after) (le-leb a k.at from) (le-leb (k.at + 32) e to),
+)
 received_one sent received a e (b ∷ before) after k from to =
     among_right (cond (nat_le a b.at && nat_le (b.at + 32) e) (received_packet sent received a b ∷ []) []) (packets_received sent received a e (before ++ (k ∷ after))) (received_packet sent received a k)
     (received_one sent received a e before after k from to)

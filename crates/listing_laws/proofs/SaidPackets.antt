@@ -1,12 +1,11 @@
 -- The packet that the line of an InfoFrame gives says its fields.
-use Rattle.std.proofs.Common.{◌≡◌, ℕ, zero, suc, ◌+◌, ◌-◌, ◌*◌, ◌/◌, ◌%◌, ◌<◌, ◌≤◌, true, List, [], ◌∷◌, ◌++◌, length, take, drop, replicate, get_or, All, refl, ap, ap₂, sym, subst, ◌∙◌, arith, append_assoc, length-append, inl, inr}
+use Rattle.std.proofs.Common.{◌≡◌, ℕ, ◌+◌, ◌-◌, ◌*◌, ◌/◌, ◌%◌, ◌<◌, ◌≤◌, true, List, [], ◌∷◌, ◌++◌, length, take, drop, replicate, get_or, All, refl, ap, sym, subst, ◌∙◌, arith, append_assoc, length-append, inl, inr}
 use Rattle.std.specs.Prelude.{sum}
 use Rattle.std.proofs.Math.Seq.{take-append_seam, drop-append_seam}
 use Rattle.std.proofs.lemmas.Bool.{cases_lt}
 use Rattle.std.proofs.lemmas.List.{length-take, length-replicate, get_or_past}
 use Rattle.std.proofs.lemmas.List.Elements.{All-cons, All-nil, All-append, All-replicate, All-take}
 use Rattle.island_pack.specs.Packets.{IsPacket}
-use Rattle.island_pack.specs.declared.packet.Packet.{Packet}
 use Rattle.infoframe.specs.Bytes.{AviBounds, AudioBounds, bar_bytes}
 use Rattle.infoframe.specs.Fields.{field, avi_of, avi_reserved, audio_of, audio_reserved, spd_of}
 use Rattle.infoframe.specs.Frames.{kind_of, sum_of}
@@ -20,8 +19,8 @@ use Rattle.infoframe.proofs.Bounds.{avi_bounds, audio_bounds, raw_bounds}
 use Rattle.infoframe.proofs.Contents.{avi_of_bytes, avi_free, avi_plain, audio_of_bytes, audio_free, audio_plain}
 use Rattle.infoframe.proofs.Numbers.{field_whole}
 use Rattle.infoframe.proofs.Writings.{written_from, sum_from, raw_written}
-use Rattle.listing_reader.specs.InfoPackets.{payload_of, balance, info_packet, no_sync}
-use Rattle.listing_laws.specs.Said.{IsShaped, ListedIsSaid}
+use Rattle.listing_reader.specs.InfoPackets.{payload_of, balance, info_packet}
+use Rattle.listing_laws.specs.Said.{ListedIsSaid}
 
 abbrev IsByte : ℕ → Type 0
 IsByte b = b < 256
@@ -129,7 +128,7 @@ avi_payload x b four =
       few = omega arith;
       bytes =
           All-cons IsByte b1 (b2 ∷ b3 ∷ x.vic ∷ x.pr ∷ bar_bytes x.bars) (omega arith) (All-cons IsByte b2 (b3 ∷ x.vic ∷ x.pr ∷ bar_bytes x.bars) (omega arith)
-              (All-cons IsByte b3 (x.vic ∷ x.pr ∷ bar_bytes x.bars) (omega arith) (All-cons IsByte x.vic (x.pr ∷ bar_bytes x.bars) (omega arith) (All-cons IsByte x.pr (bar_bytes x.bars) (omega arith) (bar_bytes_below x.bars)))));
+          (All-cons IsByte b3 (x.vic ∷ x.pr ∷ bar_bytes x.bars) (omega arith) (All-cons IsByte x.vic (x.pr ∷ bar_bytes x.bars) (omega arith) (All-cons IsByte x.pr (bar_bytes x.bars) (omega arith) (bar_bytes_below x.bars)))));
       type_code = omega arith;
       version = omega arith;
     }
@@ -157,7 +156,7 @@ audio_payload x b ca =
       few = omega arith;
       bytes =
           All-cons IsByte b1 (b2 ∷ 0 ∷ x.ca ∷ b5 ∷ replicate 5 0) (omega arith) (All-cons IsByte b2 (0 ∷ x.ca ∷ b5 ∷ replicate 5 0) (omega arith) (All-cons IsByte 0 (x.ca ∷ b5 ∷ replicate 5 0) (omega arith)
-              (All-cons IsByte x.ca (b5 ∷ replicate 5 0) (omega arith) (All-cons IsByte b5 (replicate 5 0) (omega arith) (All-replicate IsByte 5 0 (omega arith))))));
+          (All-cons IsByte x.ca (b5 ∷ replicate 5 0) (omega arith) (All-cons IsByte b5 (replicate 5 0) (omega arith) (All-replicate IsByte 5 0 (omega arith))))));
       type_code = omega arith;
       version = omega arith;
     }
