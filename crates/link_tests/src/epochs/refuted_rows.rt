@@ -17,7 +17,7 @@ pub(crate) static ROWS: [Doubted; 13] = [
         slips: 0,
         refuted: 1,
     },
-    // a lane gains one: a period opens by the old alignment too
+    // a lane gains one: a period opens by the old alignment too, but the control period began by the new one
     Doubted {
         bits: [420, 420, 420],
         digits: [
@@ -25,10 +25,10 @@ pub(crate) static ROWS: [Doubted; 13] = [
             "54534d35d554534d35d554534d35d533cd041f7cf0c14735d554534d35d554534d35d554533dd34cf0c1071f7cf0c1071f7cf0c107",
             "54534d35d554534d35d554534d35d5cc321b4f3cf1c4130fd554534d35d554534d35d554534d35b3ccc6134f3cf1c4134f3cf1c403",
         ],
-        epochs: 1,
-        aligned: 1,
+        epochs: 2,
+        aligned: 2,
         slips: 0,
-        refuted: 0,
+        refuted: 1,
     },
     // no lane gains any
     Doubted {
