@@ -87,8 +87,8 @@ def begins_so(lanes, locks, triple):
 
 
 def let_go(lanes, locks, own, later):
-    """The first edges of another skew at which a guard band is received whole, and in whose midst a control period ends by an alignment, that
-    refute it since nothing opens after that, or doubt it since the control period began by their skew too; none where none do."""
+    """The first edges of another skew at which a guard band is received whole, and in whose midst a control period ends by an alignment,
+    that refute it since nothing opens after that, or doubt it since the control period began by their skew too; none where none do."""
     for triple in triples(later):
         if [3, 3] in (columns_at(lanes, triple) or []) and skew_of(triple) != skew_of(own):
             is_opened = opened_between(lanes, own, triple)
@@ -98,8 +98,8 @@ def let_go(lanes, locks, own, later):
 
 
 def end_of_alignment(lanes, locks, rows):
-    """Where what shows the alignment unconfirmed, refuted or doubted ends, where the epoch ends then, and the fault line of that; none where
-    nothing does."""
+    """Where what shows the alignment unconfirmed, refuted or doubted ends, where the epoch ends then, and the fault line of that; none
+    where nothing does."""
     own = next(triples(rows), None)
     if not own or is_announced(lanes, own) is None:
         return None
