@@ -39,9 +39,9 @@
 ** A receiver allocates only in vabgrot_open, and vabgrot_close frees it all:
 **
 **   kind                              malloc calls   bytes
-**   VABGROT_LINK                      2              64,112
-**   VABGROT_DVI                       2              63,888
-**   VABGROT_TRACK, VABGROT_RELOCK     5              76,784
+**   VABGROT_LINK                      2              64,176
+**   VABGROT_DVI                       2              63,952
+**   VABGROT_TRACK, VABGROT_RELOCK     5              76,848
 **
 ** The other calls free everything that they allocate before they return:
 **
