@@ -23,28 +23,16 @@ def packet(noise):
     return f"{noise.randbytes(3).hex()} {bodies} {'0' * 32}"
 
 
-def write_listing(path, lines, columns, islands=False, width=PIXELS):
+def write_listing(path, lines, columns, islands=False):
     """Writes a link listing of noisy lines. With `islands` each has an island of one packet."""
     noise = random.Random(1)
-    pixels = [noise.randbytes(3 * width).hex() for _ in range(KINDS)]
+    pixels = [noise.randbytes(3 * PIXELS).hex() for _ in range(KINDS)]
     packets = [ISLAND.format(packet(noise)) if islands else "" for _ in range(KINDS)]
-    quiet = columns - width - 2 - 8 - 12 - (ISLAND_COLUMNS if islands else 0)
+    quiet = columns - PIXELS - 2 - 8 - 12 - (ISLAND_COLUMNS if islands else 0)
     with open(path, "w") as out:
         for line in range(lines):
             kind = line % KINDS
             out.write(f"{packets[kind]}c 00 {quiet}\nc 04 8\nv {pixels[kind]}\nc 00 12\n")
-        out.write("end\n")
-
-
-def write_full_islands(path, lines):
-    """Writes a link listing of noisy lines. Each has an island of eighteen packets, about a quarter of the columns."""
-    noise = random.Random(1)
-    pixels = [noise.randbytes(3 * PIXELS).hex() for _ in range(KINDS)]
-    packets = ["".join(f"p {packet(noise)}\n" for _ in range(MOST_PACKETS)) for _ in range(KINDS)]
-    with open(path, "w") as out:
-        for line in range(lines):
-            kind = line % KINDS
-            out.write(f"c 00 12\nc 14 8\ni 00\n{packets[kind]}e 00\nc 00 12\nc 04 8\nv {pixels[kind]}\nc 00 12\n")
         out.write("end\n")
 
 

@@ -3,37 +3,27 @@
 
     bench/library.py [--program PROGRAM] [--lines LINES] [--runs RUNS] [--processor P]
 
-PROGRAM (crates/hdmi_cli/out/hdmi_cli) makes five streams. They begin at bit 123,457 and have the skews 0, 70 and 35:
+PROGRAM (crates/hdmi_cli/out/hdmi_cli) makes three streams. They begin at bit 123,457 and have the skews 0, 70 and 35:
 
-    lines               LINES lines (2,000) of 2,200 columns with 1,920 noisy pixels, as 1,920 by 1,080 has them
-    lines and packets   the same with a data island of one packet in each line
-    long lines          half as many lines of 4,400 columns with 3,840 pixels
-    quarter islands     lines of 1,920 pixels, each with an island of 18 packets
-    islands             islands of 18 packets, with 20 control columns between them
-
-Two more streams are the lines with damage from a fixed seed: one wrong bit in each line, and one in a thousand bits of each lane.
+    LINES lines (2,000) of 2,200 columns with 1,920 noisy pixels, as 1,920 by 1,080 has them
+    the same with a data island of one packet in each line
+    islands of 18 packets, with 20 control columns between them
 
 Each stream is fed from memory, 65,536 bytes of each lane at a time, in one thread on one processor: P, or the last one that this script may
-use. It is fed RUNS times (7), and the best run counts. Times are those of the thread, so other programs count less. What is measured:
+use. It is fed RUNS times (7), and the best run counts. The ratio is to 148.5 million columns a second, the pixel clock of 1,920 by 1,080
+at 60 Hz. What is measured:
 
     feed     vabgrot_feed, which writes all events and pixels into one array and one buffer; nobody looks at them
-    relock   the same with VABGROT_RELOCK (of the lines and the damaged lines)
-
-and of the lines, the lines and packets, and the islands:
-
-    faults   as feed, and looks for each event whether it is a fault
+    faults   the same, and looks for each event whether it is a fault
     views    Receiver.feed_views of the package, 4 MiB of each lane at a time
     watched  the same, and counts what tools/watch counts
-    arrays   Receiver.feed of the package
-    objects  the same, and makes an object for each event
+    arrays   Receiver.feed_arrays of the package
+    objects  Receiver.feed of the package, which makes an object for each event
 
-Each rate is also printed as a part of 340 million columns a second, the fastest link of HDMI 1.4. A fixed loop, SHA-256 of 4 MiB, takes
-turns with the runs. Columns for each byte of the loop compare runs on a processor whose clock changes. The load of the machine is printed
-before. The numbers are good only if nothing else runs.
+It prints the load of the machine before. The numbers are good only if nothing else runs.
 """
 
 import argparse
-import hashlib
 import os
 import subprocess
 import sys
@@ -49,23 +39,18 @@ import inputs
 TOP = Path(__file__).resolve().parents[1]
 sys.path.insert(0, str(TOP / "python"))
 from vabgrot import Receiver, capture, library  # noqa: E402
-from vabgrot.events import RECORD, Kind  # noqa: E402
+from vabgrot.events import Kind  # noqa: E402
 from vabgrot.place import PROGRAM  # noqa: E402
-from vabgrot.receiving import BYTES, EVENTS  # noqa: E402
-from vabgrot.watching import feeding  # noqa: E402
+from vabgrot.receiving import BYTES, EVENTS, RECORD  # noqa: E402
+from vabgrot.watching import receiving  # noqa: E402
 from vabgrot.watching.blocks import LONGEST  # noqa: E402
 from vabgrot.watching.counting import Count  # noqa: E402
+from vabgrot.watching.records import Recorded  # noqa: E402
 
 PIECE = 1 << 16  # bytes of a lane
-FASTEST = 340.0  # million columns a second
-LOOP = bytes(1 << 22)  # what the fixed loop hashes
+CLOCK = 148.5  # million columns a second
 COLUMNS = 2200
 ISLAND_COLUMNS = 20 + 2 + 18 * 32 + 2
-LONG_COLUMNS, LONG_PIXELS = 4400, 3840
-FULL_COLUMNS = ISLAND_COLUMNS + 12 + 8 + 2 + inputs.PIXELS
-SOUND = 1 << 19  # bits of each lane before the first damage
-THOUSANDTH = 1e-3
-SEED = 3
 TAP = ["--offset", "123457", "--skew", "0,70,35", "--version", "2"]
 
 
@@ -74,12 +59,12 @@ class Fed:
 
     piece = PIECE
 
-    def __init__(self, looks=False, kind="link"):
+    def __init__(self, looks):
         self.calls, self.looks, self.found = library.loaded(library.find()), looks, 0
         self.handle, self.answer = library.Handle(), library.Answer()
         self.records, self.bytes = np.empty(EVENTS, RECORD), np.empty(BYTES, np.uint8)
         self.room = self.records.ctypes.data, EVENTS, self.bytes.ctypes.data, BYTES, byref(self.answer)
-        assert self.calls.vabgrot_open(byref(self.handle), library.KINDS[kind]) == library.OK
+        assert self.calls.vabgrot_open(byref(self.handle), library.KINDS["link"]) == library.OK
 
     def feed(self, lanes):
         places, left, status = [it.ctypes.data for it in lanes], [8 * len(it) for it in lanes], library.FULL
@@ -97,7 +82,9 @@ class Fed:
     def finish(self):
         assert self.calls.vabgrot_finish(byref(self.handle), *self.room) == library.OK
         assert self.answer.aligned and not self.found
+        columns = self.answer.columns
         assert self.calls.vabgrot_restart(byref(self.handle)) == library.OK
+        return columns
 
 
 class Viewed:
@@ -106,17 +93,18 @@ class Viewed:
     piece = LONGEST
 
     def __init__(self, counts):
-        self.receiver, self.counts = Receiver("link", feeding.EVENTS, feeding.BYTES), counts
+        self.receiver, self.counts = Receiver("link", receiving.EVENTS, receiving.BYTES), counts
 
     def feed(self, lanes):
         count = Count()
-        for events in self.receiver.feed_views(*lanes):
+        for views in self.receiver.feed_views(*lanes):
             if self.counts:
-                count.take(events)
+                count.take(Recorded(*views))
 
     def finish(self):
-        self.receiver.finish()
+        end = self.receiver.finish()[-1]
         self.receiver.restart()
+        return end.columns
 
 
 class Packaged:
@@ -124,101 +112,54 @@ class Packaged:
 
     piece = PIECE
 
-    def __init__(self, views):
-        self.receiver, self.views = Receiver(), views
+    def __init__(self, name):
+        self.receiver = Receiver()
+        self.call = getattr(self.receiver, name)
 
     def feed(self, lanes):
-        events = self.receiver.feed(*lanes)
-        if self.views:
-            list(events)
+        self.call(*lanes)
 
     def finish(self):
-        self.receiver.finish()
+        end = self.receiver.finish()[-1]
         self.receiver.restart()
+        return end.columns
 
 
-FEED = {"feed": Fed}
-RELOCK = {"relock": lambda: Fed(kind="relock")}
 WAYS = {
-    **FEED,
-    "faults": lambda: Fed(looks=True),
+    "feed": lambda: Fed(False),
+    "faults": lambda: Fed(True),
     "views": lambda: Viewed(False),
     "watched": lambda: Viewed(True),
-    "arrays": lambda: Packaged(views=False),
-    "objects": lambda: Packaged(views=True),
+    "arrays": lambda: Packaged("feed_arrays"),
+    "objects": lambda: Packaged("feed"),
 }
 
 
-def loop():
-    """Returns how long the fixed loop takes, in seconds of this thread."""
-    begin = time.thread_time()
-    hashlib.sha256(LOOP).digest()
-    return time.thread_time() - begin
-
-
 def speed(way, lanes, runs):
-    """Returns the best of some runs in million columns a second, and the best of the fixed loop in million bytes a second."""
-    it, taken, loops = way(), [], []
+    """Returns the best of some runs, in million columns a second."""
+    it, best = way(), float("inf")
     size = min(map(len, lanes))  # the last bits of longer lanes have no column
-    columns = size * 8 // 10
     for _ in range(runs):
-        loops.append(loop())
-        begin = time.thread_time()
+        begin = time.perf_counter()
         for at in range(0, size, it.piece):
             it.feed([lane[at : min(size, at + it.piece)] for lane in lanes])
-        it.finish()
-        taken.append(time.thread_time() - begin)
-    return columns / min(taken) / 1e6, len(LOOP) / min(loops) / 1e6
+        columns = it.finish()
+        best = min(best, time.perf_counter() - begin)
+    return columns / best / 1e6
 
 
 def streams(program, lines, folder):
-    """Yields the name and the lanes of each stream that PROGRAM makes."""
+    """Yields the name and the lanes of each stream."""
     path = folder / "listing"
     for name, write in (
         ("lines", lambda: inputs.write_listing(path, lines, COLUMNS)),
         ("lines and packets", lambda: inputs.write_listing(path, lines, COLUMNS, islands=True)),
-        ("long lines", lambda: inputs.write_listing(path, lines // 2, LONG_COLUMNS, width=LONG_PIXELS)),
-        ("quarter islands", lambda: inputs.write_full_islands(path, lines * COLUMNS // FULL_COLUMNS)),
         ("islands", lambda: inputs.write_islands(path, lines * COLUMNS // ISLAND_COLUMNS)),
     ):
         write()
         with open(path, "rb") as source:
             made = subprocess.run([program, "make", "link", *TAP], stdin=source, stdout=subprocess.PIPE, check=True)
         yield name, [np.frombuffer(lane, np.uint8) for lane in capture.lanes_of(made.stdout)[0]]
-
-
-def flipped(lane, places):
-    """Returns a lane with some bits flipped."""
-    damaged = lane.copy()
-    np.bitwise_xor.at(damaged, places // 8, (1 << places % 8).astype(np.uint8))
-    return damaged
-
-
-def one_a_line(lanes):
-    """Returns lanes with one wrong bit in each line."""
-    noise, bits = np.random.default_rng(SEED), 10 * COLUMNS
-    starts = np.arange(SOUND, 8 * min(map(len, lanes)) - bits, bits)
-    places = starts + noise.integers(bits, size=len(starts))
-    chosen = noise.integers(len(lanes), size=len(starts))
-    return [flipped(lane, places[chosen == at]) for at, lane in enumerate(lanes)]
-
-
-def one_in_a_thousand(lanes):
-    """Returns lanes with one wrong bit in a thousand."""
-    noise, bits = np.random.default_rng(SEED), 8 * min(map(len, lanes))
-    places = [SOUND + np.cumsum(noise.geometric(THOUSANDTH, int(2 * THOUSANDTH * bits))) for _ in lanes]
-    return [flipped(lane, wrong[wrong < bits]) for lane, wrong in zip(lanes, places)]
-
-
-def measured(program, lines, folder):
-    """Yields the name and the lanes of each stream, and how it is measured."""
-    for name, lanes in streams(program, lines, folder):
-        if name == "lines":
-            yield name, lanes, WAYS | RELOCK
-            yield "one wrong bit a line", one_a_line(lanes), FEED | RELOCK
-            yield "one wrong bit in 1,000", one_in_a_thousand(lanes), FEED | RELOCK
-        else:
-            yield name, lanes, WAYS if name in ("lines and packets", "islands") else FEED
 
 
 def main():
@@ -232,11 +173,10 @@ def main():
     print(f"load {os.getloadavg()[0]:.2f}, processor {one}, best of {words.runs}")
     os.sched_setaffinity(0, {one})
     with tempfile.TemporaryDirectory() as folder:
-        for stream, lanes, ways in measured(words.program, words.lines, Path(folder)):
-            for name, way in ways.items():
-                came, looped = speed(way, lanes, words.runs)
-                told = f"{came:.1f} million columns a second, {came / FASTEST:.2f} of 340, {came / looped:.3f} columns a byte of the loop"
-                print(f"{stream}, {name}: {told}", flush=True)
+        for stream, lanes in streams(words.program, words.lines, Path(folder)):
+            for name, way in WAYS.items():
+                came = speed(way, lanes, words.runs)
+                print(f"{stream}, {name}: {came:.1f} million columns a second, {came / CLOCK:.2f} of 1,920 by 1,080 at 60 Hz")
 
 
 if __name__ == "__main__":

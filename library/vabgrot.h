@@ -39,9 +39,9 @@
 ** A receiver allocates only in vabgrot_open, and vabgrot_close frees it all:
 **
 **   kind                              malloc calls   bytes
-**   VABGROT_LINK                      2              64,176
-**   VABGROT_DVI                       2              63,952
-**   VABGROT_TRACK, VABGROT_RELOCK     5              76,848
+**   VABGROT_LINK                      2              64,112
+**   VABGROT_DVI                       2              63,888
+**   VABGROT_TRACK, VABGROT_RELOCK     5              76,784
 **
 ** The other calls free everything that they allocate before they return:
 **
@@ -357,8 +357,8 @@ int vabgrot_close(vabgrot *v);
 **   listing, room            where the listing is written, and how many bytes fit
 **   size                     receives how many bytes the whole listing has
 **
-** The buffer gets as many bytes of the listing as fit, from its first one on. No zero ends them, and the bytes behind them are
-** unchanged. A room of 0 asks for the size. The call starts no thread.
+** The buffer gets as many bytes of the listing as fit, from its first one on. No zero ends them. A room of 0 asks for the size.
+** The call starts no thread.
 **
 ** Example:
 **
@@ -373,8 +373,8 @@ int vabgrot_close(vabgrot *v);
 **   VABGROT_NOCAPTURE   The bytes are not a capture. The listing covers the whole blocks before the error. (Status 3.)
 **   VABGROT_UNALIGNED   The lanes never align, and the listing is empty. (Status 7.)
 **   VABGROT_FULL        The listing has more than `room` bytes.
-**   VABGROT_MISUSE      The kind does not exist. *size is 0, and the buffer is unchanged.
-**   VABGROT_NOMEM       malloc returned NULL. *size is 0, and the buffer is unchanged.
+**   VABGROT_MISUSE      The kind does not exist. *size is 0.
+**   VABGROT_NOMEM       malloc returned NULL. *size is 0, and the buffer may contain anything.
 */
 int vabgrot_recover(uint32_t kind, const uint8_t *capture, size_t capture_size, uint8_t *listing, size_t room, size_t *size);
 
@@ -428,9 +428,8 @@ typedef struct vabgrot_tap {
 **   capture, room            where the capture is written, and how many bytes fit
 **   size                     receives how many bytes the whole capture (or note) has
 **
-** The buffer gets as many of these bytes as fit, from its first one on; the bytes behind them are unchanged. A room of 0 asks
-** for the size, but takes as long. A capture has at most 30 bits and some for each column, and a listing at most 20,000,000
-** columns. The call starts no thread.
+** The buffer gets as many of these bytes as fit, from its first one on. A room of 0 asks for the size, but takes as long. A
+** capture has at most 30 bits and some for each column, and a listing at most 20,000,000 columns. The call starts no thread.
 **
 ** Example:
 **
@@ -446,8 +445,8 @@ typedef struct vabgrot_tap {
 **                       bytes with a line feed and no zero: `input: line 7 order` names the first wrong line and its cause,
 **                       `input: noroom 0 3` and the like say why the content does not fit its mode.
 **   VABGROT_MISUSE      The kind does not exist; the version is neither 1 nor 2; a skew is more than 4,095; or `limited` is
-**                       neither 0 nor 1. *size is 0, and the buffer is unchanged.
-**   VABGROT_NOMEM       malloc returned NULL. *size is 0, and the buffer is unchanged.
+**                       neither 0 nor 1. *size is 0.
+**   VABGROT_NOMEM       malloc returned NULL. *size is 0, and the buffer may contain anything.
 */
 int vabgrot_make(uint32_t kind, const vabgrot_tap *tap, const uint8_t *listing, size_t listing_size, uint8_t *capture,
                  size_t room, size_t *size);

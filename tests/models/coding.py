@@ -7,6 +7,7 @@ import sys
 from tests.models import model
 
 SOURCE = pathlib.Path(__file__).resolve().parents[2] / "crates" / "tmds_code" / "src"
+WRONG = 9216
 
 
 def coded():
@@ -22,10 +23,23 @@ def signs():
             for word in range(1024)]
 
 
+def followed():
+    rows = [row_after(word, disparity) for disparity in range(-8, 10, 2) for word in range(1024)]
+    return rows + [WRONG] * 1024
+
+
+def row_after(word, disparity):
+    """The row of what follows a character: that of the disparity then, and the last one where it is wrong."""
+    if model.coded(model.decoded(word), disparity) != word:
+        return WRONG
+    return 1024 * ((disparity + 2 * word.bit_count() - 10 + 8) // 2)
+
+
 TABLES = {
     "CODED": ("tables.rt", coded, "0x{:03x}"),
     "DECODED": ("tables.rt", decoded, "0x{:02x}"),
     "SIGNS": ("tables.rt", signs, "{}"),
+    "FOLLOWED": ("tables/following.rt", followed, "{}"),
 }
 
 

@@ -1,5 +1,5 @@
 """A small model of `recover relock` and `recover content relock`: the epochs of lanes whose first alignment is used only where a period
-opens at its edges, and until other edges refute it or doubt it."""
+opens at its edges, and until other edges refute it or doubt it twice in a row."""
 import bisect
 import itertools
 
@@ -72,40 +72,37 @@ def opened_between(lanes, own, triple):
     return any(here + after >= 5 for here, after in counts)
 
 
-def begin(bits, lock, edge):
-    """The last control character before an edge of a lane that follows three others past the run of the lock, as a place; none where there
-    is none."""
-    controls = [bits[place : place + 10] in model.SENT_CONTROL for place in range(lock + 120, edge, 10)]
-    begins = (at for at in range(len(controls) - 1, 2, -1) if controls[at] and not any(controls[at - 3 : at]))
-    return next((lock + 120 + 10 * at for at in begins), None)
-
-
-def begins_so(lanes, locks, triple):
-    """Whether on each lane a control period begins as many bits before its edge."""
-    found = [begin(bits, lock, edge) for bits, lock, edge in zip(lanes, locks, triple)]
-    return None not in found and len({edge - place for edge, place in zip(triple, found)}) == 1
-
-
-def let_go(lanes, locks, own, later):
-    """The first edges of another skew at which a guard band is received whole, and in whose midst a control period ends by an alignment,
-    that refute it since nothing opens after that, or doubt it since the control period began by their skew too; none where none do."""
+def verdicts(lanes, own, later):
+    """What edges after those of an alignment say of it where a guard band is received whole at them: those of its skew uphold it; those of
+    another doubt it where by it a control period ends in their midst, and refute it where nothing opens after that."""
     for triple in triples(later):
-        if [3, 3] in (columns_at(lanes, triple) or []) and skew_of(triple) != skew_of(own):
-            is_opened = opened_between(lanes, own, triple)
-            if is_opened is False or (is_opened and begins_so(lanes, locks, triple)):
-                return triple
+        if [3, 3] not in (columns_at(lanes, triple) or []):
+            continue
+        if skew_of(triple) == skew_of(own):
+            yield triple, "upheld"
+        elif (is_opened := opened_between(lanes, own, triple)) is not None:
+            yield triple, "doubted" if is_opened else "refuted"
+
+
+def let_go(lanes, own, later):
+    """The first edges that refute an alignment, or doubt it as those before them did, at the same skew; none where none do."""
+    last = None
+    for triple, said in verdicts(lanes, own, later):
+        if said == "refuted" or (said == "doubted" and last == (said, skew_of(triple))):
+            return triple
+        last = said, skew_of(triple)
     return None
 
 
-def end_of_alignment(lanes, locks, rows):
-    """Where what shows the alignment unconfirmed, refuted or doubted ends, where the epoch ends then, and the fault line of that; none
-    where nothing does."""
+def end_of_alignment(lanes, rows):
+    """Where what shows the alignment unconfirmed, refuted or doubted twice in a row ends, where the epoch ends then, and the fault line of
+    that; none where nothing does."""
     own = next(triples(rows), None)
     if not own or is_announced(lanes, own) is None:
         return None
     if not is_announced(lanes, own):
         return max(own) + 20, min(own) - 119, b""
-    triple = let_go(lanes, locks, own, [row[bisect.bisect_right(row, edge) :] for row, edge in zip(rows, own)])
+    triple = let_go(lanes, own, [row[bisect.bisect_right(row, edge) :] for row, edge in zip(rows, own)])
     if not triple or max(triple) + 90 > max(map(len, lanes)):
         return None
     return max(triple) + 90, min(triple) - 120, b"! relock %d\n" % (min(triple) - 120)
@@ -122,8 +119,7 @@ def epochs(lanes):
             at = bisect.bisect_left(places, start)
             if at < len(places) and later[at] is not None:
                 ends.append((later[at] + 120, 0, later[at], b"! slip %d %d\n" % (lane, later[at])))
-        locks = [next(iter(places[bisect.bisect_left(places, start) :]), None) for places, _ in runs]
-        shown = end_of_alignment(lanes, locks, [list(edges(bits, places, start)) for bits, (places, _) in zip(lanes, runs)])
+        shown = end_of_alignment(lanes, [list(edges(bits, places, start)) for bits, (places, _) in zip(lanes, runs)])
         if shown:
             ends.append((shown[0], 1, *shown[1:]))
         _, _, end, line = min(ends, default=(None, None, None, b""), key=lambda it: it[:3])

@@ -61,33 +61,28 @@ def refuted(program):
 
 
 def doubted(program):
-    """Lane 2 loses one whole character, so that lines open by the alignment in use too: the next control period, which began at the other
-    skew, lets it go; where it was kept all lines from there on were wrong, as `recover track` has them. Where the lane loses the character
-    within a control period, the one after it does."""
+    """Lane 2 loses one whole character, so that lines open by the alignment in use too: the first guard band at the other skew leaves it,
+    and the second lets it go, but not where one at its own skew comes between; where it was kept all lines from there on were wrong, as
+    `recover track` has them."""
     head, rest = b"c 00 4\nc 04 8\nv " + b"000000" * 29, b"c 04 8\nv 102030\nc 00 12\nend\n"
     made = run(program, ["make", "link"], head + b"000000\nc 00 16\nc 04 8\nv 00ff00ff0000\nc 00 28\n" + rest)[1]
     hurt = run(program, ["slip", "2:300:1"], run(program, ["slip", "2:300:9"], made)[1])[1]
     faults = b"! code 2 30\n", b"! word 2 67\n", b"! guard 69\n", b"! code 2 70\n"
-    wanted = head + b"fd0000\n! code 2 30\nc 00 11\n! relock 550\nc 00 4\nc 04 8\nv 00ff00ff0000\nc 00 28\n" + rest
-    yield "recover relock of a lost character", run(program, ["recover", "relock"], hurt), (1, wanted, b"")
-    yield "recover content relock of it", run(program, FURTHER[5], hurt), (1, b"! code 2 30\n! relock 550\nend\n", b"")
     head += b"fd0000\n%bc 00 16\n%bc 04 8\n%bv ffff00fd0000\n%b" % faults
+    wanted = head + b"c 00 23\n! relock 950\nc 00 4\n" + rest
+    yield "recover relock of a lost character", run(program, ["recover", "relock"], hurt), (1, wanted, b"")
+    yield "recover content relock of it", run(program, FURTHER[5], hurt), (1, b"".join(faults) + b"! relock 950\nend\n", b"")
     wanted = head + b"c 00 28\n! word 2 107\nc 04 8\n! guard 109\nv fd2030\n! code 2 110\nc 00 11\nend\n"
     yield "recover track of it", run(program, ["recover", "track"], hurt), (1, wanted, b"")
     columns = hearing.sent_columns(5 * b"c 00 16\nc 04 8\nv 00ff00ff0000\n" + b"c 00 24\nend\n")
-    for spans, wanted in (((1, 2),), (390, 960)), (((1, 1), (3, 3)), (390, 680, 950, 1240)):
+    for spans, wanted in (((1, 2),), [b"! relock 670", b"! relock 1240"]), (((1, 1), (3, 3)), []):
         words = [column[2] for column in columns]  # of 28 columns a row; lane 2 is a character early from a row to another
         for first, last in reversed(spans):
             words.insert(28 * last + 27, words[28 * last + 27])
             del words[28 * first - 1]
         hurt = hearing.capture_of_columns([(*column[:2], word) for column, word in zip(columns, words)])
         came = run(program, ["recover", "relock"], hurt)[1].splitlines()
-        yield f"a character early in {spans}", [line for line in came if b"relock" in line], [b"! relock %d" % at for at in wanted]
-    words = [column[2] for column in columns]
-    del words[40]
-    hurt = hearing.capture_of_columns([(*column[:2], word) for column, word in zip(columns, words)])
-    came = run(program, ["recover", "relock"], hurt)[1].splitlines()
-    yield "a control character lost", [line for line in came if b"relock" in line], [b"! relock 670"]
+        yield f"a character early in {spans}", [line for line in came if line.startswith(b"! relock ")], wanted
 
 
 def marginal(program):

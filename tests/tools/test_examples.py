@@ -9,6 +9,7 @@ from vabgrot.report import whole
 
 TOOLS = ["characters", "compare", "conform", "content", "errors", "lanes", "packets", "page", "pictures", "report", "slice", "sound"]
 TOOLS += ["stream", "survey", "timing", "watch", "waves"]
+NEED_LIBRARY = {"packets", "stream", "waves"}
 
 
 def commands(text):
@@ -18,15 +19,16 @@ def commands(text):
 
 
 @pytest.mark.parametrize("name", TOOLS)
-def test_examples(tool, program, tmp_path, name):
+def test_examples(tool, program, tmp_path, name, request):
     if name == "page" and not (whole.FOLDER / whole.MODULE).is_file():
         pytest.skip(f"there is no page/{whole.MODULE}: page/build makes it")
+    library = f"{request.getfixturevalue('library')}/libvabgrot.so.1" if name in NEED_LIBRARY else ""
     lines = commands(tool(name, "--help").stdout.decode())
     assert lines
     for folder in ("tools", "examples", "docs"):
         (tmp_path / folder).symlink_to(TOP / folder)
     (tmp_path / "vabgrot").symlink_to(built())
-    script = "\n".join(["set -euo pipefail", f"export VABGROT_PROGRAM={built()}", *lines])
+    script = "\n".join(["set -euo pipefail", f"export VABGROT_PROGRAM={built()} VABGROT_LIBRARY={library}", *lines])
     came = subprocess.run(["bash", "-c", script], cwd=tmp_path, capture_output=True, timeout=HANGS)
     assert came.returncode == 0, came.stderr.decode()
     if name == "slice":

@@ -16,7 +16,6 @@ import pytest
 
 from tests.support import HANGS, TOP
 from tests.tools.live import bits_of, blocks, times
-from vabgrot.content import packet_of, packets_in
 from vabgrot.flow import dissector, islands
 from vabgrot.formats.characters import TERC4
 from vabgrot.formats.layouts import LAYOUTS, Type
@@ -146,7 +145,7 @@ def test_a_growing_file(found, bars, tmp_path):
 def test_what_it_refuses(found, bars):
     """Two files for one output, no capture, and no packets."""
     assert "only one" in ran(bars, "--csv", "-", "--pcap", "-", status=3)[1]
-    assert "not a capture" in ran(b"what", status=3)[1]
+    assert "no capture" in ran(b"what", status=3)[1]
     assert ran(bars, "--csv", "/dev/full", status=3)[1].splitlines()[-1] == "packets: /dev/full: No space left on device"
 
 
@@ -185,9 +184,8 @@ def test_the_fields_of_each_layout(compare, tmp_path):
     """tshark reads the numbers that the table of fields gives."""
     each = made_packets()
     count, path = len(each), tmp_path / "a.pcap"
-    zeros = np.zeros(count, np.int64)
-    made = packets_in([packet_of(it) for it in each])
-    its = islands.Islands(made, zeros, np.arange(count), zeros, zeros.astype(np.uint8))
+    octets, zeros = np.frombuffer(b"".join(each), np.uint8).reshape(count, -1), np.zeros(count, np.int64)
+    its = islands.Islands(np.arange(count), zeros, np.arange(count), zeros, octets, zeros.astype(np.uint8), zeros.astype(np.uint8), zeros)
     path.write_bytes(islands.pcap_head() + islands.pcap_records(its, Fraction(1)))
     names = {id(layout): name for name, layout in LAYOUTS.items()}
     wanted, keys = [], {}

@@ -197,6 +197,6 @@ def test_what_it_refuses(bars, program, monkeypatch, capsys, tmp_path):
     assert says.splitlines()[-1] == "stream: /dev/full: No space left on device"
     row = program("make", "link", source=(TOP / "examples" / "red.link").read_bytes())
     assert "no whole frame came" in ran(row, "--y4m", "-", status=3)[1]
-    assert "not a capture" in ran(b"what", "--y4m", "-", status=3)[1]
+    assert "no capture" in ran(b"what", "--y4m", "-", status=3)[1]
     assert ran(b"", tmp_path / "none", "--y4m", "-", status=3)[1].startswith("stream: ")
     assert "only one" in ran(bars, "--y4m", "-", "--wav", "-", status=3)[1]

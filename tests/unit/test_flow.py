@@ -7,16 +7,15 @@ from fractions import Fraction
 import numpy as np
 import pytest
 
-from vabgrot.events import RECORD, Kind, of_records
-from vabgrot.flow import forms, islands
+from vabgrot.flow import forms, islands, parts
 from vabgrot.flow.ahead import Ahead
-from vabgrot.flow.frames import Frame, Framer, Stretch
+from vabgrot.flow.frames import Frame, Framer
 from vabgrot.flow.pace import BY_GUESS, BY_SOUND, Pace
-from vabgrot.flow.parts import Making
+from vabgrot.flow.parts import LINE, LOST, MENDED, PACKET, RUN, SLIP, Making
 from vabgrot.flow.sound import Sound
+from vabgrot.receiving import RECORD
 from vabgrot.video.colours import Signal
 
-RUN, LINE, PACKET, MENDED, LOST, SLIP = Kind.RUN, Kind.LINE, Kind.PACKET, Kind.MENDED, Kind.LOST, Kind.SLIP
 WIDE, DOWN, TOTAL = 4, 3, 20  # pixels, rows, columns of a line
 
 
@@ -60,11 +59,11 @@ class Made:
     def parts(self, *cuts):
         """The same as parts, cut at some records."""
         records, data = self.arrays
-        making, found, epoch = Making(), [], 0
+        making, found = Making(is_dvi=False), []
         for begin, end in itertools.pairwise([0, *cuts, len(records)]):
-            found += making.take(of_records(records[begin:end], data, epoch))
-            epoch += int((records["kind"][begin:end] == SLIP).sum())
-        return [*found, *making.finish()]
+            found.append(making.take(records[begin:end], data))
+        found.append(making.take(parts.NO_RECORDS, data[:0], True))
+        return [it for it in found if it is not None and len(it)]
 
 
 def frames_of(each):
@@ -83,8 +82,8 @@ def test_columns_go_on_over_epochs():
     made.column = 0
     made.run(0, 5)
     (part,) = made.parts()
-    assert part.events.epoch.tolist() == [0, 0, 1, 1, 2] and part.events.first.tolist() == [0, 1000, 0, 1010, 0]
-    assert part.at.tolist() == [0, 100, 100, 107, 107] and part.events.width.tolist() == [30, 0, 7, 0, 5]
+    assert part.epoch.tolist() == [0, 0, 1, 1, 2] and part.first.tolist() == [0, 1000, 0, 1010, 0]
+    assert part.at.tolist() == [0, 100, 100, 107, 107] and part.width.tolist() == [30, 0, 7, 0, 5]
 
 
 def test_a_packet_and_its_faults_are_in_one_part(compare):
@@ -94,18 +93,16 @@ def test_a_packet_and_its_faults_are_in_one_part(compare):
         made.run(0, 12)
         made.packet(bytes([number]) * 31, *[(MENDED, 4), (LOST, number)][: number % 3])
     made.run(0, 12)
-    whole = islands.islands_of(Stretch(made.parts()[0], 0, len(made.rows)), 0)
+    whole = islands.islands_of(made.parts()[0], 0, len(made.rows), 0)
 
     def cases():
         for cut in range(1, len(made.rows)):
-            each = [islands.islands_of(Stretch(part, 0, len(part)), 0) for part in made.parts(cut)]
-            for name in ("at", "octets", "mended"):
-                parts = [getattr(it.packets, name) for it in each]
-                yield (cut, name), np.concatenate(parts).tolist(), getattr(whole.packets, name).tolist()
-            yield (cut, "lost"), np.concatenate([it.lost for it in each]).tolist(), whole.lost.tolist()
+            each = [islands.islands_of(part, 0, len(part), 0) for part in made.parts(cut)]
+            for name in ("at", "octets", "lost", "mended"):
+                yield (cut, name), np.concatenate([getattr(it, name) for it in each]).tolist(), getattr(whole, name).tolist()
 
     compare(cases())
-    assert whole.lost.tolist() == [0, 0, 4, 0] and whole.packets.mended.tolist() == [0, 16, 16, 0]
+    assert whole.lost.tolist() == [0, 0, 4, 0] and whole.mended.tolist() == [0, 16, 16, 0]
 
 
 def test_frames(compare):

@@ -1,6 +1,5 @@
 mod Locks
 mod Looking
 mod Searching
-pub mod Beginning
 pub mod Alignments
 pub mod Growing

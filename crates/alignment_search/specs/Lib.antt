@@ -3,4 +3,3 @@ pub mod Parts
 pub mod Reached
 pub mod Searches
 pub mod OneAlignment
-pub mod Begins

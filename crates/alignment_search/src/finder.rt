@@ -1,7 +1,6 @@
 //! The full alignments: the edges of three lanes, any two near each other, in the order of their largest.
-ghost use Rattle.std.specs.Prelude.{◌≡◌, ◌<◌, ◌≤◌, ◌+◌, ◌-◌, ◌^◌, ◌↔◌, ℕ, Bool, List, Some, MatchBool, MatchOption, IfSome, IsTrue};
+ghost use Rattle.std.specs.Prelude.{◌≡◌, ◌<◌, ◌≤◌, ◌+◌, ◌-◌, ◌^◌, ◌↔◌, ℕ, Bool, List, MatchOption, IfSome, IsTrue};
 ghost use Rattle.alignment_search.specs.Alignments.{greatest, least, HasNoAlignment, IsNextAlignment};
-ghost use Rattle.alignment_search.specs.Begins.{HaveBegun, HaveOneBegin};
 ghost use Rattle.alignment_search.specs.Parts.{HaveRoom, ArePartsOf};
 ghost use Rattle.alignment_search.specs.Reached.{CanReach};
 ghost use Rattle.alignment_search.specs.Searches.{HasSearched, HaveReached, AreWithin, AreBounds};
@@ -16,7 +15,7 @@ const RUN_SPAN: u64 = RUN_BITS as u64 - 1;
 /// How far apart two edges of an alignment are at most.
 const NEAR: u64 = GREATEST_SKEW as u64;
 
-/// Bits of three lanes that are borrowed, from one place of all on.
+/// Bits of three lanes that are lent, from one place of all on.
 #[derive(Clone, Copy)]
 pub struct LaneParts<'a> {
     pub blue: LanePart<'a>,
@@ -69,7 +68,6 @@ impl AlignmentFinder {
         ensures past { MatchOption result (self.new.past ≡ self.old.past) (λ edges. self.new.past ≡ greatest edges + 1) }
         ensures within { IfSome result (λ edges. (self.old.limit ≤ greatest edges) × (greatest edges < limit)) }
         ensures searched { (blue green red : List Bool) → ArePartsOf parts.entry blue green red → HasSearched self.old blue green red → HasSearched self.new blue green red }
-        ensures begun { (blue green red : List Bool) → ArePartsOf parts.entry blue green red → HasSearched self.old blue green red → IfSome result (λ edges. HaveBegun self.new blue green red edges) }
         ensures found { (blue green red : List Bool) → ArePartsOf parts.entry blue green red → HasSearched self.old blue green red
             → MatchOption result (HasNoAlignment blue green red self.old.past limit) (λ edges. IsNextAlignment blue green red self.old.past edges) }
     {
@@ -88,20 +86,6 @@ impl AlignmentFinder {
             Some(edges)
         } else {
             None
-        }
-    }
-
-    /// Whether on each lane a control period begins as many bits before its edge, of those that `seek` answered last.
-    pub fn begins_so(&self, edges: [u64; 3]) -> bool
-        requires begun { (blue green red : List Bool) × HaveBegun self.now blue green red edges }
-        ensures { (blue green red : List Bool) → HaveBegun self.now blue green red edges → MatchBool result (HaveOneBegin blue green red edges) (HaveOneBegin blue green red edges → ⊥) }
-    {
-        match self.blue.bits_before(edges[0]) {
-            Some(bits) => {
-                are_so_many(self.green.bits_before(edges[1]), bits)
-                    && are_so_many(self.red.bits_before(edges[2]), bits)
-            }
-            None => false,
         }
     }
 
@@ -145,16 +129,6 @@ impl AlignmentFinder {
         let green = self.green.edge_from(parts.green, base, from, limit);
         let red = self.red.edge_from(parts.red, base, from, limit);
         [blue, green, red]
-    }
-}
-
-/// Whether bits are this many.
-fn are_so_many(found: Option<u64>, bits: u64) -> bool
-    ensures { IsTrue result ↔ (found ≡ Some bits) }
-{
-    match found {
-        Some(count) => count == bits,
-        None => false,
     }
 }
 

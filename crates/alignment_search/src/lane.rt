@@ -2,8 +2,6 @@
 ghost use Rattle.std.specs.Prelude.{◌≡◌, ◌⊎◌, ◌<◌, ◌≤◌, ◌+◌, ◌-◌, ◌*◌, ◌^◌, ℕ, Bool, List, length, Some, IfSome, MatchOption};
 ghost use Rattle.lane_align.specs.Lanes.{IsRun, IsLock, IsNextEdge};
 ghost use Rattle.lane_edges.specs.Finders.{HasScanned, HasNoEdge};
-ghost use Rattle.lane_edges.specs.Begins.{IsBeginOf};
-ghost use Rattle.alignment_search.specs.Begins.{HasBegun};
 ghost use Rattle.alignment_search.specs.Parts.{HasRoom, IsPartOf};
 ghost use Rattle.alignment_search.specs.Reached.{IsAt, CanLook, HasReached, CanReach, IsBound};
 
@@ -20,7 +18,7 @@ const RUN_SPAN: u32 = RUN_BITS - 1;
 /// The phase at which nothing is left out.
 const ANY: u32 = 10;
 
-/// Bits of a lane that are borrowed: this many, after a few others of the first byte. Behind them is room for two bytes.
+/// Bits of a lane that are lent: so many, after a few others of the first byte. Behind them is room for two bytes.
 #[derive(Clone, Copy)]
 pub struct LanePart<'a> {
     pub bytes: &'a [u8],
@@ -82,20 +80,6 @@ impl LaneEdges {
             Some(finder) => match not_before(self.edge, from) {
                 Some(edge) => edge,
                 None => self.look_on(finder, part, base, from, limit),
-            },
-        }
-    }
-
-    /// How many bits before the edge that was found last a control period begins.
-    pub(crate) fn bits_before(&self, edge: u64) -> Option<u64>
-        requires begun { (xs : List Bool) × HasBegun xs edge self.now }
-        ensures { (xs : List Bool) → HasBegun xs edge self.now → MatchOption result ((q : ℕ) → IsBeginOf xs edge q → ⊥) (λ bits. (bits ≤ edge) × IsBeginOf xs edge (edge - bits)) }
-    {
-        match self.finder {
-            None => None,
-            Some(finder) => match finder.begun() {
-                None => None,
-                Some(begun) => Some(edge - begun),
             },
         }
     }

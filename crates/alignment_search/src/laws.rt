@@ -1,4 +1,4 @@
-//! What holds of alignments, one after another. The functions have no code: their contracts are the laws.
+//! What holds of alignments, one after another. The functions do nothing: what they ensure are the laws.
 ghost use Rattle.alignment_search.specs.OneAlignment.{OneNextAlignment, NextIsNone};
 
 /// Three lanes have at most one next full alignment from a place on.

@@ -1,4 +1,4 @@
-//! Laws of subframes. The functions have no code: their contracts are the laws.
+//! Laws of subframes. The functions do nothing: what they ensure is the law.
 ghost use Rattle.audio_out.specs.Laws.{OneSpelling, OneReading};
 
 /// A subframe has one spelling: bytes are it exactly where they are those that are written.

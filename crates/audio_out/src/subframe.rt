@@ -7,10 +7,10 @@ ghost use Rattle.audio_out.specs.Subframes.{IsSound, IsSubframe, preamble, subfr
 use crate::tables::cells;
 use audio_packets::side_bits;
 
-/// The last half cells before those of the 28 bits: half cells 7, 9, .. 61. Each differs from the next one.
+/// The last half cells before those of the 28 bits: half cells 7, 9, .. 61. Each is unlike the next one.
 const BORDERS: u64 = 0x2aaa_aaaa_aaaa_aa80;
 
-/// These and the last half cell of all, which has no next one: it counts as different from it if its level is 1.
+/// These and the last half cell of all, which has no next one: it counts as unlike it where its level is 1.
 const ENDS: u64 = 0xaaaa_aaaa_aaaa_aa80;
 
 /// What begins with a subframe (IEC 60958-1, section 4.3).
@@ -94,7 +94,7 @@ fn preamble_byte(mark: Mark) -> u8
     }
 }
 
-/// The mark with this preamble byte.
+/// The mark whose preamble a byte is.
 fn mark_of(byte: u8) -> Option<Mark>
     ensures { MatchOption result ((mark : Mark) → bits_of 8 byte ≡ preamble mark → ⊥) (λ mark. bits_of 8 byte ≡ preamble mark) }
 {

@@ -1,7 +1,7 @@
 mod Searches
 mod BodyBytes
 mod Notes
-pub mod Marks
-pub mod WrittenClock
-pub mod WrittenSamples
+mod Marks
+mod WrittenClock
+mod WrittenSamples
 pub mod Pairs

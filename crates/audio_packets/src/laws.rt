@@ -1,4 +1,4 @@
-//! What is read of packets that were written. The functions have no code: their contracts are the laws.
+//! What is read of packets that were written. The functions do nothing: what they ensure is the law.
 ghost use Rattle.audio_packets.specs.Laws.{WrittenAcrIsRead, WrittenSamplesAreRead, ReadSamplesFit};
 
 /// Clock numbers that were written are read, where no block is lost.

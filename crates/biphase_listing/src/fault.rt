@@ -4,11 +4,11 @@
 #[derive(Clone, Copy)]
 pub enum BiphaseFault {
     /// This group of eight bytes, counted from 0 and among the first 268,435,455 frames, is no subframe, or has another
-    /// mark than its place needs: B or M the first of a frame, W the second.
+    /// mark than its place asks for: B or M the first of a frame, W the second.
     Subframe(u32),
     /// A byte follows the 268,435,455th frame.
     Long,
-    /// This many bytes are no whole number of frames.
+    /// So many bytes are no whole number of frames.
     Short(u32),
 }
 

@@ -1,4 +1,4 @@
-//! Laws of streams and of the samples of packets. The functions have no code: their contracts are the laws.
+//! Laws of streams and of the samples of packets. The functions do nothing: what they ensure is the law.
 ghost use Rattle.biphase_listing.specs.Laws.{OneRefusal, OneStream, SamplesOfPayload, StreamIsFaultless, StreamIsRead};
 
 /// The frames that are written of samples are read as these samples, from the first block's start on.

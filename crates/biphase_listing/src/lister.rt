@@ -56,7 +56,7 @@ pub struct BiphaseLister<'a, K: Sink> {
 }
 
 impl<'a, K: Sink> BiphaseLister<'a, K> {
-    /// A lister of a pair, 0 to 3, before the first report. It has written nothing.
+    /// A lister of a pair, 0 to 3, that has written nothing, and to which nothing was reported.
     pub fn open(sink: &'a mut K, pair: u8) -> BiphaseLister<'a, K>
         requires { pair < 4 }
         ensures same { result.sink.ghost_name ≡ sink.entry.ghost_name }
@@ -73,7 +73,7 @@ impl<'a, K: Sink> BiphaseLister<'a, K> {
         }
     }
 
-    /// How many reported packets of type 2 had lost a block. The count stops at the greatest u64.
+    /// How many reported packets of type 2 had lost a block. The count stands still at the greatest u64.
     pub fn faults(&self) -> u64
         ensures { result ≡ self.now.faults }
     {
@@ -92,7 +92,7 @@ impl<'a, K: Sink> BiphaseLister<'a, K> {
         Ok(())
     }
 
-    /// Receives a packet: one of samples has frames, or has lost a block.
+    /// Hears a packet: one of samples has frames, or has lost a block.
     fn packet(&mut self, packet: PacketRef<'_>, column: u64) -> Result<(), Failed>
         ensures same { self.new.sink.ghost_name ≡ self.old.sink.ghost_name }
         ensures pair { self.new.pair ≡ self.old.pair }
@@ -181,7 +181,7 @@ impl<'a, K: Sink> Ear for BiphaseLister<'a, K> {
 
     ghost faults = { λ l. K.faults l.sink.now };
 
-    // For all that was reported before: the sink grew by the new bytes of the stream, and the count by the
+    // For all that was reported before: the sink grew by the bytes by which the stream did, and the count by the
     // packets that had lost a block.
     ghost took = { λ x y events.
         (y.sink.ghost_name ≡ x.sink.ghost_name)

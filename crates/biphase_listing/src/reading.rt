@@ -45,7 +45,7 @@ pub fn list_biphase<S: Source, K: Sink>(input: &mut S, output: &mut K) -> Result
     }
 }
 
-/// How many bytes are read at once after this many frames: no more than one past the last frame that there may be.
+/// How many bytes are read at once after so many frames: no more than one past the last frame that there may be.
 fn room_for(count: u32) -> usize
     requires { count ≤ most_frames }
     ensures { result ≡ min 4096 (16 * most_frames + 1 - 16 * count) }
@@ -106,7 +106,7 @@ fn list_piece<K: Sink>(
     }
 }
 
-/// The answer if the frames of a piece stop in this way, after this many frames.
+/// The answer where the frames of a piece stop so, after so many frames.
 fn stopped(stop: Stop, count: u32) -> Result<(), BiphaseError>
     requires { count ≤ most_frames }
     ensures { result ≡ stopped stop count }
@@ -118,7 +118,7 @@ fn stopped(stop: Stop, count: u32) -> Result<(), BiphaseError>
     }
 }
 
-/// Whether more may follow this many frames and bytes of the next, where a piece was filled or the input has ended.
+/// Whether more may follow so many frames and bytes of the next, where a piece was filled or the input has ended.
 fn judge(count: u32, rest: usize, full: bool) -> Result<bool, BiphaseError>
     requires count { count ≤ most_frames }
     requires rest { rest < 16 }

@@ -40,7 +40,7 @@ pub(crate) fn read_side(group: &[u8; 8], right: bool) -> Option<Side>
     }
 }
 
-/// The bits that a subframe's bytes of half cells carry, four in each byte: 1 if a half cell differs from the next one.
+/// The bits that a subframe's bytes of half cells carry, four in each byte: every other half cell that is unlike the next.
 fn fours(group: &[u8; 8]) -> u64
     ensures { (sub : SubframeType) → IsSubframe sub group.now → HasFours sub result }
 {

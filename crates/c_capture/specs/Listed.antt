@@ -1,5 +1,5 @@
 -- What a call leaves in the caller's buffer: what the program's command writes of the same bytes.
-use Rattle.std.specs.Prelude.{◌≡◌, ◌<◌, ◌≤◌, ℕ, List, ◌++◌, length, take, drop}
+use Rattle.std.specs.Prelude.{◌≡◌, ◌<◌, ℕ, List, length, take}
 use Rattle.command_line.specs.declared.command.Command.{Command}
 use Rattle.capture_commands.specs.Outcome.{RunOutcome, Does}
 use Rattle.c_capture.specs.Readers.{number_of, IsNoReader, command_of}
@@ -25,41 +25,34 @@ Says command bytes Full text = ⊥
 Says command bytes Misuse text = ⊥
 Says command bytes NoListing text = ⊥
 
--- What a call makes of the buffer, which held `old` and now holds `new`.
-
--- the first bytes are all that the command writes, and those behind them are as before
-pub record IsWhole (command : Command) (bytes : List ℕ) (status size : ℕ) (old new : List ℕ) : Type 0 where
+-- the first bytes of the buffer are all that the command writes
+pub record IsWhole (command : Command) (bytes : List ℕ) (status size : ℕ) (buffer : List ℕ) : Type 0 where
   pub outcome : RunOutcome
   pub does : Does command bytes outcome
   pub ended : outcome.status ≡ status
   pub size_is : size ≡ length outcome.output
-  pub fits : size ≤ length old
-  pub written : new ≡ outcome.output ++ drop size old
+  pub written : take size buffer ≡ outcome.output
 
 -- the command writes more bytes than the buffer has, which are the first of them
-pub record IsCut (command : Command) (bytes : List ℕ) (size : ℕ) (old new : List ℕ) : Type 0 where
+pub record IsCut (command : Command) (bytes : List ℕ) (size : ℕ) (buffer : List ℕ) : Type 0 where
   pub outcome : RunOutcome
   pub does : Does command bytes outcome
   pub size_is : size ≡ length outcome.output
-  pub longer : length old < size
-  pub written : new ≡ take (length old) outcome.output
-
--- it is as before, and no size is told
-abbrev pub IsUntouched : ℕ → List ℕ → List ℕ → Type 0
-IsUntouched size old new = (size ≡ 0) × (new ≡ old)
+  pub longer : length buffer < size
+  pub written : buffer ≡ take (length buffer) outcome.output
 
 -- by what a call answers: how many bytes the command writes, and what the buffer has of them
-abbrev pub Lists : Command → List ℕ → ListingStatus → ℕ → List ℕ → List ℕ → Type 0
-Lists command bytes Done size old new = IsWhole command bytes 0 size old new
-Lists command bytes Faulty size old new = IsWhole command bytes 1 size old new
-Lists command bytes NoCapture size old new = IsWhole command bytes 3 size old new
-Lists command bytes Unaligned size old new = IsWhole command bytes 7 size old new
-Lists command bytes Full size old new = IsCut command bytes size old new
-Lists command bytes NoMemory size old new = IsUntouched size old new
-Lists command bytes Misuse size old new = ⊥
-Lists command bytes NoListing size old new = ⊥
+abbrev pub Lists : Command → List ℕ → ListingStatus → ℕ → List ℕ → Type 0
+Lists command bytes Done size buffer = IsWhole command bytes 0 size buffer
+Lists command bytes Faulty size buffer = IsWhole command bytes 1 size buffer
+Lists command bytes NoCapture size buffer = IsWhole command bytes 3 size buffer
+Lists command bytes Unaligned size buffer = IsWhole command bytes 7 size buffer
+Lists command bytes Full size buffer = IsCut command bytes size buffer
+Lists command bytes NoMemory size buffer = size ≡ 0
+Lists command bytes Misuse size buffer = ⊥
+Lists command bytes NoListing size buffer = ⊥
 
 -- the same of the reader that has a number. It is a misuse exactly where none has it
-abbrev pub Recovers : ℕ → List ℕ → ListingStatus → ℕ → List ℕ → List ℕ → Type 0
-Recovers number bytes Misuse size old new = IsNoReader number × IsUntouched size old new
-Recovers number bytes status size old new = (reader : Reader) × (number ≡ number_of reader) × Lists (command_of reader) bytes status size old new
+abbrev pub Recovers : ℕ → List ℕ → ListingStatus → ℕ → List ℕ → Type 0
+Recovers number bytes Misuse size buffer = IsNoReader number × (size ≡ 0)
+Recovers number bytes status size buffer = (reader : Reader) × (number ≡ number_of reader) × Lists (command_of reader) bytes status size buffer

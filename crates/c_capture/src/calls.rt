@@ -1,5 +1,5 @@
 //! Lists a capture that C lends into a buffer of the caller's, by the caller's own thread.
-ghost use Rattle.std.specs.Prelude.{◌≡◌, ◌<◌, ◌≤◌, ℕ, List, [], ◌++◌, Some, length, take, drop};
+ghost use Rattle.std.specs.Prelude.{◌≡◌, ◌<◌, ℕ, List, [], Some, length, take};
 ghost use Rattle.std.specs.Bool.{OnTrue, OnFalse};
 ghost use Rattle.command_line.specs.declared.command.Command.{Command};
 ghost use Rattle.command_line.specs.declared.command.Command.TheVariants.{Check};
@@ -24,9 +24,9 @@ pub struct Listed {
 }
 
 /// Lists a capture by the reader that has a number. Where the buffer has less room than the listing has bytes it gets the first
-/// of them; the bytes behind the listing stay as they were.
+/// of them.
 pub fn recover(alloc: Global, number: u32, capture: &[u8], listing: &mut [u8]) -> Listed
-    ensures { Recovers number capture.now result.status result.size listing.old listing.new }
+    ensures { Recovers number capture.now result.status result.size listing.new }
 {
     let Some(reader) = Reader::of(number) else {
         return Listed {
@@ -41,7 +41,7 @@ pub fn recover(alloc: Global, number: u32, capture: &[u8], listing: &mut [u8]) -
 
 /// Lists the faults of a capture, as `check` does.
 pub fn check(alloc: Global, capture: &[u8], listing: &mut [u8]) -> Listed
-    ensures { Lists Check capture.now result.status result.size listing.old listing.new }
+    ensures { Lists Check capture.now result.status result.size listing.new }
 {
     let mut text = TextSink::new(alloc);
     let status = read_faults(alloc, capture, &mut text);
@@ -86,7 +86,7 @@ fn list_by(
 
 /// Puts a listing into the buffer, or its first bytes where there is no room for all.
 fn hand_over(status: ListingStatus, text: &[u8], buffer: &mut [u8]) -> Listed
-    ensures { (command : Command) (bytes : List ℕ) → Says command bytes status text.now → Lists command bytes result.status result.size buffer.old buffer.new }
+    ensures { (command : Command) (bytes : List ℕ) → Says command bytes status text.now → Lists command bytes result.status result.size buffer.new }
 {
     let size = text.len();
     if !status.has_text() {
@@ -101,13 +101,12 @@ fn hand_over(status: ListingStatus, text: &[u8], buffer: &mut [u8]) -> Listed
     }
 }
 
-/// Copies as many of the first bytes as there is room for, and says whether they are all. The bytes behind them stay.
+/// Copies as many of the first bytes as there is room for, and says whether they are all.
 pub(crate) fn copy_text(text: &[u8], buffer: &mut [u8]) -> bool
-    ensures first { buffer.new ≡ take (length buffer.old) text.now ++ drop (length text.now) buffer.old }
-    ensures fits { OnTrue result (length text.now ≤ length buffer.old) }
-    ensures whole { OnTrue result (buffer.new ≡ text.now ++ drop (length text.now) buffer.old) }
-    ensures longer { OnFalse result (length buffer.old < length text.now) }
-    ensures part { OnFalse result (buffer.new ≡ take (length buffer.old) text.now) }
+    ensures first { take (length text.now) buffer.new ≡ take (length buffer.new) text.now }
+    ensures whole { OnTrue result (take (length text.now) buffer.new ≡ text.now) }
+    ensures longer { OnFalse result (length buffer.new < length text.now) }
+    ensures part { OnFalse result (buffer.new ≡ take (length buffer.new) text.now) }
 {
     copy_front(text, buffer) == text.len()
 }

@@ -12,14 +12,15 @@ use crate::maker::Maker;
 use crate::status::ListingStatus;
 use crate::tap::LentTap;
 use crate::text_sink::TextSink;
-use capture_commands::{Ending, SliceSource, make_content, make_dvi, make_link, note};
+use capture_commands::{Ending, SliceSource, make_content, make_dvi, make_link};
 use command_line::TapWords;
+use ending_notes::note;
 use std::alloc::Global;
 
 /// Makes the capture of a tap of a listing by the maker that has a number. Where the buffer has less room than the capture has
 /// bytes it gets the first of them; where the listing is refused it gets the note that says why.
 pub fn make(alloc: Global, number: u32, tap: &LentTap, listing: &[u8], capture: &mut [u8]) -> Listed
-    ensures { Makes number tap.now listing.now result.status result.size capture.old capture.new }
+    ensures { Makes number tap.now listing.now result.status result.size capture.new }
 {
     let Some(maker) = Maker::of(number) else {
         return Listed {
@@ -75,7 +76,7 @@ fn make_by(
 
 /// Puts what was made into the buffer, or the note that says why nothing was.
 fn give(ending: Ending, made: &[u8], buffer: &mut [u8]) -> Listed
-    ensures { (command : Command) (listing : List ℕ) → Wrote command listing ending made.now → Gives command listing result.status result.size buffer.old buffer.new }
+    ensures { (command : Command) (listing : List ℕ) → Wrote command listing ending made.now → Gives command listing result.status result.size buffer.new }
 {
     match ending {
         Ending::Done => give_capture(made, buffer),
@@ -90,7 +91,7 @@ fn give(ending: Ending, made: &[u8], buffer: &mut [u8]) -> Listed
 
 /// Puts a capture into the buffer, or its first bytes where there is no room for all.
 fn give_capture(made: &[u8], buffer: &mut [u8]) -> Listed
-    ensures { (command : Command) (listing : List ℕ) → IsOutput command listing 0 made.now → Gives command listing result.status result.size buffer.old buffer.new }
+    ensures { (command : Command) (listing : List ℕ) → IsOutput command listing 0 made.now → Gives command listing result.status result.size buffer.new }
 {
     let status = if copy_text(made, buffer) {
         ListingStatus::Done
@@ -105,7 +106,7 @@ fn give_capture(made: &[u8], buffer: &mut [u8]) -> Listed
 
 /// Puts the note of a refusal into the buffer, or its first bytes where there is no room for all.
 fn give_note(note: &[u8], buffer: &mut [u8]) -> Listed
-    ensures { (command : Command) (listing : List ℕ) → IsRefused command listing note.now → Gives command listing result.status result.size buffer.old buffer.new }
+    ensures { (command : Command) (listing : List ℕ) → IsRefused command listing note.now → Gives command listing result.status result.size buffer.new }
 {
     copy_text(note, buffer);
     Listed {

@@ -1,4 +1,4 @@
-//! Feeds lanes that are borrowed, piece by piece, as long as there is room for what a piece can report.
+//! Feeds lanes that are lent, piece by piece, as long as there is room for what a piece can report.
 ghost use Rattle.std.specs.Prelude.{◌≡◌, ◌⊎◌, ◌+◌, ◌-◌, ◌*◌, ◌%◌, ◌^◌, ◌<◌, ◌≤◌, ℕ, List, length, min, true, false};
 ghost use Rattle.period_grammar.specs.Events.{Event, EventAt, all_at};
 ghost use Rattle.link_sink.specs.Sinks.{Fed, IsGainAt, IsLastBy};

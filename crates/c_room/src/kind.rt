@@ -2,14 +2,14 @@
 ghost use Rattle.std.specs.Prelude.{◌≡◌, MatchOption};
 ghost use Rattle.c_room.specs.Kinds.{number_of, IsNoKind};
 
-/// How a receiver receives.
+/// How a receiver hears.
 #[derive(Clone, Copy, Drop)]
 pub enum Kind {
     /// A link, with guard bands and preambles.
     Link,
     /// A link without them (DVI 1.0).
     Dvi,
-    /// A link whose lanes may lose bits: where one does they are searched again.
+    /// A link whose lanes may lose bits: where one does they are searched anew.
     Track,
     /// The same, from an alignment that a guard band confirms, until another one refutes it or two in a row doubt it.
     Relock,

@@ -25,7 +25,7 @@ use relock_sink::Refuter;
 use std::alloc::Global;
 use track_sink::{EpochSink, TrackSink};
 
-/// A sink, by the way in which it receives.
+/// A sink, by the way in which it hears.
 #[derive(Drop)]
 pub enum KindSink {
     Link(LinkSink),

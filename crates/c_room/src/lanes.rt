@@ -38,7 +38,7 @@ impl BitCounts {
         }
     }
 
-    /// This many more.
+    /// So many more.
     pub fn plus(&self, more: BitCounts) -> BitCounts
         requires { AreFew self.now more }
         ensures { result ≡ plus self.now more }
@@ -50,7 +50,7 @@ impl BitCounts {
         }
     }
 
-    /// Whether with this many more no lane has too many.
+    /// Whether with so many more no lane has too many.
     pub fn are_few(&self, more: BitCounts) -> bool
         ensures few { OnTrue result (AreFew self.now more) }
         ensures many { OnFalse result (AreFew self.now more → ⊥) }
@@ -66,7 +66,7 @@ impl BitCounts {
     }
 }
 
-/// Whether a lane that has this many bits may have this many more.
+/// Whether a lane that has so many bits may have so many more.
 fn is_few(fed: u64, more: u64) -> bool
     ensures few { OnTrue result (fed + more < MOST_BITS) }
     ensures many { OnFalse result (fed + more < MOST_BITS → ⊥) }
@@ -74,7 +74,7 @@ fn is_few(fed: u64, more: u64) -> bool
     fed < MOST_BITS && more < MOST_BITS - fed
 }
 
-/// Bits of three lanes that are borrowed, any number of each: bit i of a lane is bit `i % 8` of byte `i / 8`.
+/// Bits of three lanes that are lent, any number of each: bit i of a lane is bit `i % 8` of byte `i / 8`.
 #[derive(Clone, Copy, Drop)]
 pub struct CallerLanes<'a> {
     pub blue: &'a [u8],
@@ -84,7 +84,7 @@ pub struct CallerLanes<'a> {
 }
 
 impl<'a> CallerLanes<'a> {
-    /// Whether lanes that were fed this many bits may take these.
+    /// Whether lanes that were fed so many bits may take these.
     pub fn may_follow(&self, fed: BitCounts) -> bool
         ensures may { OnTrue result (MayTakeLanes fed self.now) }
         ensures may_not { OnFalse result (MayTakeLanes fed self.now → ⊥) }
@@ -118,7 +118,7 @@ impl<'a> CallerLanes<'a> {
     }
 }
 
-/// Whether a lane that was fed this many bits, where the longest was fed this many, may take these.
+/// Whether a lane that was fed so many bits, where the longest was fed so many, may take these.
 fn may_take(fed: u64, longest: u64, bytes: &[u8], bits: u64) -> bool
     ensures may { OnTrue result (MayTake fed longest bytes.now bits) }
     ensures may_not { OnFalse result (MayTake fed longest bytes.now bits → ⊥) }
@@ -134,7 +134,7 @@ fn piece_bits(bits: u64, at: u64, size: u64) -> u32
     bits.saturating_sub(at).min(size) as u32
 }
 
-/// The bytes of this many bits from bit `at` on.
+/// The bytes of so many bits from bit `at` on.
 fn piece_bytes(bytes: &[u8], at: u64, bits: u32) -> &[u8]
     requires whole { at % 8 ≡ 0 }
     requires within { (bits ≡ 0) ⊎ (at + bits ≤ 8 * length bytes.now) }

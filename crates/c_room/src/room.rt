@@ -87,7 +87,7 @@ impl<'a> EventRoom<'a> {
         self.count < self.records.len() && self.used <= self.bytes.len()
     }
 
-    /// How many of this many bits of each lane may be fed, so that there is room for all that they can report: all of them or
+    /// How many of so many bits of each lane may be fed, so that there is room for all that they can report: all of them or
     /// whole bytes, and none where the room is full.
     pub fn next_bits(&self, rest: u64) -> u64
         ensures within { result ≤ rest }
@@ -110,7 +110,7 @@ impl<'a> EventRoom<'a> {
         )
     }
 
-    /// This many columns may report whatever they can.
+    /// So many columns may report whatever they can.
     fn columns_left(&self) -> usize
         ensures events { 8 * result ≤ length self.now.records.now - self.now.count }
         ensures bytes { 0 < result → 12288 + 3 * result ≤ length self.now.bytes.now - self.now.used }
@@ -233,7 +233,7 @@ fn said_of(fault: Fault) -> Said
     }
 }
 
-/// How many columns may report whatever they can, where this many events and bytes have room: eight events and three bytes a column,
+/// How many columns may report whatever they can, where so many events and bytes have room: eight events and three bytes a column,
 /// and the pixels of a line that was open before.
 fn columns_for(events: usize, bytes: usize) -> usize
     ensures events { 8 * result ≤ events }
@@ -243,7 +243,7 @@ fn columns_for(events: usize, bytes: usize) -> usize
     (events / 8).min(bytes.saturating_sub(12288) / 3)
 }
 
-/// How many bits of each lane, in whole bytes and at most as many as a feed takes, give no more than this many columns.
+/// How many bits of each lane, in whole bytes and at most as many as a feed takes, give no more than so many columns.
 fn bits_for(columns: usize) -> u64
     ensures most { result ≤ 32768 }
     ensures whole { result % 8 ≡ 0 }

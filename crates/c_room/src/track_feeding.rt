@@ -1,4 +1,4 @@
-//! Feeds lanes that are borrowed and may lose bits, piece by piece, as long as there is room for what a piece can report.
+//! Feeds lanes that are lent and may lose bits, piece by piece, as long as there is room for what a piece can report.
 ghost use Rattle.std.specs.Prelude.{◌≡◌, ◌+◌, ◌-◌, ◌%◌, ◌<◌, ◌≤◌, ◌++◌, List, true, false};
 ghost use Rattle.link_sink.specs.Sinks.{Fed};
 ghost use Rattle.track_sink.specs.Epochs.{IsTrackAt};

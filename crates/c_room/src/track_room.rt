@@ -18,7 +18,7 @@ impl<'a> EventRoom<'a> {
         events >= 392 && bytes >= 12_614
     }
 
-    /// How many of this many bits of each lane may be fed, so that there is room for all that they can report of lanes that may lose
+    /// How many of so many bits of each lane may be fed, so that there is room for all that they can report of lanes that may lose
     /// some: all of them or whole bytes, and none where the room is full.
     pub fn next_track_bits(&self, rest: u64) -> u64
         ensures within { result ≤ rest }
@@ -30,7 +30,7 @@ impl<'a> EventRoom<'a> {
         rest.min(self.track_bits())
     }
 
-    /// This many bits of each lane may report whatever they can: whole bytes.
+    /// So many bits of each lane may report whatever they can: whole bytes.
     fn track_bits(&self) -> u64
         ensures most { result ≤ 32768 }
         ensures whole { result % 8 ≡ 0 }
@@ -42,7 +42,7 @@ impl<'a> EventRoom<'a> {
     }
 }
 
-/// How many bits of each lane, in whole bytes and at most as many as a feed takes, report no more than this many events and bytes.
+/// How many bits of each lane, in whole bytes and at most as many as a feed takes, report no more than so many events and bytes.
 fn track_bits_for(events: usize, bytes: usize) -> u64
     ensures most { result ≤ 32768 }
     ensures whole { result % 8 ≡ 0 }

@@ -14,7 +14,7 @@ use source_end::RasterFault;
 pub enum Ending {
     /// All was done.
     Done,
-    /// All was done, and what was received has faults.
+    /// All was done, and what was heard has faults.
     Faulty,
     /// The words are no form of a command.
     Usage,
@@ -91,7 +91,7 @@ pub(crate) fn unheard(error: ReadCaptureError) -> Ending
     }
 }
 
-/// How a command ends after its last line, and this many faults.
+/// How a command ends after its last line, and so many faults.
 pub(crate) fn judged(last: Result<(), Failed>, faults: u64) -> Ending
     ensures { result ≡ judged_ending last faults }
 {

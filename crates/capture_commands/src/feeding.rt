@@ -43,7 +43,7 @@ pub trait Feeds {
             → OnErr result ((events : List Event) × IsGainBy H.grammar fed (grown_by fed block.entry) events × StopsIn E.took E.broke ear.old ear.new events) }
         ensures cause { HasCause (E.faults ear.old) (E.faults ear.new) result };
 
-    /// Feeds a block to a sink that begins again where an epoch of its lanes ends.
+    /// Feeds a block to a sink that begins anew where an epoch of its lanes ends.
     ///
     /// # Errors
     ///

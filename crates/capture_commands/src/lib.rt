@@ -3,7 +3,7 @@
 //! Each command reads its input, writes its output and returns an `Ending`: done, refused, or which device failed. Its contract
 //! compares all three with one definition (`Does`, `Ends`). The program and the C library call the same functions. The caller
 //! chooses who feeds the lanes (`Feeds`): three workers or its own thread. A loop over all blocks drives one lister for each
-//! command. `note` returns the line for standard error of each ending, to the byte.
+//! command.
 #![tactic(auto)]
 
 mod block_gate;
@@ -13,7 +13,6 @@ mod feeding;
 mod hearing;
 mod lister;
 mod listing;
-mod notes;
 mod slice_source;
 mod track_lister;
 mod track_listing;
@@ -39,5 +38,4 @@ pub use commands::sample::{count_sample, damaged};
 pub use commands::slip::slip;
 pub use ending::Ending;
 pub use feeding::{ByWorkers, Feeds, InTurn};
-pub use notes::{NoteLine, note};
 pub use slice_source::SliceSource;

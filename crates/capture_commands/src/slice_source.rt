@@ -1,4 +1,4 @@
-//! A source over bytes that are borrowed.
+//! A source over bytes that are lent.
 ghost use Rattle.std.specs.Prelude.{◌≡◌};
 
 use outside_io::{Failed, Source};

@@ -40,7 +40,7 @@ pub(crate) trait TrackLister: TrackEar {
         ensures part { OnErr result ((n : ℕ) × (n < 4) × Appends (held self.old) (held self.new) (take n (codes "end\n"))) }
         ensures cause { HasCause (Self.faults self.old) (Self.faults self.new) result };
 
-    /// How many of the lines written are of faults, those of slips and alignments that were dropped among them.
+    /// How many of the lines written are of faults, those of slips and alignments that were let go among them.
     fn fault_lines(&self) -> u64
         ensures { (first : Self) (track_events : List TrackEvent) → fresh first → Self.tracked first self.now track_events → result ≡ counted 0 (listing.faults track_events) };
 
@@ -56,7 +56,7 @@ pub(crate) trait TrackLister: TrackEar {
     ghost keeps_lost: { (x y : Self) (e : TrackEvent) → Self.lost x y e → name y ≡ name x };
 }
 
-/// Writes a line of a link listing for each event that is reported to it, each slip and each alignment that was dropped.
+/// Writes a line of a link listing for each event that is reported to it, each slip and each alignment that was let go.
 #[derive(Drop)]
 pub(crate) struct LinkTrackLister<'a, K: Sink> {
     pub(crate) lister: LinkLister<'a, K>,
@@ -121,7 +121,7 @@ impl<'a, K: Sink> TrackEar for LinkTrackLister<'a, K> {
     ghost use Rattle.track_sink.specs.TrackEvents.{track_event_of};
     ghost use Rattle.capture_commands.specs.TrackText.{tracks_none, tracks_both, grows_none, grows_both, written_events, events_written, counted_events, events_counted};
 
-    // The sink grew by the lines, and the count by those of faults, slips and alignments that were dropped.
+    // The sink grew by the lines, and the count by those of faults, slips and alignments that were let go.
     ghost tracked = { λ x y track_events.
         (y.lister.sink.ghost_name ≡ x.lister.sink.ghost_name)
         × (y.lister.faults ≡ counted x.lister.faults (track_faults track_events))
@@ -213,7 +213,7 @@ impl<'a, K: Sink> TrackLister for LinkTrackLister<'a, K> {
     ghost keeps_lost = { λ x y e lost. lost.0 };
 }
 
-/// Writes the pictures and the sound of what is reported to it, and a line for each slip and each alignment that was dropped.
+/// Writes the pictures and the sound of what is reported to it, and a line for each slip and each alignment that was let go.
 #[derive(Drop)]
 pub(crate) struct ContentTrackLister<'a, K: Sink> {
     pub(crate) lister: ContentLister<'a, K>,

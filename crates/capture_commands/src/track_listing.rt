@@ -15,7 +15,7 @@ use outside_io::Source;
 use std::alloc::Global;
 use track_sink::{EpochSink, Watch};
 
-/// Writes what a lister lists of a capture, while it is read: where an epoch of its lanes ends, the lanes are searched again.
+/// Writes what a lister lists of a capture, while it is read: where an epoch of its lanes ends, the lanes are searched anew.
 #[tactic(auto, using(crate::proofs::Consumed::takes_none))]
 pub(crate) fn list_epochs<F: Feeds, S: Source, W: Watch, L: TrackLister>(
     feeding: &F,

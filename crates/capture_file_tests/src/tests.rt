@@ -92,7 +92,7 @@ fn spell(alloc: Global, word: &str, bytes: &mut Vec<u8>) -> bool {
     }
 }
 
-/// The digits of a name; other words are digits.
+/// The digits that a name stands for; other words are digits.
 fn digits_of(word: &str) -> &str {
     match word {
         "TMC1" => "544d4331",
@@ -282,7 +282,7 @@ fn first_block(source: &mut MemSource, sink: &mut MemSink) -> Answer {
     }
 }
 
-/// Whether this many bytes that begin a capture are too short by what they have.
+/// Whether so many bytes that begin a capture are too short by what they have.
 fn is_short(alloc: Global, bytes: &[u8]) -> bool {
     let Ok(copy) = bytes.to_vec(alloc) else {
         return false;
@@ -305,7 +305,7 @@ fn short_beginnings(alloc: Global, capture: &[u8]) -> u64 {
     short
 }
 
-/// The hits of words. Each is a lane, a place and a character of four digits.
+/// The hits of words, each of which is a lane, a place and a character of four digits.
 fn hits_of(alloc: Global, words: &str) -> Option<Vec<Hit>>
     ensures { IfSome result (λ hits. All (λ h. h.lane < 3) hits.items) }
 {
@@ -376,7 +376,7 @@ fn word_at(bytes: &[u8], i: usize) -> Word
     Word::of(u16::from_be_bytes([high, low]) % 1024)
 }
 
-/// Lanes that took this many columns, which are those of bytes again and again.
+/// Lanes that took so many columns, which are those of bytes again and again.
 fn lanes_of(alloc: Global, columns: &[u8], count: u32) -> Result<LaneRows, NoMemory>
     requires { count < 10000 }
 {
@@ -435,7 +435,7 @@ fn folded(alloc: Global, words: &str, columns: &[u8]) -> Answer {
     (name, [size, fold, 0, 0, 0, 0, 0, 0])
 }
 
-/// Writes the capture of four packed columns: five bytes a lane.
+/// Writes the capture of four packed columns, of which each lane has five bytes.
 fn packed(alloc: Global, bytes: &[u8], sink: &mut MemSink) -> Answer {
     let mut lanes = LaneRows::new(alloc);
     if bytes.len() != 15

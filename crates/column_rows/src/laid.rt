@@ -48,7 +48,7 @@ impl Laid {
         }
     }
 
-    /// There is no room for this many columns.
+    /// There is no room for so many columns.
     pub(crate) fn full(columns: usize) -> Laid
         ensures status { result.status ≡ Full }
         ensures columns { result.columns ≡ columns }
@@ -59,7 +59,7 @@ impl Laid {
         }
     }
 
-    /// This many columns are in the rows.
+    /// So many columns are in the rows.
     pub(crate) fn done(columns: usize) -> Laid
         ensures status { result.status ≡ Done }
         ensures columns { result.columns ≡ columns }
@@ -71,7 +71,7 @@ impl Laid {
     }
 }
 
-/// Whether each row has this many words.
+/// Whether each row has so many words.
 pub(crate) fn has_room(count: usize, blue: &[u16], green: &[u16], red: &[u16]) -> bool
     ensures room { OnTrue result ((count ≤ length blue.now) × (count ≤ length green.now) × (count ≤ length red.now)) }
     ensures short { OnFalse result (AreShort count (rows_of blue.now green.now red.now)) }

@@ -9,7 +9,7 @@ use Rattle.period_grammar.specs.Column.{value_of}
 use Rattle.period_grammar.specs.Cut.{Stretch, stretch, stretches}
 use Rattle.period_grammar.specs.After.{last, grown}
 use Rattle.period_grammar.specs.GoesOn.{goes_kept}
-use Rattle.period_grammar.specs.Pixels.{is_pixel}
+use Rattle.period_grammar.specs.Balanced.{is_pixel}
 use Rattle.period_grammar.specs.Lines.{IsLineAfter}
 use Rattle.period_grammar.specs.ControlAfter.{IsControlAfter}
 use Rattle.period_grammar.specs.declared.control.ControlState.{ControlState}

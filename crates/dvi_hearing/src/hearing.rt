@@ -1,4 +1,4 @@
-//! Receives columns one after another, and reports what they say.
+//! Hears columns one after another, and reports what they say.
 ghost use Rattle.std.specs.Prelude.{◌≡◌, ◌<◌, ◌≤◌, ◌+◌, ◌++◌, ◌∷◌, [], ℕ, List, length, map, take, true, false, slice_get, Some};
 ghost use Rattle.tmds_word.specs.Column.{Column, column_of};
 ghost use Rattle.tmds_word.specs.Lent.{columns_in};
@@ -17,7 +17,7 @@ use std::marker::Model;
 use terc4::is_control_column;
 use tmds_word::{Columns, MOST_COLUMNS, Word};
 
-/// Receives the columns of a stream without guard columns one after another. It keeps a few numbers of them and the bytes
+/// Hears the columns of a stream without guard columns one after another. It keeps a few numbers of them and the bytes
 /// of one line.
 #[derive(Drop)]
 pub struct DviHearing {
@@ -41,7 +41,7 @@ impl Model for DviHearing {
 }
 
 impl DviHearing {
-    /// A hearing that has received nothing. The room for a line of 4,096 pixels is within it: it takes no memory.
+    /// A hearing that has heard nothing. The room for a line of 4,096 pixels is within it: it takes no memory.
     pub fn open() -> DviHearing
         ensures open { result.finished ≡ false }
         ensures heard { DviHearingRepresents result [] }
@@ -58,7 +58,7 @@ impl DviHearing {
         }
     }
 
-    /// Forgets all that was received and reported: it is as a fresh one. It takes no memory.
+    /// Forgets all that was heard and reported: it is as a fresh one. It takes no memory.
     pub fn restart(&mut self)
         ensures open { self.new.finished ≡ false }
         ensures heard { DviHearingRepresents self.new [] }
@@ -71,7 +71,7 @@ impl DviHearing {
         self.finished = false;
     }
 
-    /// Receives one column, the words of lanes 0, 1 and 2; `tells` and `reported` then say what is reported at it.
+    /// Hears one column, the words of lanes 0, 1 and 2; `tells` and `reported` then say what is reported at it.
     pub fn hear(&mut self, column: &[Word; 3])
         requires few { self.old.columns < MOST_COLUMNS }
         requires open { self.old.finished ≡ false }
@@ -110,7 +110,7 @@ impl DviHearing {
         self.columns = n + 1;
     }
 
-    /// Receives columns from the first on, as long as they go on with the run or the line that is open, and answers how many
+    /// Hears columns from the first on, as long as they go on with the run or the line that is open, and answers how many
     /// these are: none where none is open. Nothing is reported. `hear` takes the column that follows.
     pub fn hear_while(&mut self, columns: Columns<'_>) -> usize
         requires few { self.old.columns + length (columns_in columns) ≤ MOST_COLUMNS }
@@ -129,7 +129,7 @@ impl DviHearing {
         }
     }
 
-    /// Receives control columns of the last run, and answers how many these are.
+    /// Hears control columns of the last run, and answers how many these are.
     fn hear_run(&mut self, columns: Columns<'_>) -> usize
         requires phase { self.old.phase ≡ Control }
         requires few { self.old.columns + length (columns_in columns) ≤ MOST_COLUMNS }
@@ -146,7 +146,7 @@ impl DviHearing {
         count
     }
 
-    /// Receives pixels of the line that is open, and answers how many these are.
+    /// Hears pixels of the line that is open, and answers how many these are.
     fn hear_line(&mut self, columns: Columns<'_>) -> usize
         requires phase { (start : ℕ) × (self.old.phase ≡ Pixels start) }
         requires few { self.old.columns + length (columns_in columns) ≤ MOST_COLUMNS }
@@ -179,7 +179,7 @@ impl DviHearing {
         self.finished = true;
     }
 
-    /// How many columns were received.
+    /// How many columns were heard.
     pub fn columns(&self) -> u64
         ensures { result ≡ self.now.columns }
     {

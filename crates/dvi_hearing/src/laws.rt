@@ -1,4 +1,4 @@
-//! The columns that a hearing receives decide its answers. The functions have no code: their contracts are the laws.
+//! What a hearing answers is decided by the columns that it heard. The functions do nothing: what they ensure are the laws.
 ghost use Rattle.dvi_hearing.specs.Laws.{OneEnd, OneReport};
 
 /// What is reported at a column is one list.

@@ -19,7 +19,7 @@ use period_grammar::{ControlState, EventQueue, Fault, Line, QueuedEvent};
 use terc4::RUN;
 use tmds_word::Word;
 
-/// The phase of the hearing: in control columns, or in a line with its first pixel at this column.
+/// Where the hearing is: in control columns, or in a line whose first pixel is at the start.
 #[derive(Clone, Copy, Drop)]
 pub enum DviPhase {
     Control,
@@ -59,7 +59,7 @@ pub fn close(
     }
 }
 
-/// Reports that fewer than twelve control columns precede a line.
+/// Reports that fewer than twelve control columns stand before a line.
 fn tell_short(columns: u64, start: u64, notes: &mut EventQueue)
     requires room { length notes.old ≤ 0 }
     ensures room { length notes.new ≤ 1 }

@@ -6,7 +6,7 @@ use link_sink::{Hears, LaneSink};
 use period_grammar::EventRef;
 use tmds_word::{Columns, Word};
 
-/// Receives the columns of a stream without guard columns.
+/// Hears the columns of a stream without guard columns.
 pub type DviSink = LaneSink<DviHearing>;
 
 impl Hears for DviHearing {

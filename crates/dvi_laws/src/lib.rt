@@ -44,7 +44,7 @@ pub fn dvi_line_anywhere()
     ensures { DviLineAnywhere }
 {}
 
-/// The same holds for a line of a stream, whatever was received of the rest.
+/// So is a line of a stream of which anything else may have been received.
 pub fn dvi_stream_anywhere()
     ensures { DviStreamAnywhere }
 {}

@@ -1,7 +1,7 @@
-//! Laws of frames and lines, over the definitions alone. The functions have no code: their contracts are the laws.
+//! Laws of frames and lines, over the definitions alone. The functions do nothing: what they ensure is the law.
 ghost use Rattle.frame_build.specs.Laws.{FramesPassOverWordFaults, LinesPassOverWordFaults, StatesPassOverWordFaults, ReportedFramesLieBetweenChanges, FramesBetweenChangesAreReported};
 
-/// A fault of one word changes nothing: the three columns that make a VSYNC count may have it among them, and frames
+/// A fault of one word changes nothing: the three columns that make a VSYNC heard may have it among them, and frames
 /// and lines are reported as if it were not there. So no such fault is reported to a `Frames`.
 pub fn word_faults_change_nothing()
     ensures frames { FramesPassOverWordFaults }

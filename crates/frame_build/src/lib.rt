@@ -1,9 +1,9 @@
 //! Groups lines into frames: a frame is the lines between two changes of VSYNC.
 //!
 //! A VSYNC value counts once three columns in a row have it, with nothing reported between them except faults of one character.
-//! So one or two damaged columns change no frame. A line is ragged if its width differs from the first of its frame. The
+//! So one or two damaged columns change no frame. A line is ragged if it is not as wide as the first of its frame. The
 //! definitions are over the whole list of reported events; a `Frames` stores a few numbers, and each call says what it returns
-//! for every list that they represent.
+//! for every list that these represent.
 #![tactic(auto)]
 
 ghost use Rattle.std.specs.Prelude.{◌≡◌, ◌++◌, ◌∷◌, [], List, ℕ};
@@ -35,7 +35,7 @@ pub struct LineNote {
     pub row: u32,
 }
 
-/// Takes what is reported of a link, and says where frames end. It allocates nothing.
+/// Hears what is reported of a link, and says where frames end. It takes no memory.
 #[derive(Drop)]
 pub struct Frames {
     sync: Sync,
@@ -63,7 +63,7 @@ impl Frames {
         }
     }
 
-    /// Takes a run of `count` control columns. Bit 0 of `value` is HSYNC, bit 1 VSYNC, bits 2 to 5 are CTL0 to
+    /// Hears a run of `count` control columns. Bit 0 of `value` is HSYNC, bit 1 VSYNC, bits 2 to 5 are CTL0 to
     /// CTL3. The answer is the frame that ends here, if one does.
     pub fn run(&mut self, value: u8, count: u64) -> Option<FrameNote>
         ensures stands { (reported : List FrameEvent) → FramesRepresent self.old reported → FramesRepresent self.new (reported ++ run value count ∷ []) }
@@ -76,7 +76,7 @@ impl Frames {
         }
     }
 
-    /// Takes a line of `width` pixels.
+    /// Hears a line of `width` pixels.
     pub fn line(&mut self, width: u32) -> LineNote
         ensures stands { (reported : List FrameEvent) → FramesRepresent self.old reported → FramesRepresent self.new (reported ++ line width ∷ []) }
         ensures note { (reported : List FrameEvent) → FramesRepresent self.old reported → result ≡ line_at reported width }
@@ -85,7 +85,7 @@ impl Frames {
         self.lines.add(width)
     }
 
-    /// Takes any other event except a fault of one word, which changes nothing.
+    /// Hears anything else that is reported, but a fault of one word, which changes nothing.
     pub fn other(&mut self)
         ensures { (reported : List FrameEvent) → FramesRepresent self.old reported → FramesRepresent self.new (reported ++ other ∷ []) }
     {

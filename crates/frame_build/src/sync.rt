@@ -1,4 +1,4 @@
-//! The VSYNC values that count.
+//! The VSYNC values that are heard.
 
 ghost use Rattle.std.specs.Prelude.{◌≡◌, ◌+◌, min, ◌∷◌, [], List, ℕ};
 ghost use Rattle.frame_build.specs.FrameEvent.{FrameEvent, run, line, other, vsync_of, marks};
@@ -7,10 +7,10 @@ ghost use Rattle.frame_build.specs.FramesRepresent.{IsSyncOf, streak_of};
 
 use std::marker::Model;
 
-/// How many columns in a row make their VSYNC count.
+/// How many columns in a row make their VSYNC heard.
 const ENOUGH: u64 = 3;
 
-/// How many columns in a row, up to three, have had the VSYNC `level`, and the last VSYNC value that counted.
+/// How many columns in a row, up to three, have had the VSYNC `level`, and the last VSYNC value heard.
 #[derive(Clone, Copy)]
 pub struct Sync {
     level: bool,
@@ -54,7 +54,7 @@ impl Sync {
         before.saturating_add(count).min(ENOUGH)
     }
 
-    /// Takes a run, and answers whether VSYNC changes at it.
+    /// Hears a run, and answers whether a change is heard at it.
     pub fn hear(&mut self, value: u8, count: u64) -> bool
         ensures after { (past : List FrameEvent) → IsSyncOf self.old past → IsSyncOf self.new (run value count ∷ past) }
         ensures change { (past : List FrameEvent) → IsSyncOf self.old past → result ≡ is_change (run value count) past }
@@ -69,7 +69,7 @@ impl Sync {
         streak == ENOUGH && self.heard.replace(vsync) == Some(!vsync)
     }
 
-    /// Notes that the columns before are separate from those after.
+    /// Hears that the columns before are parted from those after.
     pub fn part(&mut self)
         ensures line { (past : List FrameEvent) (width : ℕ) → IsSyncOf self.old past → IsSyncOf self.new (line width ∷ past) }
         ensures other { (past : List FrameEvent) → IsSyncOf self.old past → IsSyncOf self.new (other ∷ past) }

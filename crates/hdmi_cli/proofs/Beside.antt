@@ -11,7 +11,7 @@ use Rattle.period_grammar.specs.Island.{packet_events}
 use Rattle.link_laws.specs.Local.{PacketStands}
 use Rattle.link_laws.proofs.PacketsBeside.{packet_in_stream, carried_in_stream}
 use Rattle.listing_writer.specs.ContentText.{content_text}
-use Rattle.listing_laws.specs.PacketLaws.{ReportedPacket, reported_packets, received_packet}
+use Rattle.listing_laws.specs.PacketLaws.{ReportedPacket, reported_packets}
 use Rattle.listing_laws.proofs.LocalPackets.{packet_alone}
 use Rattle.listing_laws.proofs.PacketLines.{listed_here}
 use Rattle.listing_laws.proofs.Reported.{reported_both}
@@ -26,7 +26,6 @@ use Rattle.hdmi_cli.specs.Local.{IsTappedUntil, IsHeardFrom, IsHeardBy}
 use Rattle.capture_commands.specs.declared.ending.Ending.{Ending}
 use Rattle.hdmi_cli.proofs.Headline.{unless_so}
 use Rattle.hdmi_cli.proofs.Local.{headlined_locally}
-use Rattle.hdmi_cli.proofs.LocalPackets.{packet_lines_after}
 
 packet_from : (t : TappedStream) (until a : ℕ) (aligned : List Column) → IsTappedUntil t until → aligned ≡ take (length aligned) (drop a t.received)
     → (front : List Period) (x : DataIsland) (back : List Period) → t.periods ≡ front ++ (island x ∷ back)
@@ -49,16 +48,13 @@ packet_from t until a aligned tapped columns front x back is k p named stands la
     subst (λ cs. heard cs ≡ map event_of (heard_so_far (take (place - a) cs)) ++ (events ++ law.0)) (sym columns) law.1 in
     let carries = carried_in_stream front x back t.sent (subst (λ ps. SpellsBy freely ps t.sent) is tapped.reception.spelled) k p named in
     let long : length rs ≡ 32 = length-take-le 32 (drop place t.received) (omega arith) in
-    let here = received_packet t.sent t.received a (record { packet = p; at = place }) in
-    let packets : reported_packets (heard aligned) ≡ reported_packets us ++ (here ∷ reported_packets law.0) =
-    ap reported_packets reported
-    ∙ reported_both us (events ++ law.0)
-    ∙ ap (λ (ks : List ReportedPacket). reported_packets us ++ ks)
-    (reported_both events law.0 ∙ ap (λ (ks : List ReportedPacket). ks ++ reported_packets law.0) (packet_alone (place - a) k p ss rs carries long)) in
     record {
       more = reported_packets law.0;
-      packets = packets;
-      listed = packet_lines_after (heard aligned) us (here ∷ reported_packets law.0) packets;
+      packets =
+          ap reported_packets reported
+          ∙ reported_both us (events ++ law.0)
+          ∙ ap (λ (ks : List ReportedPacket). reported_packets us ++ ks)
+          (reported_both events law.0 ∙ ap (λ (ks : List ReportedPacket). ks ++ reported_packets law.0) (packet_alone (place - a) k p ss rs carries long));
       lines = listed_here t.sent t.received a place p ss rs carries long refl refl;
     }
 

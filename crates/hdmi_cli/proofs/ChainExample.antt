@@ -181,6 +181,7 @@ chain_example = (
   hurt,
   record {
     read = is_read;
+    conforming = reception.conforming;
     chain = is_chain;
     makes = makes;
     damages = inl (hurt.output, hurt_is, refl);

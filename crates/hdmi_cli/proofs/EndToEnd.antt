@@ -11,8 +11,6 @@ use Rattle.source_end.specs.RasterRefusals.{raster_fault}
 use Rattle.source_end.proofs.RasterLaw.{raster_conforms}
 use Rattle.source_end.specs.declared.refusal.RasterFault.{RasterFault}
 use Rattle.link_sink.specs.Grammar.{link_grammar}
-use Rattle.listing_reader.proofs.Conforming.{taken_conforms}
-use Rattle.listing_laws.proofs.ContentTaken.{taken_is_content}
 use Rattle.link_laws.specs.Account.{account}
 use Rattle.relay.proofs.OneSpelling.{one_spelling}
 use Rattle.capture_file.specs.BlockDamage.{IsDamagedCapture}
@@ -103,14 +101,14 @@ recovered_after t tapped = record {
 }
 
 pub end_to_end : EndToEnd
-end_to_end c listing read chain made hurt makes damages ok =
-    recovered_after (stream_of c hurt.output) (stream_tapped c (taken_conforms listing c.periods read) chain made hurt (subst (λ r. MakesLink Spells (tap_asked c.tap) r made) read makes) damages ok)
+end_to_end c listing read good chain made hurt makes damages ok =
+    recovered_after (stream_of c hurt.output) (stream_tapped c good chain made hurt (subst (λ r. MakesLink Spells (tap_asked c.tap) r made) read makes) damages ok)
 
 pub content_end_to_end : ContentEndToEnd
 unfolding RasterConforms
-content_end_to_end c listing mode frames read none are chain made hurt makes damages ok =
+content_end_to_end c listing mode frames read none content are chain made hurt makes damages ok =
     let raster : MakesRaster (tap_asked c.tap) mode frames (raster_fault mode frames) made = subst (λ r. MakesContent (tap_asked c.tap) r made) read makes in
     let stream : MakesStream Spells (tap_asked c.tap) (raster_of mode frames) made = subst (λ (fault : Option RasterFault). MakesRaster (tap_asked c.tap) mode frames fault made) none raster in
-    let good : IsConforming c.periods = subst (λ (ps : List Period). IsConforming ps) (sym are) (raster_conforms mode frames none (taken_is_content listing mode frames read)) in
+    let good : IsConforming c.periods = subst (λ (ps : List Period). IsConforming ps) (sym are) (raster_conforms mode frames none content) in
     recovered_after (stream_of c hurt.output)
     (stream_tapped c good chain made hurt (subst (λ (ps : List Period). MakesStream Spells (tap_asked c.tap) ps made) (sym are) stream) damages ok)

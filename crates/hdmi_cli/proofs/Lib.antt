@@ -1,8 +1,6 @@
 pub mod Ends
 pub mod Headline
 pub mod Pictures
-pub mod Fields
-pub mod FieldsExample
 pub mod Sounds
 pub mod Exact
 pub mod TrackHeadline
@@ -28,8 +26,8 @@ pub mod RelayLocal
 pub mod LocalPictures
 pub mod TrackLocal
 pub mod RelockLocal
-pub mod RelockWhole
-pub mod WholeStream
+pub mod RelockSecond
+pub mod SecondStream
 pub mod BurstExample
 pub mod Swapped
 pub mod ChainHits

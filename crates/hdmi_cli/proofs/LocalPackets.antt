@@ -2,25 +2,20 @@
 -- received after the alignment.
 use Rattle.std.proofs.Common.{◌≡◌, ℕ, ◌+◌, ◌-◌, ◌≤◌, List, ◌∷◌, ◌++◌, map, take, drop, ap, sym, ◌∙◌, subst, arith}
 use Rattle.std.proofs.lemmas.List.{take-append-drop}
-use Rattle.std.proofs.lemmas.Grind.{flat_map-append}
 use Rattle.std.specs.Prelude.{Option, Some}
-use Rattle.std.specs.List.{filter, flat_map}
 use Rattle.island_pack.specs.Periods.{DataIsland, Period, island, period_columns, columns_of}
 use Rattle.island_pack.specs.Spelling.{SpellsBy, freely}
-use Rattle.period_grammar.specs.Events.{Event, event_of}
-use Rattle.period_grammar.specs.Heard.{heard}
+use Rattle.period_grammar.specs.Events.{event_of}
 use Rattle.link_laws.specs.Literal.{island_placed, period_placed}
 use Rattle.link_laws.specs.Local.{StandsAlone, part_at, twelve_before}
 use Rattle.link_laws.proofs.Conformed.{HasValues}
 use Rattle.link_laws.proofs.Joining.{ArrivesPeriod}
 use Rattle.link_laws.proofs.LocalStream.{spelled_at}
 use Rattle.link_laws.proofs.PeriodLaws.{received_one}
-use Rattle.listing_writer.specs.ContentText.{content_lines, content_text}
-use Rattle.listing_laws.specs.ListingLaws.{tells_packet, reported_lines}
-use Rattle.listing_laws.specs.PacketLaws.{ReportedPacket, reported_packets, received_packet, each_at}
+use Rattle.listing_writer.specs.ContentText.{content_text}
+use Rattle.listing_laws.specs.PacketLaws.{reported_packets, received_packet, each_at}
 use Rattle.listing_laws.proofs.Accounted.{island_size}
 use Rattle.listing_laws.proofs.LocalPackets.{island_packets, island_lines}
-use Rattle.listing_laws.proofs.PacketsListed.{packet_lines_are_listed}
 use Rattle.listing_laws.proofs.Reported.{reported_both}
 use Rattle.command_line.specs.Commands.{IsCommand}
 use Rattle.command_line.specs.declared.command.Command.TheVariants.{RecoverContent}
@@ -32,15 +27,6 @@ use Rattle.hdmi_cli.specs.Local.{IsTappedUntil, IsHeardFrom, IsHeardBy, ArePacke
 use Rattle.capture_commands.specs.declared.ending.Ending.{Ending}
 use Rattle.hdmi_cli.proofs.Headline.{unless_so}
 use Rattle.hdmi_cli.proofs.Local.{headlined_locally}
-
--- the lines of packets that are reported after some events come after those of the events
-pub packet_lines_after : (events before : List Event) (after : List ReportedPacket) → reported_packets events ≡ reported_packets before ++ after
-    → filter tells_packet (content_lines events) ≡ filter tells_packet (content_lines before) ++ flat_map reported_lines after
-packet_lines_after events before after is =
-    packet_lines_are_listed events
-    ∙ ap (flat_map reported_lines) is
-    ∙ flat_map-append reported_lines (reported_packets before) after
-    ∙ ap (λ (lines : List (List ℕ)). lines ++ flat_map reported_lines after) (sym (packet_lines_are_listed before))
 
 row_packets : (t : TappedStream) (a j : ℕ) (x : DataIsland) → a ≤ j → reported_packets (row_of t a (island x) j) ≡ map (received_packet t.sent t.received a) (each_at (j + 2) x.packets)
 unfolding period_placed
@@ -66,18 +52,12 @@ packets_from t until d e f a status old new tapped h =
           let aligned = aligned_of t d e f in
           let row = h.rows front (island x) back is good alone late past in
           let us = reported_to a j aligned in
-          let some = map (received_packet t.sent t.received a) (each_at (j + 2) x.packets) in
-          let more = reported_packets row.later in
-          let packets : reported_packets (heard aligned) ≡ reported_packets us ++ (some ++ more) =
-          ap reported_packets row.reported
-          ∙ reported_both us (row_of t a (island x) j ++ row.later)
-          ∙ ap (λ ks. reported_packets us ++ ks) (reported_both (row_of t a (island x) j) row.later ∙ ap (λ ks. ks ++ more) (row_packets t a j x (omega arith))) in
           record {
-            more = more;
-            packets = packets;
-            listed =
-                packet_lines_after (heard aligned) us (some ++ more) packets
-                ∙ ap (λ (lines : List (List ℕ)). filter tells_packet (content_lines us) ++ lines) (flat_map-append reported_lines some more);
+            more = reported_packets row.later;
+            packets =
+                ap reported_packets row.reported
+                ∙ reported_both us (row_of t a (island x) j ++ row.later)
+                ∙ ap (λ ks. reported_packets us ++ ks) (reported_both (row_of t a (island x) j) row.later ∙ ap (λ ks. ks ++ reported_packets row.later) (row_packets t a j x (omega arith)));
             lines = island_lines t.sent t.received a j x (part_at j (island x) t.sent) (part_at j (island x) t.received)
                 (drop (period_columns (island x)) (drop j t.sent)) (drop (period_columns (island x)) (drop j t.received))
                 (arrives_alone t front x back (subst (λ ps. SpellsBy freely ps t.sent) is tapped.reception.spelled) alone)

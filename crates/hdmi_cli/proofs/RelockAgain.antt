@@ -29,7 +29,7 @@ use Rattle.relock_laws.specs.RefutingSettled.{IsStartBy, first_start, next_start
 use Rattle.relock_laws.proofs.Again.{accounted_there, calm_again}
 use Rattle.relock_laws.proofs.RefutingAgain.{same_skew_is_last}
 use Rattle.relock_laws.proofs.RefutingSettling.{settles_by_refuting, settled_has_skew}
-use Rattle.relock_laws.proofs.WholeSettling.{whole_has_skew}
+use Rattle.relock_laws.proofs.SecondSettling.{second_has_skew}
 use Rattle.relock_laws.proofs.SkewColumns.{same_skew_is_accounted}
 use Rattle.capture_commands.specs.Endings.{Devices, RunEnds, Unless, status_of}
 use Rattle.capture_commands.specs.Notes.{alignment_note}
@@ -205,7 +205,7 @@ again listing t comes o old new tracks written =
       written_there = λ there spared.
           there_written listing t comes start p q r settled there old new (text (skew_there t.lanes t.blue t.green t.red start p q r settled there) (spared, inl there));
       skew = λ whole. (settled_has_skew t.lanes t.blue t.green t.red whole calm.blue calm.green calm.red start p q r settled).1;
-      whole = λ n whole. (whole_has_skew t.lanes t.blue t.green t.red n whole calm.blue calm.green calm.red start p q r settled).1;
+      second = λ d e f two. (second_has_skew t.lanes d e f t.blue t.green t.red two calm.blue calm.green calm.red start p q r settled).1;
     }
 
 of_bytes : (listing : TrackListing) (t : AgainStream) → ComesAgain t → (o : RunOutcome) (old new : Option (List ℕ)) → TracksCapture refuting_rule listing t.bytes o → Appends old new o.output → IsRelockedAgain listing t old new

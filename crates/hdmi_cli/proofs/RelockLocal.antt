@@ -31,16 +31,14 @@ one_epoch t until tapped aligns stays =
     let x : Fed = record { blue = t.blue; green = t.green; red = t.red } in
     record {
       last = local_is_last t.periods t.sent t.received t.offset t.skews t.counts x until tapped.reception tapped.tap tapped.small aligns stays.next stays.no_stray;
-      unrefuted = λ p q r d e f go. absurd (stays.stands p q r d e f go);
+      unrefuted = λ p q r d e f go. absurd (stays.no_contender p q r d e f (contends x p q r d e f go));
     }
 
 pub clear_is_uncontended : ClearIsUncontended
 clear_is_uncontended t until tapped aligns clear = record {
   next = clear.next;
   no_stray = clear.no_stray;
-  stands = λ p q r d e f go.
-      let x : Fed = record { blue = t.blue; green = t.green; red = t.red } in
-      clear_has_no_contender t.periods t.sent t.received t.offset t.skews t.counts x until tapped.reception tapped.tap tapped.small aligns clear.clear_ends p q r d e f (contends x p q r d e f go);
+  no_contender = clear_has_no_contender t.periods t.sent t.received t.offset t.skews t.counts (record { blue = t.blue; green = t.green; red = t.red }) until tapped.reception tapped.tap tapped.small aligns clear.clear_ends;
 }
 
 pub relocked_locally : (words : List (List ℕ)) (ending : Ending) (before after : Devices) (status : ℕ) → RunEnds words ending before after → status ≡ status_of ending → IsCommand words RecoverRelock

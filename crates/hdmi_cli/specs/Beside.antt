@@ -1,6 +1,5 @@
 -- What `recover content` lists of a packet of a data island of which anything else may have been received.
 use Rattle.std.specs.Prelude.{◌≡◌, ◌+◌, ◌-◌, ◌*◌, ◌≤◌, ℕ, true, List, ◌∷◌, ◌++◌, length, map, take, drop, codes, Option, Some, slice_get}
-use Rattle.std.specs.List.{filter, flat_map}
 use Rattle.std.specs.Io.KnownBytes.{Appends}
 use Rattle.tmds_word.specs.Column.{Column}
 use Rattle.island_pack.specs.Periods.{DataIsland, Period, island, columns_of}
@@ -10,13 +9,12 @@ use Rattle.period_grammar.specs.Events.{event_of}
 use Rattle.period_grammar.specs.Heard.{heard_so_far, heard}
 use Rattle.link_laws.specs.Local.{PacketStands}
 use Rattle.listing_writer.specs.ContentText.{content_lines, packet_lines, text_of}
-use Rattle.listing_laws.specs.ListingLaws.{tells_packet, reported_lines, as_sent_at}
+use Rattle.listing_laws.specs.ListingLaws.{reported_lines, as_sent_at}
 use Rattle.listing_laws.specs.PacketLaws.{Placed, ReportedPacket, reported_packets, received_packet}
 use Rattle.hdmi_cli.specs.Headline.{TappedStream, aligned_of, IsFirstOf}
 
--- packet k of an island at column j is reported, after those that are reported before its first column. So are its lines among
--- the lines of the text that tell packets. Where at most one word of it was received unlike, or few were and no fault is found, it
--- has the lines of the packet as it was sent
+-- packet k of an island at column j is reported, after those that are reported before its first column; where at most one word of
+-- it was received unlike, or few were and no fault is found, it has the lines of the packet as it was sent
 pub record HasPacket (t : TappedStream) (a j k : ℕ) (p : Packet) (aligned : List Column) : Type 0 where
   pub more : List ReportedPacket
   pub packets :
@@ -24,11 +22,6 @@ pub record HasPacket (t : TappedStream) (a j k : ℕ) (p : Packet) (aligned : Li
       reported_packets (heard aligned)
       ≡ reported_packets (map event_of (heard_so_far (take (place - a) aligned)))
       ++ (received_packet t.sent t.received a (record { packet = p; at = place }) ∷ more)
-  pub listed :
-      let place = j + 2 + 32 * k in
-      filter tells_packet (content_lines (heard aligned))
-      ≡ filter tells_packet (content_lines (map event_of (heard_so_far (take (place - a) aligned))))
-      ++ (reported_lines (received_packet t.sent t.received a (record { packet = p; at = place })) ++ flat_map reported_lines more)
   pub lines :
       let placed : Placed = record { packet = p; at = j + 2 + 32 * k } in
       as_sent_at t.sent t.received placed ≡ true → reported_lines (received_packet t.sent t.received a placed) ≡ packet_lines p spotless (placed.at - a)

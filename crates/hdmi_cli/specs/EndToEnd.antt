@@ -1,11 +1,12 @@
 -- One command after another: `make link` or `make content`, then `damage` in whole characters, then `recover`.
-use Rattle.std.specs.Prelude.{◌≡◌, ℕ, ◌+◌, ◌*◌, ◌^◌, ◌<◌, ◌≤◌, List, map, length, None}
+use Rattle.std.specs.Prelude.{◌≡◌, ℕ, ◌+◌, ◌*◌, ◌^◌, ◌<◌, ◌≤◌, List, map, length, None, IsTrue}
 use Rattle.tmds_word.specs.Column.{Column}
 use Rattle.tmds_word.specs.Taps.{HasSmallSkew}
+use Rattle.island_pack.specs.Conforming.{IsConforming}
 use Rattle.island_pack.specs.Periods.{Period}
 use Rattle.island_pack.specs.Sparse.{IsSparse}
 use Rattle.island_pack.specs.Spelling.{Spells}
-use Rattle.source_end.specs.Content.{Frame}
+use Rattle.source_end.specs.Content.{Frame, are_content}
 use Rattle.source_end.specs.Raster.{raster_of}
 use Rattle.source_end.specs.RasterRefusals.{raster_fault}
 use Rattle.source_end.specs.declared.mode.Mode.{Mode}
@@ -71,17 +72,17 @@ pub record IsRecoveredAfter (t : TappedStream) : Type 0 where
   pub link : Aligns t → (o : RunOutcome) → Does RecoverLink t.bytes o → FromFirst t (λ d e f a. IsListed link_listing t d e f a o)
   pub content : Aligns t → (o : RunOutcome) → Does RecoverContent t.bytes o → FromFirst t (λ d e f a. IsListed content_listing t d e f a o)
 
--- of each link listing that is taken
+-- of each listing of conforming periods
 abbrev pub EndToEnd : Type 0
 EndToEnd =
-    (c : Chain) (listing : List ℕ) → reads_as listing ≡ accepts c.periods → IsChain c
+    (c : Chain) (listing : List ℕ) → reads_as listing ≡ accepts c.periods → IsConforming c.periods → IsChain c
     → (made hurt : RunOutcome) → Does (MakeLink c.tap) listing made → Does (Damage c.damages) made.output hurt → hurt.status ≡ 0
     → IsRecoveredAfter (stream_of c hurt.output)
 
--- and of each content listing that is taken: its frames fit its mode
+-- and of each content listing that has a raster, of bytes and packets
 abbrev pub ContentEndToEnd : Type 0
 ContentEndToEnd =
-    (c : Chain) (listing : List ℕ) (mode : Mode) (frames : List Frame) → content_reads_as listing ≡ accepts (mode, frames) → raster_fault mode frames ≡ None
+    (c : Chain) (listing : List ℕ) (mode : Mode) (frames : List Frame) → content_reads_as listing ≡ accepts (mode, frames) → raster_fault mode frames ≡ None → IsTrue (are_content frames)
     → c.periods ≡ raster_of mode frames → IsChain c
     → (made hurt : RunOutcome) → Does (MakeContent c.tap) listing made → Does (Damage c.damages) made.output hurt → hurt.status ≡ 0
     → IsRecoveredAfter (stream_of c hurt.output)
@@ -89,6 +90,7 @@ ContentEndToEnd =
 -- a chain of which two characters are damaged, and what it makes
 pub record IsChainExample (c : Chain) (listing : List ℕ) (made hurt : RunOutcome) : Type 0 where
   pub read : reads_as listing ≡ accepts c.periods
+  pub conforming : IsConforming c.periods
   pub chain : IsChain c
   pub makes : Does (MakeLink c.tap) listing made
   pub damages : Does (Damage c.damages) made.output hurt

@@ -11,7 +11,7 @@ use Rattle.island_pack.specs.Periods.{Period}
 use Rattle.island_pack.specs.Sparse.{IsSparseInPayload}
 use Rattle.link_laws.specs.Laws.{ReceivedOf, IsAccounted, AlignsUntil, BeginColumn}
 use Rattle.link_laws.specs.Account.{account}
-use Rattle.relock_laws.specs.Doubted.{EachIsSpared}
+use Rattle.relock_laws.specs.Doubted.{OneOfTwoIsSpared}
 use Rattle.source_end.specs.DviPeriods.{IsDviConforming, DviSpells, IsDviSparse, HasThree}
 use Rattle.dvi_laws.specs.DviAccount.{dvi_account}
 use Rattle.dvi_laws.specs.DviLaws.{IsDviAccounted}
@@ -63,11 +63,11 @@ abbrev pub Aligns : TappedStream → Type 0
 Aligns t = (IsSparseInPayload t.periods t.sent t.received × ((d e f : ℕ) × IsFirstOf t d e f)) ⊎ ((until : ℕ) × AlignsBy t until)
 
 -- damage of pixels and packets alone, where there is a first full alignment; or damage that spares the other columns until one, and from
--- there on the beginning or the end of each control period
+-- there on one of any two control periods in a row
 abbrev pub StaysAligned : TappedStream → Type 0
 StaysAligned t =
     (IsSparseInPayload t.periods t.sent t.received × ((d e f : ℕ) × IsFirstOf t d e f))
-    ⊎ ((until : ℕ) × AlignsBy t until × EachIsSpared t.periods t.sent t.received until)
+    ⊎ ((until : ℕ) × AlignsBy t until × OneOfTwoIsSpared t.periods t.sent t.received until)
 
 -- what holds of its columns from the first full alignment on, which begin with column a: that alignment is at or before each
 -- column until which damage spares control, guard and preamble words

@@ -7,7 +7,6 @@ pub mod TrackPasses
 pub mod TrackExamples
 pub mod RelayClauses
 pub mod Pictures
-pub mod Fields
 pub mod Sounds
 pub mod Exact
 pub mod RelaySettles
@@ -18,7 +17,7 @@ pub mod DviLocal
 pub mod RelayLocal
 pub mod LocalPictures
 pub mod RelockLocal
-pub mod RelockWhole
+pub mod RelockSecond
 pub mod Chain
 pub mod EndToEnd
 pub mod RelayChecked

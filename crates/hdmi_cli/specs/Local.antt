@@ -1,7 +1,6 @@
 -- What a command lists of a capture of which anything may have been received after the alignment: of each line and each
 -- island that was received with few words damaged, after twelve control columns and before one, its row.
 use Rattle.std.specs.Prelude.{◌≡◌, ◌+◌, ◌-◌, ◌<◌, ◌≤◌, ℕ, true, List, ◌∷◌, ◌++◌, length, map, take, drop, codes, Option}
-use Rattle.std.specs.List.{filter, flat_map}
 use Rattle.std.specs.Io.KnownBytes.{Appends}
 use Rattle.capture_file.specs.Captures.{IsCaptureOf}
 use Rattle.tmds_word.specs.Column.{Column}
@@ -15,7 +14,7 @@ use Rattle.link_laws.specs.Laws.{EndsControl, BeginColumn}
 use Rattle.link_laws.specs.Literal.{period_placed}
 use Rattle.link_laws.specs.Local.{ReceivedUntil, is_between, part_at, twelve_before, StandsAlone}
 use Rattle.listing_writer.specs.ContentText.{content_lines, packet_lines, text_of}
-use Rattle.listing_laws.specs.ListingLaws.{Each, tells_packet, reported_lines, as_sent_at}
+use Rattle.listing_laws.specs.ListingLaws.{Each, reported_lines, as_sent_at}
 use Rattle.listing_laws.specs.PacketLaws.{ReportedPacket, reported_packets, received_packet, each_at}
 use Rattle.track_sink.specs.Epochs.{HasNoEnd}
 use Rattle.hdmi_cli.specs.Headline.{TappedStream, aligned_of, IsFirstOf}
@@ -73,17 +72,13 @@ abbrev pub HasNoStrays : TappedStream → Type 0
 HasNoStrays t = HasNoEnd (record { blue = t.blue; green = t.green; red = t.red })
 
 -- the packets of a data island that stands alone at column j are reported, between those that are reported before it and
--- others. So are their lines among the lines of the text that tell packets. Each of which at most one word was received unlike,
--- or few were and no fault is found, has the lines of the packet as it was sent
+-- others; each of which at most one word was received unlike, or few were and no fault is found, has the lines of the packet as
+-- it was sent
 pub record HasPackets (t : TappedStream) (a j : ℕ) (x : DataIsland) (aligned : List Column) : Type 0 where
   pub more : List ReportedPacket
   pub packets :
       reported_packets (heard aligned)
       ≡ reported_packets (reported_to a j aligned) ++ (map (received_packet t.sent t.received a) (each_at (j + 2) x.packets) ++ more)
-  pub listed :
-      filter tells_packet (content_lines (heard aligned))
-      ≡ filter tells_packet (content_lines (reported_to a j aligned))
-      ++ (flat_map reported_lines (map (received_packet t.sent t.received a) (each_at (j + 2) x.packets)) ++ flat_map reported_lines more)
   pub lines : Each (λ k. as_sent_at t.sent t.received k ≡ true → reported_lines (received_packet t.sent t.received a k) ≡ packet_lines k.packet spotless (k.at - a)) (each_at (j + 2) x.packets)
 
 -- the output grew by the content listing of what is heard of the columns that are aligned at three edges, and the packets of each

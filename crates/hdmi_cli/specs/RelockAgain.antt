@@ -1,5 +1,5 @@
 -- What `recover relock` and `recover content relock` make of a capture whose lanes have any bits first, and then those of a tapped stream.
-use Rattle.std.specs.Prelude.{◌≡◌, ◌⊎◌, ◌+◌, ◌-◌, ◌*◌, ℕ, List, ◌++◌, length, drop, Option, Some}
+use Rattle.std.specs.Prelude.{◌≡◌, ◌⊎◌, ◌+◌, ◌-◌, ◌*◌, ℕ, List, ◌++◌, length, drop, Option}
 use Rattle.std.specs.Io.KnownBytes.{Appends}
 use Rattle.tmds_word.specs.Column.{Column}
 use Rattle.capture_file.specs.Captures.{IsCaptureOf}
@@ -12,14 +12,10 @@ use Rattle.track_sink.specs.Epochs.{rest_of}
 use Rattle.track_sink.specs.TrackEvents.{TrackEvent, track_events_of}
 use Rattle.relock_sink.specs.Refuting.{IsLastUnrefuted, refuting_rule}
 use Rattle.relock_sink.specs.Rivals.{HaveSameSkew}
-use Rattle.relock_laws.specs.Doubted.{EachIsSpared}
-use Rattle.relock_laws.specs.RefutingSettled.{IsStartBy, IsSettledBy, IsWholeGoodPeriod, IsWholeGoodFrom, OpensThere}
+use Rattle.relock_laws.specs.Doubted.{OneOfTwoIsSpared}
+use Rattle.relock_laws.specs.RefutingSettled.{IsStartBy, IsSettledBy, IsWholeGoodPeriod, AreTwoGood, OpensThere}
 use Rattle.relock_laws.specs.Settled.{IsAgain}
-use Rattle.command_line.specs.Commands.{IsCommand}
-use Rattle.command_line.specs.declared.command.Command.{Command}
-use Rattle.capture_commands.specs.Endings.{Devices, RunEnds, Unless, status_of}
 use Rattle.capture_commands.specs.TrackListings.{TrackListing}
-use Rattle.capture_commands.specs.declared.ending.Ending.{Ending}
 
 -- a stream that comes again: the periods that are sent, the columns as they are sent and as they are received, where in them each
 -- lane begins and how many bits it has of them, how many bits each lane has before, and all its bits; the edges of a control
@@ -66,16 +62,16 @@ pub record EndsWithLater (listing : TrackListing) (t : AgainStream) (columns : L
       Appends old new (listing.text (first ++ track_events_of (account_from (n + 12) (length columns - (n + 12)) (twelve_before (t.a + 12) t.received) later
       (drop (t.a + 12) t.sent) (drop (t.a + 12) t.received))))
 
--- damage spares the beginning or the end of each control period from that one on; and an epoch is aligned there, or the guard band
--- there was received whole
+-- damage spares one of any two control periods in a row from that one on; and an epoch is aligned there, or the guard band there was
+-- received whole
 abbrev pub IsKeptThere : AgainStream → (start edge_blue : ℕ) → Type 0
 IsKeptThere t start edge_blue =
-    EachIsSpared t.periods t.sent t.received (t.a + 12) × ((start + edge_blue ≡ t.blue) ⊎ IsWholeGoodPeriod t.lanes t.blue t.green t.red)
+    OneOfTwoIsSpared t.periods t.sent t.received (t.a + 12) × ((start + edge_blue ≡ t.blue) ⊎ IsWholeGoodPeriod t.lanes t.blue t.green t.red)
 
 -- An epoch has the last twelve of these characters, and does not end before them; it is aligned at that control period, or before it
 -- where a guard band confirmed it. Where it has the skew of that control period and is kept it is the last, and the output grew by a text
 -- that ends with the account from there on. It has it where the guard band there was received whole, or by its own skew too something
--- opens there; and it has it, whatever opens by another one, where the control period was received whole from three characters before it on.
+-- opens there; and at the second of two such control periods in a row it has it, whatever opens by another one.
 pub record IsRelockedAgain (listing : TrackListing) (t : AgainStream) (old new : Option (List ℕ)) : Type 0 where
   pub start : ℕ
   pub begins : IsStartBy refuting_rule t.lanes start
@@ -88,15 +84,9 @@ pub record IsRelockedAgain (listing : TrackListing) (t : AgainStream) (old new :
       HaveSameSkew edge_blue edge_green edge_red t.blue t.green t.red → IsKeptThere t start edge_blue
       → (n : ℕ) × (start + edge_blue + 10 * n ≡ t.blue) × EndsWithLater listing t (columns_from t start edge_blue edge_green edge_red) n old new
   pub written_there :
-      start + edge_blue ≡ t.blue → EachIsSpared t.periods t.sent t.received (t.a + 12)
+      start + edge_blue ≡ t.blue → OneOfTwoIsSpared t.periods t.sent t.received (t.a + 12)
       → EndsWithAll listing t (columns_from t start edge_blue edge_green edge_red) old new
   pub skew :
       IsWholeGoodPeriod t.lanes t.blue t.green t.red
       → HaveSameSkew edge_blue edge_green edge_red t.blue t.green t.red ⊎ OpensThere t.lanes t.blue t.green t.red start edge_blue edge_green edge_red
-  pub whole : (n : ℕ) → IsWholeGoodFrom t.lanes t.blue t.green t.red n → HaveSameSkew edge_blue edge_green edge_red t.blue t.green t.red
-
--- each run of a command writes so of such a stream
-abbrev pub RelocksAgain : Command → TrackListing → Type 0
-RelocksAgain this listing =
-    (words : List (List ℕ)) (ending : Ending) (before after : Devices) (status : ℕ) → RunEnds words ending before after → status ≡ status_of ending → IsCommand words this
-    → (t : AgainStream) → ComesAgain t → before.left ≡ Some t.bytes → Unless (λ _ held holds. IsRelockedAgain listing t held holds) status before after
+  pub second : (d e f : ℕ) → AreTwoGood t.lanes d e f t.blue t.green t.red → HaveSameSkew edge_blue edge_green edge_red t.blue t.green t.red

@@ -6,7 +6,7 @@ use Rattle.island_pack.specs.Sparse.{unlike_at}
 use Rattle.link_laws.specs.Laws.{BeginColumn}
 use Rattle.link_laws.specs.Local.{is_between, StandsAlone}
 use Rattle.relock_laws.specs.Doubted.{HasClearEnds}
-use Rattle.relock_sink.specs.Doubts.{IsLetGo}
+use Rattle.relock_sink.specs.Doubts.{IsContender}
 use Rattle.hdmi_cli.specs.Headline.{TappedStream, AlignsBy, aligned_of}
 use Rattle.hdmi_cli.specs.Local.{IsTappedUntil, HasNoStrays}
 
@@ -17,13 +17,12 @@ pub record StaysClear (t : TappedStream) (until : ℕ) : Type 0 where
   pub no_stray : HasNoStrays t
   pub clear_ends : HasClearEnds t.sent t.received
 
--- The same, asked of the bits: the alignment is let go for no other edges. For that they have another skew, a guard band is received whole
--- at them, and by the alignment a control period ends in their midst; no period opens there by it, or the control period began by their
--- skew too.
+-- The same, asked of the bits: no other edges contend with the alignment. Edges contend if they have another skew, a guard band is
+-- received whole at them, and by the alignment a control period ends in their midst.
 pub record StaysUncontended (t : TappedStream) (until : ℕ) : Type 0 where
   pub next : unlike_at t.sent t.received (until + 1) ≤ 1
   pub no_stray : HasNoStrays t
-  pub stands : (p q r d e f : ℕ) → IsLetGo (record { blue = t.blue; green = t.green; red = t.red }) p q r d e f → ⊥
+  pub no_contender : (p q r d e f : ℕ) → IsContender (record { blue = t.blue; green = t.green; red = t.red }) p q r d e f → ⊥
 
 -- The first premise implies the second.
 abbrev pub ClearIsUncontended : Type 0

@@ -14,16 +14,15 @@ use Rattle.hdmi_cli.specs.DviLocal.{IsDviTappedUntil, DviAlignsBy, IsDviHeardBy}
 use Rattle.hdmi_cli.specs.LocalPictures.{ArePicturesBy}
 use Rattle.hdmi_cli.specs.TrackSlip.{LineSlip, IsSlippedTap, IsNoticed, IsTrackedAcross}
 use Rattle.hdmi_cli.specs.TrackPasses.{IsUnnoticed, IsTrackedAsOne}
-use Rattle.hdmi_cli.specs.RelockAgain.{AgainStream}
+use Rattle.hdmi_cli.specs.RelockAgain.{AgainStream, ComesAgain, IsRelockedAgain}
 use Rattle.hdmi_cli.specs.RelockLocal.{StaysClear, StaysUncontended}
-use Rattle.hdmi_cli.specs.RelockWhole.{ComesWhole, IsListedOn}
+use Rattle.hdmi_cli.specs.RelockSecond.{ComesTwice, IsListedOn}
 use Rattle.hdmi_cli.specs.RelayClauses.{IsCleanToEnd, IsPassedOn, IsRelayedAgain, IsSentWithin}
 use Rattle.hdmi_cli.specs.RelayLocal.{IsRelayedBy}
 use Rattle.hdmi_cli.specs.RelaySettles.{IsWritten, IsWrittenButBit3}
 use Rattle.capture_commands.specs.Relays.{IsRelayed}
 use Rattle.period_grammar.specs.Events.{Event}
 use Rattle.relay.specs.Relayed.{relayed}
-use Rattle.hdmi_cli.specs.Fields.{AreFields}
 use Rattle.hdmi_cli.specs.Pictures.{ArePackets, ArePictures}
 use Rattle.hdmi_cli.specs.Sounds.{AreSamples}
 use Rattle.hdmi_cli.specs.Exact.{IsAlignedCapture, IsJudged}
@@ -35,8 +34,8 @@ use Rattle.command_line.specs.Commands.{IsCommand}
 use Rattle.command_line.specs.declared.command.Command.TheVariants.{RecoverLink, RecoverContent, RecoverTrack, RecoverRelock, RecoverContentRelock, RecoverBiphase, RecoverDvi, Check, Relay}
 
 -- Each theorem holds but where a device failed or memory was wanting (`Unless`). Where it begins with `Aligns t`, it holds of damage of
--- pixels and packets alone and of damage anywhere after an alignment; with `StaysAligned t`, of damage that spares the
--- beginning or the end of each control period after it.
+-- pixels and packets alone and of damage anywhere after an alignment; with `StaysAligned t`, of damage that spares one of any two
+-- control periods in a row after it.
 pub record Promises (words : List (List ℕ)) (status : ℕ) (before after : Devices) : Type 0 where
   -- `recover link` writes exactly what was sent: for all columns that conforming periods spell, every sparse damage of their
   -- payload, every tap of them with skews of at most 70 bits, from their first full alignment on.
@@ -73,12 +72,6 @@ pub record Promises (words : List (List ℕ)) (status : ℕ) (before after : Dev
   -- as it was sent.
   pub packets : IsCommand words RecoverContent → (t : TappedStream) → IsTapped t → Aligns t → before.left ≡ Some t.bytes
       → Unless (λ status held holds. FromFirst t (λ d e f a. ArePackets t d e f a held holds)) status before after
-  -- The fields that such a packet of a raster says are listed as they were sent: the line `avi ..`, `audio ..` or `acr ..` that says
-  -- them is in the output, and so is a line `s ..` for each sample. This holds for all modes and contents.
-  pub fields : IsCommand words RecoverContent
-      → (mode : Mode) (frames : List Frame) → raster_fault mode frames ≡ None → (t : TappedStream) → t.periods ≡ raster_of mode frames → IsTapped t → Aligns t
-      → before.left ≡ Some t.bytes
-      → Unless (λ status held holds. FromFirst t (λ d e f a. AreFields frames t d e f a held holds)) status before after
   -- Whatever is received after a column until which damage is so: `recover content` lists the row of each line and each island that
   -- was received with few words damaged, after twelve control columns and before one; so does `check`, of their faults.
   pub content_local : IsCommand words RecoverContent → (t : TappedStream) → (until : ℕ) → IsTappedUntil t until → AlignsBy t until
@@ -135,29 +128,36 @@ pub record Promises (words : List (List ℕ)) (status : ℕ) (before after : Dev
   -- where the lane had no lock before it, and then all is reported as it was sent, from the first full alignment on;
   -- nor where the lane ends before it has twelve characters of the control period after the line.
   pub track_slip_passes : IsCommand words RecoverTrack → (t : TappedStream) → (s : LineSlip) → (y : Fed) → IsSlippedTap t s y → IsUnnoticed t s
-      → before.left ≡ Some t.bytes → Unless (IsTrackedAsOne link_listing t s y) status before after
+      → before.left ≡ Some t.bytes → Unless (IsTrackedAsOne RecoverLink link_listing t s y) status before after
   -- `recover relock` writes the text of `recover link`, and across a slip what `recover track` writes: the alignment of a stream that was
-  -- received with sparse damage is confirmed by the guard band after it, refuted by no other edges, and not doubted where damage after
-  -- it spares the beginning or the end of each control period.
+  -- received with sparse damage is confirmed by the guard band after it, refuted by no other edges, and not doubted twice in a row where
+  -- damage after it spares one of any two control periods in a row.
   pub relock_headline : IsCommand words RecoverRelock → (t : TappedStream) → IsTapped t → StaysAligned t → before.left ≡ Some t.bytes
       → Unless (λ status held holds. FromFirst t (λ d e f a. IsRecovered link_listing t d e f a status held holds)) status before after
   pub relock_slip : IsCommand words RecoverRelock → (t : TappedStream) → (s : LineSlip) → (y : Fed) → IsSlippedTap t s y → IsNoticed t s
       → before.left ≡ Some t.bytes → Unless (IsTrackedAcross link_track_listing t s y) status before after
   pub relock_slip_passes : IsCommand words RecoverRelock → (t : TappedStream) → (s : LineSlip) → (y : Fed) → IsSlippedTap t s y → IsUnnoticed t s
-      → before.left ≡ Some t.bytes → Unless (IsTrackedAsOne link_listing t s y) status before after
+      → before.left ≡ Some t.bytes → Unless (IsTrackedAsOne RecoverLink link_listing t s y) status before after
   -- Whatever is received after a column until which damage is so, and after the next one: it writes what `recover link` does, with the row
   -- of each line and each island that stands alone. No lane may have a stray, and near the end of a control period no character may be
   -- received as a control or guard character that it was not.
   pub relock_local : IsCommand words RecoverRelock → (t : TappedStream) → (until : ℕ) → IsTappedUntil t until → AlignsBy t until → StaysClear t until
       → before.left ≡ Some t.bytes
       → Unless (IsHeardBy link_listing t until) status before after
-  -- The same if the alignment is let go for no other edges. That is asked of the bits, and allows more.
+  -- The same if no other edges contend with the alignment. That is asked of the bits, and allows more.
   pub relock_uncontended : IsCommand words RecoverRelock → (t : TappedStream) → (until : ℕ) → IsTappedUntil t until → AlignsBy t until → StaysUncontended t until
       → before.left ≡ Some t.bytes
       → Unless (IsHeardBy link_listing t until) status before after
-  -- Whatever bits came before: from one control period on that came whole, from three characters before its beginning to fifteen after its
-  -- end, it lists all that follows as it was sent.
-  pub relock_at_whole : IsCommand words RecoverRelock → (t : AgainStream) → (j : ℕ) → ComesWhole t j → before.left ≡ Some t.bytes
+  -- Whatever bits came before: from a control period on of which nineteen characters were received on each lane, and a guard band
+  -- after it, the stream is listed as it was sent, where the alignment has the skew of that control period and damage spares one of any two
+  -- control periods in a row from there on. It is at that one, or at one before that a guard band confirmed. It has that skew where the
+  -- guard band was received whole, or by another skew too something opens. At the second of two such control periods in a row it has their
+  -- skew too, whatever opens by another one.
+  pub relock_again : IsCommand words RecoverRelock → (t : AgainStream) → ComesAgain t → before.left ≡ Some t.bytes
+      → Unless (λ _ held holds. IsRelockedAgain link_track_listing t held holds) status before after
+  -- Whatever bits came before: from the second of two such control periods of one skew on, it lists all that follows as it was sent. Both
+  -- guard bands were received whole, and each control period that ends between the two on all lanes has their skew.
+  pub relock_at_second : IsCommand words RecoverRelock → (t : AgainStream) → (d e f : ℕ) → ComesTwice t d e f → before.left ≡ Some t.bytes
       → Unless (λ _ held holds. IsListedOn t held holds) status before after
   -- `recover content relock` writes the text of `recover content`, and so the rows, frames and packets that were received.
   pub content_relock_headline : IsCommand words RecoverContentRelock → (t : TappedStream) → IsTapped t → StaysAligned t → before.left ≡ Some t.bytes
@@ -168,10 +168,6 @@ pub record Promises (words : List (List ℕ)) (status : ℕ) (before after : Dev
       → Unless (λ status held holds. FromFirst t (λ d e f a. ArePictures mode frames t d e f a held holds)) status before after
   pub content_relock_packets : IsCommand words RecoverContentRelock → (t : TappedStream) → IsTapped t → StaysAligned t → before.left ≡ Some t.bytes
       → Unless (λ status held holds. FromFirst t (λ d e f a. ArePackets t d e f a held holds)) status before after
-  pub content_relock_fields : IsCommand words RecoverContentRelock
-      → (mode : Mode) (frames : List Frame) → raster_fault mode frames ≡ None → (t : TappedStream) → t.periods ≡ raster_of mode frames → IsTapped t → StaysAligned t
-      → before.left ≡ Some t.bytes
-      → Unless (λ status held holds. FromFirst t (λ d e f a. AreFields frames t d e f a held holds)) status before after
   -- By the same premises it lists the content of each line and each island that stands alone, whatever is received around it.
   pub content_relock_local : IsCommand words RecoverContentRelock → (t : TappedStream) → (until : ℕ) → IsTappedUntil t until → AlignsBy t until → StaysClear t until
       → before.left ≡ Some t.bytes
@@ -179,11 +175,13 @@ pub record Promises (words : List (List ℕ)) (status : ℕ) (before after : Dev
   pub content_relock_uncontended : IsCommand words RecoverContentRelock → (t : TappedStream) → (until : ℕ) → IsTappedUntil t until → AlignsBy t until → StaysUncontended t until
       → before.left ≡ Some t.bytes
       → Unless (IsHeardBy content_listing t until) status before after
-  -- Across a slip it writes the content of the events and slips that `recover relock` writes.
+  -- Across a slip and after any bits it writes the content of the events and slips that `recover relock` writes.
   pub content_relock_slip : IsCommand words RecoverContentRelock → (t : TappedStream) → (s : LineSlip) → (y : Fed) → IsSlippedTap t s y → IsNoticed t s
       → before.left ≡ Some t.bytes → Unless (IsTrackedAcross content_track_listing t s y) status before after
   pub content_relock_slip_passes : IsCommand words RecoverContentRelock → (t : TappedStream) → (s : LineSlip) → (y : Fed) → IsSlippedTap t s y → IsUnnoticed t s
-      → before.left ≡ Some t.bytes → Unless (IsTrackedAsOne content_listing t s y) status before after
+      → before.left ≡ Some t.bytes → Unless (IsTrackedAsOne RecoverContent content_listing t s y) status before after
+  pub content_relock_again : IsCommand words RecoverContentRelock → (t : AgainStream) → ComesAgain t → before.left ≡ Some t.bytes
+      → Unless (λ _ held holds. IsRelockedAgain content_track_listing t held holds) status before after
   -- `relay` sends on what was received of the periods that were sent, from the first full alignment on; or it ends with 3 and
   -- writes nothing, where that has more than 20,000,000 columns.
   pub relay_headline : IsCommand words Relay → (t : TappedStream) → IsTapped t → Aligns t → before.left ≡ Some t.bytes

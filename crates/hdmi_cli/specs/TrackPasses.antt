@@ -8,13 +8,13 @@ use Rattle.lane_deskew.specs.Aligned.{aligned_columns}
 use Rattle.period_grammar.specs.Heard.{heard}
 use Rattle.link_laws.specs.Account.{account}
 use Rattle.link_laws.specs.Laws.{EndsControl, BeginColumn}
-use Rattle.link_sink.specs.Grammar.{link_grammar}
 use Rattle.link_sink.specs.Sinks.{Fed}
 use Rattle.track_sink.specs.Epochs.{lane_of, HasNoEnd}
 use Rattle.track_laws.specs.Laws.{later_skews, words_at}
+use Rattle.command_line.specs.declared.command.Command.{Command}
 use Rattle.hdmi_cli.specs.Headline.{TappedStream, IsRecovered}
 use Rattle.capture_commands.specs.Listings.{Listing}
-use Rattle.capture_commands.specs.Outcome.{RunOutcome, ListsCapture}
+use Rattle.capture_commands.specs.Outcome.{RunOutcome, Does}
 use Rattle.hdmi_cli.specs.TrackSlip.{LineSlip, lanes_of, IsSlippedTap, IsNoticed, IsFirstIn, columns_in}
 
 -- the lane had a lock before it lost the bits, or it had none
@@ -68,14 +68,14 @@ pub record IsAccountedBefore (t : TappedStream) (s : LineSlip) (y : Fed) (d e f 
       (m : ℕ) → slice_index (d ∷ e ∷ f ∷ []) s.lane - 120 + 10 * m ≤ s.place → m ≤ columns_in y d e f
       → heard (take m (aligned_columns y.blue y.green y.red d e f)) ≡ account t.periods t.sent t.received a m
 
--- There is one epoch. The output grew by a listing of the capture, as `recover link` or `recover content` writes it, with no line of a
--- slip, and the status is the listing's. If the lane had no lock before it lost the bits, and the lanes have a first full alignment, then
--- that is the listing of the account from there on: all is reported as it was sent, as if the lane had been later from its first bit on.
--- If it had one, then what is reported of the columns that end before the slip is the account.
-pub record IsTrackedAsOne (listing : Listing) (t : TappedStream) (s : LineSlip) (y : Fed) (status : ℕ) (old new : Option (List ℕ)) : Type 0 where
+-- There is one epoch. The output grew by what another command, `recover link` or `recover content`, writes of the capture, no line of a slip with it, and the status
+-- is the same. Where the lane had no lock before it lost the bits, and the lanes have a first full alignment, that is the
+-- listing of the account from there on: all is reported as it was sent, as if the lane had been later from its first
+-- bit on. Where it had one, what is reported of the columns that end before the slip is the account.
+pub record IsTrackedAsOne (alone : Command) (listing : Listing) (t : TappedStream) (s : LineSlip) (y : Fed) (status : ℕ) (old new : Option (List ℕ)) : Type 0 where
   pub one : HasNoEnd y
   pub outcome : RunOutcome
-  pub lists : ListsCapture link_grammar listing t.bytes outcome
+  pub does : Does alone t.bytes outcome
   pub status_is : status ≡ outcome.status
   pub written : Appends old new outcome.output
   pub recovered :

@@ -1,15 +1,11 @@
 //! That words and bytes have one outcome, what one command makes of another's output, that premises of the top call's clauses can be
-//! met, and that those on slips within a line leave none out. The functions have no code: their contracts are the laws.
+//! met, and that those on slips within a line leave none out. The functions do nothing: what they ensure are the laws.
 ghost use Rattle.hdmi_cli.specs.EndToEnd.{EndToEnd, ContentEndToEnd, HasChain};
-ghost use Rattle.hdmi_cli.specs.Fields.{HasFields};
 ghost use Rattle.hdmi_cli.specs.OneOutcome.{OneOutcome};
 ghost use Rattle.hdmi_cli.specs.RelayChecked.{RelayIsClean, HasCheckedRelay};
 ghost use Rattle.hdmi_cli.specs.RelayExamples.{HasCleanCapture, HasRelayedTwice};
 ghost use Rattle.hdmi_cli.specs.RelockLocal.{ClearIsUncontended, HasBurst};
-ghost use Rattle.hdmi_cli.specs.RelockAgain.{RelocksAgain};
-ghost use Rattle.hdmi_cli.specs.RelockWhole.{HasWholeStream};
-ghost use Rattle.capture_commands.specs.TrackListings.{link_track_listing, content_track_listing};
-ghost use Rattle.command_line.specs.declared.command.Command.TheVariants.{RecoverRelock, RecoverContentRelock};
+ghost use Rattle.hdmi_cli.specs.RelockSecond.{HasSecondStream};
 ghost use Rattle.hdmi_cli.specs.TrackExamples.{HasNoticedSlip, HasShortSlip, HasUnlockedSlip};
 ghost use Rattle.hdmi_cli.specs.TrackPasses.{SlipsAreNoticedOrNot};
 
@@ -51,7 +47,7 @@ pub fn short_slip()
     ensures { HasShortSlip }
 {}
 
-/// The alignment is dropped for no other edges if, near the end of each control period, no character was received as a control or guard
+/// No other edges contend with the alignment if, near the end of each control period, no character was received as a control or guard
 /// character that it was not.
 pub fn clear_is_uncontended()
     ensures { ClearIsUncontended }
@@ -63,16 +59,9 @@ pub fn burst()
     ensures { HasBurst }
 {}
 
-/// Whatever bits came before: from a control period on of which nineteen characters were received on each lane, and a guard band after
-/// it, `recover relock` lists the stream as it was sent, where its alignment has the skew of that control period.
-pub fn relock_again()
-    ensures link { RelocksAgain RecoverRelock link_track_listing }
-    ensures content { RelocksAgain RecoverContentRelock content_track_listing }
-{}
-
-/// A capture of a stream that comes after other bits, a control period of which comes whole.
-pub fn whole_stream()
-    ensures { HasWholeStream }
+/// A capture of a stream that comes after other bits. The first of two good control periods of one skew ends in these.
+pub fn second_stream()
+    ensures { HasSecondStream }
 {}
 
 /// A capture of which `check` says `clean`, and whose aligned columns end in a control period.
@@ -93,10 +82,4 @@ pub fn chain_example()
 /// A data island and a line that were relayed. `check` says `clean` of them.
 pub fn checked_relay()
     ensures { HasCheckedRelay }
-{}
-
-/// A tap of a raster whose packets say an AVI and an audio InfoFrame, clock numbers and a sample. Each of them is in the aligned
-/// columns, and was received as it was sent.
-pub fn fields_example()
-    ensures { HasFields }
 {}

@@ -2,7 +2,7 @@
 //!
 //! `run` is the top function. For all words and all input bytes its contract gives status, output and note, and the theorems of
 //! docs/proof/PROVED.md (the record `Promises`). `main` gets the words of the process and passes it standard input, output and
-//! error. A read or a write that a signal interrupts is tried again (`retrying_io`).
+//! error.
 #![tactic(auto)]
 
 mod laws;
@@ -14,7 +14,6 @@ mod words;
 
 use lane_team::Open;
 use outside_io::{ReadSource, WriteSink, write_all};
-use retrying_io::Retrying;
 pub use run::run;
 use std::env;
 use std::io::{self, ErrorKind};
@@ -39,15 +38,14 @@ fn main(rt: HostRuntime) -> ExitCode {
     let words = match words_of(&rt) {
         Ok(words) => words,
         Err(e) if e.kind() == ErrorKind::OutOfMemory => {
-            let mut notes = WriteSink::new(Retrying::new(rt.stderr()));
-            let _ = write_all(&mut notes, b"out of memory\n");
+            let _ = write_all(&mut WriteSink::new(rt.stderr()), b"out of memory\n");
             return ExitCode::from(6);
         }
         Err(_) => Words::new(rt.alloc()),
     };
-    let mut input = ReadSource::new(Retrying::new(rt.stdin()));
-    let mut output = WriteSink::new(Retrying::new(rt.stdout()));
-    let mut notes = WriteSink::new(Retrying::new(rt.stderr()));
+    let mut input = ReadSource::new(rt.stdin());
+    let mut output = WriteSink::new(rt.stdout());
+    let mut notes = WriteSink::new(rt.stderr());
     let status = run(
         &rt,
         rt.alloc(),

@@ -4,7 +4,8 @@ ghost use Rattle.std.specs.Io.KnownBytes.{Appends};
 ghost use Rattle.outside_io.specs.Causes.{Rose};
 ghost use Rattle.capture_commands.specs.Endings.{note_of};
 
-use capture_commands::{Ending, note};
+use capture_commands::Ending;
+use ending_notes::note;
 use outside_io::{Sink, write_all};
 
 /// Writes the note of an ending in one piece, nothing where there is none. A fault of the notes is passed

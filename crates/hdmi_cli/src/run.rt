@@ -29,9 +29,9 @@ use std::thread::Threads;
 /// refused, 4 read failed, 5 write failed, 6 out of memory, 7 no alignment. `make link` reads a link listing and writes
 /// the capture of a tap of it, `make dvi` that of the same without guard bands, and `make content` that of the raster of a
 /// content listing; `recover link` reads a capture and writes its link listing while it reads, `recover track` with the
-/// slips of its lanes, `recover relock` the same from an alignment that is confirmed, until it is refuted or doubted, `recover dvi` that of a stream without guard bands, `recover content` its pictures and sound, `recover content relock` those of what `recover relock` lists,
+/// slips of its lanes, `recover relock` the same from an alignment that is confirmed, until it is refuted or doubted twice in a row, `recover dvi` that of a stream without guard bands, `recover content` its pictures and sound, `recover content relock` those of what `recover relock` lists,
 /// `recover biphase` the frames of one pair of channels, and `check` only the lines of its faults and of a cut and whether
-/// there was a fault; `read biphase` lists such frames; `relay` writes the capture of what was received, sent again; `damage`
+/// there was a fault; `read biphase` lists such frames; `relay` writes the capture of what was heard, sent anew; `damage`
 /// copies a capture, block by block, with the ten bits of each hit replaced, and `slip` without some bits of a lane;
 /// `sample` reads nothing, and counts what becomes of generated frames that were damaged and recovered. A worker of
 /// each lane passes the gate for each block.

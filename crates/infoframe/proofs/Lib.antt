@@ -1,7 +1,7 @@
 pub mod Lists
-pub mod Numbers
+mod Numbers
 pub mod Refusals
 pub mod Contents
 pub mod Bounds
-pub mod Writings
+mod Writings
 pub mod Law

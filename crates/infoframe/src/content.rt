@@ -7,7 +7,7 @@ ghost use Rattle.infoframe.specs.Written.{fits};
 
 use crate::fields::kind_of;
 
-/// The InfoFrames with a known layout, and any other.
+/// The InfoFrames whose layout is known, and any other.
 #[derive(Clone, Copy)]
 pub enum InfoKind {
     /// Auxiliary video information: type 0x82, version 2, length 13.

@@ -1,4 +1,4 @@
-//! The layouts of InfoFrames: their types and versions, and the places of their fields.
+//! The layouts of InfoFrames: which type and version name them, and where their fields stand.
 ghost use Rattle.std.specs.Prelude.{◌≡◌, ◌<◌, ◌≤◌, ◌+◌, ◌-◌, ◌/◌, ◌%◌, ◌^◌, [], ◌∷◌, length};
 ghost use Rattle.infoframe.specs.Fields.{field, avi_of, audio_of, spd_of};
 ghost use Rattle.infoframe.specs.Frames.{kind_of, has_length};
@@ -36,7 +36,7 @@ pub(crate) fn kind_of(type_code: u8, version: u8) -> InfoKind
     }
 }
 
-/// Whether a payload of a layout has this many bytes.
+/// Whether a payload of a layout has so many bytes.
 #[tactic(auto, unfolding(crate::specs::Frames::has_length))]
 pub(crate) fn has_length(kind: InfoKind, length: u8) -> bool
     ensures { result ≡ has_length kind length }

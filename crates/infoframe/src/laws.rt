@@ -1,4 +1,4 @@
-//! Laws of every InfoFrame. The functions have no code: their contracts are the laws.
+//! What holds of every InfoFrame. The functions do nothing: what they ensure are the laws.
 ghost use Rattle.infoframe.specs.Laws.{WrittenIsRead, OneSpelling, OneWriting, ReadFits, ReadIsWritten};
 
 /// What is written is read from a packet without a lost block, with the type, the version, the length and the fields that

@@ -1,4 +1,4 @@
-//! InfoFrames that are borrowed from packets.
+//! InfoFrames that are lent from packets.
 ghost use Rattle.std.specs.Prelude.{◌≡◌, ◌<◌, ◌≤◌, ◌+◌, ◌%◌, length, sum, slice_index, All};
 ghost use Rattle.infoframe.specs.Frames.{frame_of, kind_of, avi_in, audio_in, spd_in};
 

@@ -1,4 +1,4 @@
-//! A law about every packet and its columns. The function has no code: its contract is the law.
+//! What holds of every packet and of its columns. The function does nothing: what it ensures is the law.
 ghost use Rattle.island_pack.specs.Taken.{CarriedIsTaken};
 ghost use Rattle.island_pack.specs.Repaired.{RepairedIsTaken, TakenIsOne};
 ghost use Rattle.island_pack.specs.Laws.{ConformingIsSpelled};

@@ -436,7 +436,7 @@ fn column_of(header: u32, bodies: [u8; 2], sync: u8, first: bool, i: u8) -> [Wor
     [terc(nibble(header, sync, first, i)), terc(green), terc(red)]
 }
 
-/// Bit 3 of lane 0 in column i: 0 in column 0 of an island's first packet, otherwise 1.
+/// Bit 3 of lane 0 in column i: 0 in column 0 of an island's first packet, else 1.
 fn mark(first: bool, i: u8) -> u8
     ensures value { result ≡ one_if (not (first && (i == 0))) }
     ensures below { result < 2 }

@@ -140,7 +140,7 @@ fn has_control(words: &[u16; 32]) -> bool
     marks >= 512
 }
 
-/// A number that is 512 for a control word, and less for each other word: two of these differ only in bit 9, and the two others
+/// A number that is 512 for a control word, and less for each other word: two of these differ in bit 9 alone, and the two others
 /// have all their bits turned over.
 fn mark(word: u16) -> u16
     requires { word < 1024 }

@@ -7,7 +7,7 @@ ghost use Rattle.island_pack.specs.Ranges.{is_run_in_range, is_control_in_range,
 use crate::Packet;
 use terc4::RUN;
 
-/// CTL0 to CTL3 of the preamble of a video data period: only CTL0 is 1 (HDMI 1.4, section 5.2.1.1).
+/// CTL0 to CTL3 of the preamble of a video data period: CTL0 alone is 1 (HDMI 1.4, section 5.2.1.1).
 pub const VIDEO_CTL: u8 = 1;
 
 /// CTL0 to CTL3 of the preamble of a data island: CTL0 and CTL2 are 1 (HDMI 1.4, section 5.2.1.1).
@@ -21,7 +21,7 @@ pub const COLUMN_LIMIT: u32 = 20_000_000;
 /// bytes of a line are held in one piece, and a pixel's number fits 16 bits.
 pub const PIXEL_LIMIT: u32 = 4_096;
 
-/// Whether control columns may have this value, and this many columns one value after another: a value below 64 in 1 to
+/// Whether control columns may have this value, and so many columns one value after another: a value below 64 in 1 to
 /// `COLUMN_LIMIT` columns.
 pub fn is_run_in_range(value: u8, count: u64) -> bool
     ensures { result ≡ is_run_in_range value count }
@@ -29,14 +29,14 @@ pub fn is_run_in_range(value: u8, count: u64) -> bool
     value < 64 && (count >= 1 && count <= u64::from(COLUMN_LIMIT))
 }
 
-/// Whether a control period may have this many columns: 12 at least.
+/// Whether a control period may have so many columns: 12 at least.
 pub fn is_control_in_range(columns: u32) -> bool
     ensures { result ≡ is_control_in_range columns }
 {
     columns >= RUN
 }
 
-/// Whether a video data period may have this many pixels: 1 to `PIXEL_LIMIT`.
+/// Whether a video data period may have so many pixels: 1 to `PIXEL_LIMIT`.
 pub fn is_line_in_range(pixels: usize) -> bool
     ensures { result ≡ is_line_in_range pixels }
 {
@@ -50,14 +50,14 @@ pub fn are_sync_values(values: &[u8; 2]) -> bool
     values[0] < 4 && values[1] < 4
 }
 
-/// Whether a data island may have this many packets: 1 to 18.
+/// Whether a data island may have so many packets: 1 to 18.
 pub fn is_island_in_range(packets: usize) -> bool
     ensures { result ≡ is_island_in_range packets }
 {
     packets >= 1 && packets <= 18
 }
 
-/// Whether a stream of this many columns, `COLUMN_LIMIT` at most, may have this many more.
+/// Whether a stream of so many columns, `COLUMN_LIMIT` at most, may have so many more.
 pub fn has_room(columns: u32, more: u32) -> bool
     requires { columns ≤ COLUMN_LIMIT }
     ensures { result ≡ has_room columns more }

@@ -163,7 +163,7 @@ fn mark(row: &[u8; 8]) -> u16
     u16::from(row[4])
 }
 
-/// How many bits of these bytes are 1. It is a separate function, so that the common path of a packet is short.
+/// How many bits of these bytes are 1. It stands apart, so that what nearly every packet takes is short.
 #[inline(never)]
 fn counted(blue: &[[u8; 8]; 4], others: &[[u8; 8]; 8]) -> u8
     ensures { result ≡ sum_by foreign_of blue.now + sum_by foreign_of others.now }

@@ -1,5 +1,5 @@
 //! Tests of the crates of data islands: `island_pack`, `infoframe`, `audio_packets` and `audio_out`; and of `period_grammar`. They are a
-//! separate crate so that none of these is proved again with its tests.
+//! crate of their own so that none of these is proved again with its tests.
 #![tactic(auto)]
 
 #[cfg(test)]

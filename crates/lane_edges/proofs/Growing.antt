@@ -3,7 +3,6 @@ use Rattle.std.proofs.Common.{◌≡◌, ℕ, ◌-◌, ◌*◌, Bool, List, ◌+
 use Rattle.lane_align.proofs.Growing.{control_stays, control_was, lock_stays, edge_was}
 use Rattle.lane_edges.specs.Finders.{HasScanned, HasNoEdge}
 use Rattle.lane_edges.specs.declared.finder.EdgeFinder.{EdgeFinder}
-use Rattle.lane_edges.proofs.Beginning.{counted_grows}
 use Rattle.lane_edges.proofs.Scanning.{edge_apart, length_grown}
 
 pub scanned_grows : (xs us more : List Bool) (lock : ℕ) (finder : EdgeFinder) → us ≡ xs ++ more → HasScanned xs lock finder → HasScanned us lock finder
@@ -11,16 +10,14 @@ scanned_grows xs us more lock finder grown was =
     let long = length_grown xs us more grown in
     let within = was.within in
     let past = was.past in
-    let is_lock = lock_stays xs us more grown lock was.is_lock in
     record {
-      is_lock = is_lock;
+      is_lock = lock_stays xs us more grown lock was.is_lock;
       past = past;
       aligned = was.aligned;
       within = omega arith;
       few = was.few;
       control = λ k lt. control_stays xs us more grown (finder.next - 10 - 10 * k) (was.control k lt);
       other = λ lt has. was.other lt (control_was xs us more grown (finder.next - 10 - 10 * finder.run) (omega arith) has);
-      counted = counted_grows xs us more grown lock finder.next finder.others finder.begun is_lock was.aligned was.within was.counted;
     }
 
 -- and no edge is before the next character that was not

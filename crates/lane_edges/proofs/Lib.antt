@@ -1,4 +1,3 @@
-pub mod Beginning
 mod Scanning
 mod Holding
 mod Passing

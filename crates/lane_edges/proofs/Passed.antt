@@ -1,5 +1,5 @@
 -- What a finder knows after it passed many characters.
-use Rattle.std.proofs.Common.{◌≡◌, ℕ, suc, zero, ◌+◌, ◌-◌, ◌*◌, ◌/◌, ◌%◌, ◌<◌, ◌≤◌, min, Bool, false, List, take, drop, refl, ap, ◌∙◌, sym, subst, arith, inl, inr}
+use Rattle.std.proofs.Common.{◌≡◌, ℕ, suc, zero, ◌+◌, ◌-◌, ◌*◌, ◌/◌, ◌%◌, ◌<◌, ◌≤◌, min, Bool, false, List, take, drop, ap, ◌∙◌, sym, subst, arith, inl, inr}
 use Rattle.std.proofs.lemmas.Bool.{cases_lt}
 use Rattle.tmds_word.specs.Bits.{number}
 use Rattle.terc4.specs.Tables.{is_control}
@@ -8,11 +8,10 @@ use Rattle.lane_align.proofs.Calm.{control_is}
 use Rattle.lane_align.proofs.Edges.{control_no_edge}
 use Rattle.lane_align.proofs.Parts.{same_control}
 use Rattle.lane_track.specs.Scouts.{HoldsBits}
-use Rattle.lane_edges.specs.Finders.{HasScanned, HasCounted, HasNoEdge}
-use Rattle.lane_edges.specs.Passing.{IsOther, HasOther, EndsOther, Repeats}
+use Rattle.lane_edges.specs.Finders.{HasScanned, HasNoEdge}
+use Rattle.lane_edges.specs.Passing.{IsOther, HasOther, Repeats}
 use Rattle.lane_edges.specs.declared.finder.EdgeFinder.{EdgeFinder}
 use Rattle.lane_edges.proofs.Holding.{ten_held}
-use Rattle.lane_edges.proofs.Beginning.{counted_others, counted_controls}
 use Rattle.lane_edges.proofs.Scanning.{edge_apart}
 
 module _ (bits xs : List Bool) (skip base count : ℕ) (holds : HoldsBits (drop skip bits) xs base count) (lock from : ℕ) (before now : EdgeFinder)
@@ -27,35 +26,9 @@ module _ (bits xs : List Bool) (skip base count : ℕ) (holds : HoldsBits (drop 
       let is = control_is xs p has in
       cc
 
-  -- where others run up to a character no control words do
-  pub no_run : 3 ≤ before.others → before.run ≡ 0
-  no_run three = elim (cases_lt 0 before.run) [
-    | inl some ↦ absurd (was.counted.none 0 (omega arith) (was.control 0 some))
-    | inr none ↦ omega arith
-  ]
-
-  counted_passed : 3 ≤ before.others → now.others ≡ before.others → now.begun ≡ before.begun → (0 < passed → EndsOther bits (skip + (before.next - base)) passed) → HasCounted xs lock now.next now.others now.begun
-  counted_passed three same begun ends = elim (cases_lt 0 passed) [
-    | inl some ↦
-        let end = ends some in
-        let enough = end.enough in
-        let few = was.counted.few in
-        let past = was.past in
-        counted_others xs lock now.next now.others now.begun (omega arith) (omega arith) (omega arith)
-        (λ k lt has.
-        let e : now.next - 10 - 10 * k ≡ before.next + (passed - 10 - 10 * k) = omega arith in
-        other_lane (passed - 10 - 10 * k) (omega arith) (end.three k lt) (subst (HasControl xs) e has))
-    | inr nought ↦
-        let e : before.next ≡ now.next = omega arith in
-        subst (λ n. HasCounted xs lock n now.others now.begun) e
-        (subst (λ n. HasCounted xs lock before.next n now.begun) (sym same) (subst (HasCounted xs lock before.next before.others) (sym begun) was.counted))
-  ]
-
   -- others
-  pub others_passed : 3 ≤ before.others → now.run ≡ before.run → now.others ≡ before.others → now.begun ≡ before.begun → HasOther bits (skip + (before.next - base)) passed
-      → (0 < passed → EndsOther bits (skip + (before.next - base)) passed) → HasScanned xs lock now × HasNoEdge xs from now.next
-  others_passed three still same begun others ends =
-      let empty = no_run three in
+  pub others_passed : before.run ≡ 0 → now.run ≡ 0 → HasOther bits (skip + (before.next - base)) passed → HasScanned xs lock now × HasNoEdge xs from now.next
+  others_passed empty still others =
       let past = was.past in
       let aligned = was.aligned in
       let long = holds.within in (
@@ -74,7 +47,6 @@ module _ (bits xs : List Bool) (skip base count : ℕ) (holds : HoldsBits (drop 
                 let e : now.next - 10 - 10 * now.run ≡ before.next - 10 - 10 * before.run = omega arith in
                 was.other (omega arith) (subst (HasControl xs) e has)
           ];
-          counted = counted_passed three same begun ends;
         },
         subst (HasNoEdge xs from) (sym at) no_edge,
       )
@@ -83,7 +55,6 @@ module _ (bits xs : List Bool) (skip base count : ℕ) (holds : HoldsBits (drop 
       no_edge e from_e less edge = elim (cases_lt e before.next) [
         | inl early ↦ none e from_e early edge
         | inr late ↦
-            let empty = no_run three in
             let past = was.past in
             let apart = edge_apart xs lock e before was edge in
             let d = e - before.next in
@@ -105,9 +76,9 @@ module _ (bits xs : List Bool) (skip base count : ℕ) (holds : HoldsBits (drop 
       ]
 
   -- control words
-  pub controls_passed : 4 ≤ before.run → base + 40 ≤ before.next → now.run ≡ min (before.run + passed / 10) 12 → now.others ≡ before.others → now.begun ≡ before.begun → Repeats bits (skip + (before.next - base)) passed
+  pub controls_passed : 4 ≤ before.run → base + 40 ≤ before.next → now.run ≡ min (before.run + passed / 10) 12 → Repeats bits (skip + (before.next - base)) passed
       → HasScanned xs lock now × HasNoEdge xs from now.next
-  controls_passed many far counted same begun repeats =
+  controls_passed many far counted repeats =
       let past = was.past in
       let aligned = was.aligned in
       let few = was.few in
@@ -130,10 +101,6 @@ module _ (bits xs : List Bool) (skip base count : ℕ) (holds : HoldsBits (drop 
           other = λ lt has.
               let e : now.next - 10 - 10 * now.run ≡ before.next - 10 - 10 * before.run = omega arith in
               was.other (omega arith) (subst (HasControl xs) e has);
-          counted = subst (λ n. HasCounted xs lock n now.others now.begun) (sym at)
-              (subst (λ n. HasCounted xs lock (before.next + passed) n now.begun) (sym same) (subst (HasCounted xs lock (before.next + passed) before.others) (sym begun)
-              (counted_controls xs lock before.next (before.next + passed) before.others before.begun was.is_lock aligned (omega arith) (control_until before.next (omega arith) (omega arith) refl)
-              (control_until (before.next + passed) (omega arith) (omega arith) (omega arith)) (λ q from_next less apart. control_until q from_next (omega arith) apart) was.counted)));
         },
         subst (HasNoEdge xs from) (sym at) no_edge,
       )
@@ -167,15 +134,6 @@ module _ (bits xs : List Bool) (skip base count : ℕ) (holds : HoldsBits (drop 
       repeated (suc (suc (suc (suc i)))) less =
           let e : before.next + 10 * i ≡ before.next + 10 * suc (suc (suc (suc i))) - 40 = omega arith in
           again (suc (suc (suc (suc i)))) less (subst (HasControl xs) e (repeated i (omega arith)))
-
-      control_until : (q : ℕ) → before.next ≤ q → q ≤ before.next + passed → q % 10 ≡ before.next % 10 → HasControl xs (q - 10)
-      control_until q after until apart = elim (cases_lt before.next q) [
-        | inl past ↦
-            let i = (q - before.next) / 10 - 1 in
-            let e : before.next + 10 * i ≡ q - 10 = omega arith in
-            subst (HasControl xs) e (repeated i (omega arith))
-        | inr first ↦ let e : before.next - 10 - 10 * 0 ≡ q - 10 = omega arith in subst (HasControl xs) e (was.control 0 (omega arith))
-      ]
 
       no_edge : HasNoEdge xs from (before.next + passed)
       no_edge e from_e less edge = elim (cases_lt e before.next) [

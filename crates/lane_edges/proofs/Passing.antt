@@ -10,7 +10,7 @@ use Rattle.terc4.specs.Tables.{is_control}
 use Rattle.terc4.proofs.Members.{by_control}
 use Rattle.lane_align.proofs.Controls.{false_from}
 use Rattle.lane_align.proofs.Parts.{take_piece}
-use Rattle.lane_edges.specs.Passing.{IsOther, HasOther, EndsOther, AreOthers, Repeats}
+use Rattle.lane_edges.specs.Passing.{IsOther, HasOther, AreOthers, Repeats}
 use Rattle.lane_edges.proofs.Holding.{byte_here}
 
 -- Characters that are no control words.
@@ -96,21 +96,6 @@ few_has_other xs place passed few is = record { last = λ any. is; some = λ e f
 
 pub none_has_other : (xs : List Bool) (place : ℕ) → HasOther xs place 0
 none_has_other xs place = record { last = λ any. absurd (omega arith); some = λ e far less at. absurd (omega arith) }
-
--- fewer, the last of which is none
-pub has_fewer : (xs : List Bool) (place more passed : ℕ) → passed ≤ more → (0 < passed → EndsOther xs place passed) → HasOther xs place more → HasOther xs place passed
-has_fewer xs place more passed few ends is = record {
-  last = λ any. let e : place + (passed - 10 - 10 * 0) ≡ place + (passed - 10) = omega arith in subst (IsOther xs) e ((ends any).three 0 (omega arith));
-  some = λ e far less at. is.some e far (omega arith) at;
-}
-
--- one more of those before a place that is none
-pub others_before_more : (xs : List Bool) (place left others : ℕ) → ((k : ℕ) → k < others → IsOther xs (place + (left - 10 - 10 * k))) → IsOther xs (place + (left - 10 - 10 * others))
-    → (k : ℕ) → k < others + 1 → IsOther xs (place + (left - 10 - 10 * k))
-others_before_more xs place left others was here k lt = elim (cases_lt k others) [
-  | inl old ↦ was k old
-  | inr new ↦ let e : others ≡ k = omega arith in subst (λ n. IsOther xs (place + (left - 10 - 10 * n))) e here
-]
 
 -- Characters that repeat those before them.
 

@@ -1,19 +1,17 @@
 -- What a finder knows after it looked at one more character.
-use Rattle.std.proofs.Common.{◌≡◌, ℕ, suc, zero, ◌+◌, ◌-◌, ◌*◌, ◌%◌, ◌<◌, ◌≤◌, min, Bool, true, false, List, ◌++◌, Some, None, ◌⊎◌, length, length-append, take, drop, refl, ap, ◌∙◌, sym, subst, arith, inl, inr}
+use Rattle.std.proofs.Common.{◌≡◌, ℕ, suc, zero, ◌+◌, ◌-◌, ◌*◌, ◌%◌, ◌<◌, ◌≤◌, min, Bool, true, false, List, ◌++◌, length, length-append, take, drop, refl, ap, ◌∙◌, sym, subst, arith, inl, inr}
 use Rattle.std.proofs.lemmas.Bool.{cases_lt}
 use Rattle.tmds_word.specs.Bits.{number}
 use Rattle.lane_align.specs.Lanes.{HasControl, IsLock, IsEdge, IsNextEdge}
 use Rattle.lane_align.proofs.Controls.{one_lock, run_within, window_here, other_word}
 use Rattle.lane_align.proofs.Edges.{control_no_edge}
 use Rattle.lane_track.specs.Scouts.{HoldsBits}
-use Rattle.lane_edges.specs.Finders.{HasScanned, HasCounted, HasNoEdge, run_after, others_after}
+use Rattle.lane_edges.specs.Finders.{HasScanned, HasNoEdge, run_after}
 use Rattle.lane_edges.specs.declared.finder.EdgeFinder.{EdgeFinder}
-use Rattle.lane_edges.proofs.Beginning.{counted_after, counted_more}
 
 -- past the run of a lock
-pub scanned_after : (xs : List Bool) (lock : ℕ) (finder : EdgeFinder) → finder.next ≡ lock + 120 → finder.run ≡ 12 → finder.others ≡ 0 → finder.begun ≡ None → IsLock xs lock
-    → HasScanned xs lock finder
-scanned_after xs lock finder at twelve none not_begun is_lock =
+pub scanned_after : (xs : List Bool) (lock : ℕ) (finder : EdgeFinder) → finder.next ≡ lock + 120 → finder.run ≡ 12 → IsLock xs lock → HasScanned xs lock finder
+scanned_after xs lock finder at twelve is_lock =
     let long = run_within xs lock is_lock.run in
     record {
       is_lock = is_lock;
@@ -25,8 +23,6 @@ scanned_after xs lock finder at twelve none not_begun is_lock =
           let e : lock + 10 * (11 - k) ≡ finder.next - 10 - 10 * k = omega arith in
           subst (HasControl xs) e (is_lock.run (11 - k) (omega arith));
       other = λ lt. absurd (omega arith);
-      counted = subst (λ n. HasCounted xs lock n finder.others finder.begun) (sym at)
-          (subst (λ n. HasCounted xs lock (lock + 120) n finder.begun) (sym none) (subst (HasCounted xs lock (lock + 120) 0) (sym not_begun) (counted_after xs lock is_lock)));
     }
 
 control_more : (xs : List Bool) (next run : ℕ) → 130 ≤ next + 10 → run ≤ 12 → HasControl xs next → ((k : ℕ) → k < run → HasControl xs (next - 10 - 10 * k))
@@ -38,8 +34,8 @@ control_more xs next run far few here was (suc k) lt =
 
 -- one more control word
 scanned_control : (xs : List Bool) (lock : ℕ) (before now : EdgeFinder) → HasScanned xs lock before → now.next ≡ before.next + 10 → now.run ≡ min (before.run + 1) 12
-    → before.next + 10 ≤ length xs → HasControl xs before.next → HasCounted xs lock now.next now.others now.begun → HasScanned xs lock now
-scanned_control xs lock before now was at many long here counted =
+    → before.next + 10 ≤ length xs → HasControl xs before.next → HasScanned xs lock now
+scanned_control xs lock before now was at many long here =
     let past = was.past in
     let aligned = was.aligned in
     let few = was.few in
@@ -54,13 +50,12 @@ scanned_control xs lock before now was at many long here counted =
       other = λ lt has.
           let e : now.next - 10 - 10 * now.run ≡ before.next - 10 - 10 * before.run = omega arith in
           was.other (omega arith) (subst (HasControl xs) e has);
-      counted = counted;
     }
 
 -- a character that is none
 scanned_other : (xs : List Bool) (lock : ℕ) (before now : EdgeFinder) → HasScanned xs lock before → now.next ≡ before.next + 10 → now.run ≡ 0
-    → before.next + 10 ≤ length xs → (HasControl xs before.next → ⊥) → HasCounted xs lock now.next now.others now.begun → HasScanned xs lock now
-scanned_other xs lock before now was at none long not counted =
+    → before.next + 10 ≤ length xs → (HasControl xs before.next → ⊥) → HasScanned xs lock now
+scanned_other xs lock before now was at none long not =
     let past = was.past in
     let aligned = was.aligned in
     record {
@@ -73,24 +68,12 @@ scanned_other xs lock before now was at none long not counted =
       other = λ lt has.
           let e : now.next - 10 - 10 * now.run ≡ before.next = omega arith in
           not (subst (HasControl xs) e has);
-      counted = counted;
     }
 
--- what is counted after one more character
-pub record CountsOn (before now : EdgeFinder) (control : Bool) : Type 0 where
-  pub at : now.next ≡ before.next + 10
-  pub run : now.run ≡ run_after before.run control
-  pub others : now.others ≡ others_after before.others control
-  pub begins : control ≡ true → 3 ≤ before.others → now.begun ≡ Some before.next
-  pub goes_on : (control ≡ false) ⊎ (before.others < 3) → now.begun ≡ before.begun
-
-pub scanned_more : (xs : List Bool) (lock : ℕ) (before now : EdgeFinder) (control : Bool) → HasScanned xs lock before → CountsOn before now control
+pub scanned_more : (xs : List Bool) (lock : ℕ) (before now : EdgeFinder) (control : Bool) → HasScanned xs lock before → now.next ≡ before.next + 10 → now.run ≡ run_after before.run control
     → before.next + 10 ≤ length xs → ((control ≡ true → HasControl xs before.next) × (HasControl xs before.next → control ≡ true)) → HasScanned xs lock now
-scanned_more xs lock before now control was on long is = by control on.run is (counted_more xs lock before now control was.is_lock was.aligned was.counted on.at on.others on.begins on.goes_on is)
-  where
-    by : (b : Bool) → now.run ≡ run_after before.run b → ((b ≡ true → HasControl xs before.next) × (HasControl xs before.next → b ≡ true)) → HasCounted xs lock now.next now.others now.begun → HasScanned xs lock now
-    by true run known counted = scanned_control xs lock before now was on.at run long (known.0 refl) counted
-    by false run known counted = scanned_other xs lock before now was on.at run long (λ has. let e : false ≡ true = known.1 has in cc) counted
+scanned_more xs lock before now true was at many long is = scanned_control xs lock before now was at many long (is.0 refl)
+scanned_more xs lock before now false was at many long is = scanned_other xs lock before now was at many long (λ has. let e : false ≡ true = is.1 has in cc)
 
 -- no edge lies in no bits
 pub none_yet : (xs : List Bool) (from : ℕ) → HasNoEdge xs from from

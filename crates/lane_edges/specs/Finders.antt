@@ -1,17 +1,7 @@
 -- What a finder of edges stands for: how far the characters of a lane were looked through.
 use Rattle.std.specs.Prelude.{◌≡◌, ℕ, ◌+◌, ◌-◌, ◌*◌, ◌%◌, ◌<◌, ◌≤◌, min, Bool, true, false, List, length, Option, MatchOption}
 use Rattle.lane_align.specs.Lanes.{HasControl, IsLock, IsEdge, IsNextEdge}
-use Rattle.lane_edges.specs.Begins.{IsLastBegin}
 use Rattle.lane_edges.specs.declared.finder.EdgeFinder.{EdgeFinder}
-
--- so many characters that are no control words run up to a place, three where they are more; where they are fewer the one before them
--- is a control word, and the last beginning before the place is known
-pub record HasCounted (xs : List Bool) (lock next others : ℕ) (found : Option ℕ) : Type 0 where
-  pub few : others ≤ 3
-  pub past : lock + 120 + 10 * others ≤ next
-  pub none : (k : ℕ) → k < others → HasControl xs (next - 10 - 10 * k) → ⊥
-  pub control : others < 3 → HasControl xs (next - 10 - 10 * others)
-  pub begun : others < 3 → IsLastBegin xs next found
 
 -- the next character begins whole characters past the run of the lock, and as many before it as are counted are control
 -- words; where they are fewer than twelve, the one before them is none
@@ -23,7 +13,6 @@ pub record HasScanned (xs : List Bool) (lock : ℕ) (finder : EdgeFinder) : Type
   pub few : finder.run ≤ 12
   pub control : (k : ℕ) → k < finder.run → HasControl xs (finder.next - 10 - 10 * k)
   pub other : finder.run < 12 → HasControl xs (finder.next - 10 - 10 * finder.run) → ⊥
-  pub counted : HasCounted xs lock finder.next finder.others finder.begun
 
 -- no edge lies at or after a place and before another
 abbrev pub HasNoEdge : List Bool → ℕ → ℕ → Type 0
@@ -39,8 +28,3 @@ IsFound xs from next until found =
 abbrev pub run_after : ℕ → Bool → ℕ
 run_after run true = min (run + 1) 12
 run_after run false = 0
-
--- and how many characters that are none, three where they are more
-abbrev pub others_after : ℕ → Bool → ℕ
-others_after others true = 0
-others_after others false = min (others + 1) 3

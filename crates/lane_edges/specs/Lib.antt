@@ -1,4 +1,3 @@
-pub mod Begins
 pub mod Finders
 pub mod Passing
 pub mod OneFound

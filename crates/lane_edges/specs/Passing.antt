@@ -17,11 +17,6 @@ pub record HasOther (xs : List Bool) (place passed : ℕ) : Type 0 where
   pub last : 0 < passed → IsOther xs (place + (passed - 10))
   pub some : (e : ℕ) → 120 ≤ e → e < passed → e % 10 ≡ 0 → (q : ℕ) × (q % 10 ≡ 0) × (e ≤ q + 120) × (q < e) × IsOther xs (place + q)
 
--- the last three characters that are passed are no control words
-pub record EndsOther (xs : List Bool) (place passed : ℕ) : Type 0 where
-  pub enough : 30 ≤ passed
-  pub three : (k : ℕ) → k < 3 → IsOther xs (place + (passed - 10 - 10 * k))
-
 -- every twelfth character from a place on, in so many bytes, is none
 abbrev pub AreOthers : List Bool → ℕ → ℕ → Type 0
 AreOthers xs place many = (j : ℕ) → j < many → j % 15 ≡ 0 → IsOther xs (place + 8 * j)

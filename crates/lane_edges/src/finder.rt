@@ -1,9 +1,9 @@
 //! Looks through the characters of a lane, part after part of its bits, for its edges.
-ghost use Rattle.std.specs.Prelude.{◌≡◌, ◌⊎◌, ◌<◌, ◌≤◌, ◌+◌, ◌*◌, ◌^◌, ◌/◌, max, min, ℕ, Bool, true, false, List, length, drop, Some, IfSome};
+ghost use Rattle.std.specs.Prelude.{◌≡◌, ◌<◌, ◌≤◌, ◌+◌, ◌*◌, ◌^◌, ◌/◌, max, min, ℕ, Bool, List, length, drop, IfSome};
 ghost use Rattle.tmds_word.specs.Bits.{bytes_bits};
 ghost use Rattle.lane_align.specs.Lanes.{IsLock};
 ghost use Rattle.lane_track.specs.Scouts.{HoldsBits};
-ghost use Rattle.lane_edges.specs.Finders.{HasScanned, HasNoEdge, IsFound, run_after, others_after};
+ghost use Rattle.lane_edges.specs.Finders.{HasScanned, HasNoEdge, IsFound, run_after};
 
 use crate::stretches::{passed_controls, passed_others};
 use crate::word_at;
@@ -16,14 +16,11 @@ const ENOUGH: u8 = RUN as u8;
 /// How many bits a character has.
 const WORD_BITS: u64 = 10;
 
-/// This many words of a run show that the next are control words too, where each is the one as many before it.
+/// So many words of a run show that the next are control words too, where each is the one as many before it.
 const REPEATED: u8 = 4;
 
 /// How many bits these have.
 const REPEATED_BITS: u64 = REPEATED as u64 * WORD_BITS;
-
-/// This many characters that are no control words make the next control word the beginning of a control period.
-pub(crate) const OTHERS: u8 = 3;
 
 /// How far the characters of a lane were looked through for its edges.
 #[derive(Clone, Copy, Debug)]
@@ -32,10 +29,6 @@ pub struct EdgeFinder {
     next: u64,
     /// How many control words run up to it, twelve where they are more.
     run: u8,
-    /// How many characters that are none run up to it, three where they are more.
-    others: u8,
-    /// The last beginning of a control period before it, unless three others run up to it.
-    begun: Option<u64>,
 }
 
 impl EdgeFinder {
@@ -48,8 +41,6 @@ impl EdgeFinder {
         EdgeFinder {
             next: lock + u64::from(RUN_BITS),
             run: ENOUGH,
-            others: 0,
-            begun: None,
         }
     }
 
@@ -58,13 +49,6 @@ impl EdgeFinder {
         ensures { result ≡ self.now.next }
     {
         self.next
-    }
-
-    /// The last beginning of a control period before the last edge that was found.
-    pub fn begun(&self) -> Option<u64>
-        ensures { result ≡ self.now.begun }
-    {
-        self.begun
     }
 
     /// Looks at the characters that begin before `until`, and answers the next edge; None where none of them is one. Bit
@@ -87,8 +71,6 @@ impl EdgeFinder {
             let control = is_control_word(word_at(bytes, skip + (place - base) as u32));
             self.next = place + WORD_BITS;
             self.run = counted(run, control);
-            self.begun = begun_at(place, control, self.others, self.begun);
-            self.others = counted_others(self.others, control);
             if !control && run >= ENOUGH {
                 return Some(place);
             }
@@ -113,7 +95,7 @@ impl EdgeFinder {
         }
         let place = skip + (self.next - base) as u32;
         let bits = (until - self.next) as u32;
-        if self.others >= OTHERS {
+        if self.run == 0 {
             self.next += u64::from(passed_others(bytes, place, bits));
         } else if self.run >= REPEATED && self.next - base >= REPEATED_BITS {
             let passed = passed_controls(bytes, place, bits);
@@ -136,32 +118,7 @@ fn counted(run: u8, control: bool) -> u8
     }
 }
 
-/// How many characters that are no control words run up to the next character.
-fn counted_others(others: u8, control: bool) -> u8
-    ensures { result ≡ others_after others control }
-{
-    if control {
-        0
-    } else if others < OTHERS {
-        others + 1
-    } else {
-        OTHERS
-    }
-}
-
-/// The last beginning of a control period before the character after that at a place.
-fn begun_at(place: u64, control: bool, others: u8, begun: Option<u64>) -> Option<u64>
-    ensures begins { control ≡ true → 3 ≤ others → result ≡ Some place }
-    ensures goes_on { (control ≡ false) ⊎ (others < 3) → result ≡ begun }
-{
-    if control && others >= OTHERS {
-        Some(place)
-    } else {
-        begun
-    }
-}
-
-/// How many control words run up to the character after this many bits of more.
+/// How many control words run up to the character after so many bits of more.
 fn grown(run: u8, bits: u32) -> u8
     ensures { result ≡ min (run + bits / 10) 12 }
 {

@@ -1,4 +1,4 @@
-//! What holds of edges, one after another. The functions have no code: their contracts are the laws.
+//! What holds of edges, one after another. The functions do nothing: what they ensure are the laws.
 ghost use Rattle.lane_edges.specs.OneFound.{OneFound, OneRun};
 
 /// From a place on there is one answer.

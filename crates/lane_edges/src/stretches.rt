@@ -2,9 +2,8 @@
 ghost use Rattle.std.specs.Prelude.{◌≡◌, ◌<◌, ◌≤◌, ◌+◌, ◌-◌, ◌*◌, ◌/◌, ◌%◌, ◌^◌, max, ℕ, false, length, take, drop};
 ghost use Rattle.tmds_word.specs.Bits.{bytes_bits, number};
 ghost use Rattle.terc4.specs.Tables.{is_control};
-ghost use Rattle.lane_edges.specs.Passing.{IsPast, HasOther, EndsOther, Repeats, AreOthers};
+ghost use Rattle.lane_edges.specs.Passing.{IsPast, HasOther, Repeats, AreOthers};
 
-use crate::finder::OTHERS;
 use lane_align::RUN_BITS;
 use lane_track::eight_bytes;
 
@@ -24,48 +23,9 @@ const COMPARED: usize = 8;
 /// and two more are a multiple of 256, or one more than it.
 const TURNING: u32 = 2;
 
-/// How many bits can be passed from a place on, of the characters that begin in this many, since one of any twelve is no
-/// control word: the last three that are passed are none.
+/// How many bits can be passed from a place on, of the characters that begin in so many, since one of any twelve is no
+/// control word: the last that is passed is none.
 pub(crate) fn passed_others(bytes: &[u8], place: u32, bits: u32) -> u32
-    requires some { 0 < bits }
-    requires room { place + bits + 23 ≤ 8 * length bytes.now }
-    requires small { place + bits < 2 ^ 31 }
-    ensures past { IsPast bits result }
-    ensures others { HasOther (bytes_bits bytes.now) place result }
-    ensures ends { 0 < result → EndsOther (bytes_bits bytes.now) place result }
-{
-    let spread = spread_others(bytes, place, bits);
-    until_three_others(bytes, place, spread)
-}
-
-/// How many of this many bits from a place on there are up to the end of the last three characters in a row that are no control
-/// words; 0 where there are none.
-fn until_three_others(bytes: &[u8], place: u32, bits: u32) -> u32
-    requires whole { bits % 10 ≡ 0 }
-    requires room { place + bits + 14 ≤ 8 * length bytes.now }
-    requires small { place + bits < 2 ^ 32 }
-    ensures within { result ≤ bits }
-    ensures whole { result % 10 ≡ 0 }
-    ensures ends { 0 < result → EndsOther (bytes_bits bytes.now) place result }
-{
-    let mut left = bits;
-    let mut others = 0;
-    while others < u32::from(OTHERS) && others * WORD_BITS < left {
-        let before = (others + 1) * WORD_BITS;
-        let at = place + left - before;
-        if may_be_control(bytes, at as usize / 8, at % 8 + 1) {
-            left -= before;
-            others = 0;
-        } else {
-            others += 1;
-        }
-    }
-    if others < u32::from(OTHERS) { 0 } else { left }
-}
-
-/// How many bits from a place on, of the characters that begin in this many, have no control word at one of any twelve characters:
-/// the last of them is none.
-fn spread_others(bytes: &[u8], place: u32, bits: u32) -> u32
     requires some { 0 < bits }
     requires room { place + bits + 23 ≤ 8 * length bytes.now }
     requires small { place + bits < 2 ^ 31 }
@@ -82,7 +42,7 @@ fn spread_others(bytes: &[u8], place: u32, bits: u32) -> u32
     first + WORD_BITS + 8 * (at - from) as u32 - RUN_BITS
 }
 
-/// The first of every fifteenth byte from one on and before an end at which a control word may begin, this many bits less one
+/// The first of every fifteenth byte from one on and before an end at which a control word may begin, so many bits less one
 /// after the byte's first; one past the end where there is none.
 fn others_until(bytes: &[u8], from: usize, end: usize, shift: u32) -> usize
     requires shift { 0 < shift }
@@ -135,7 +95,7 @@ fn may_be_control(bytes: &[u8], at: usize, shift: u32) -> bool
     (3 * (u32::from(pair) >> shift) + TURNING) % 256 < 2
 }
 
-/// How many bits can be passed from a place on, of the characters that begin in this many, since each is the one four before it.
+/// How many bits can be passed from a place on, of the characters that begin in so many, since each is the one four before it.
 pub(crate) fn passed_controls(bytes: &[u8], place: u32, bits: u32) -> u32
     requires before { 40 ≤ place }
     requires room { place + bits + 23 ≤ 8 * length bytes.now }

@@ -1,4 +1,4 @@
-//! Laws on alignments. The functions have no code: their contracts are the laws.
+//! Laws on alignments. The functions do nothing: what they ensure is the law.
 ghost use Rattle.lane_deskew.specs.Fed.{PastTriples, PastAlignments, PastColumns, EvenlyFed, GainedPushed, NoneGained, GainedFit, RoomLeft, NothingCut};
 ghost use Rattle.link_laws.specs.LaneLaws.{OneFirst, ColumnsListed, FirstStays};
 ghost use Rattle.link_laws.specs.LaneEnds.{ConformingAlternate, LaneEdgesEnd, EndsApart, OneEnd, LaneFirstEnds, SparseReceived, ControlColumns, HasLaneExample};
@@ -25,7 +25,7 @@ pub fn conforming_alternate()
     ensures { ConformingAlternate }
 {}
 
-/// A lane of alternating columns with at most two damaged characters in any eleven, with
+/// A lane of alternating columns, of whose characters at most two in any eleven were received damaged, with
 /// control words still control words and guard words still none: each edge in a part of its bits is
 /// the end of a control period.
 pub fn edges_end()
@@ -96,7 +96,7 @@ pub fn gained_pushed()
     ensures { GainedPushed }
 {}
 
-/// A lane that has no lock yet pushes nothing, and has this too.
+/// So has one whose bits have no lock yet, and that pushes nothing.
 pub fn none_gained()
     ensures { NoneGained }
 {}

@@ -1,5 +1,5 @@
-//! Laws of columns received with sparse damage, of columns without a reported fault, and of what is reported
-//! of bits. The functions have no code: their contracts are the laws.
+//! What holds of columns received with sparse damage, of columns of which no fault is reported, and of what is reported
+//! of bits. The functions do nothing: what they ensure are the laws.
 ghost use Rattle.link_laws.specs.Laws.{FramingStands, PeriodsStand, LinkLaw, EdgesEnd, FirstEnds, FirstUntil, TapAccounted, PayloadAccounted, OneWrongBit, HasExample, HasPayloadExample};
 ghost use Rattle.link_laws.specs.PeriodLaws.{ControlLaw, VideoLaw, IslandLaw, JoiningLaw};
 ghost use Rattle.link_laws.specs.Literal.{AccountLiteral};
@@ -56,12 +56,12 @@ pub fn account_literal()
     ensures { AccountLiteral }
 {}
 
-/// Where damage lies only in pixels and packets, each edge in a part of a lane's bits is the end of a control period.
+/// Where damage lies in pixels and packets alone, each edge in a part of a lane's bits is the end of a control period.
 pub fn edges_end()
     ensures { EdgesEnd }
 {}
 
-/// Where damage lies only in pixels and packets, the first full alignment of a tap with skews of at most 70 bits is the
+/// Where damage lies in pixels and packets alone, the first full alignment of a tap with skews of at most 70 bits is the
 /// end of one control period on all three lanes.
 pub fn first_ends()
     ensures { FirstEnds }
@@ -80,17 +80,17 @@ pub fn tap_accounted()
     ensures { TapAccounted }
 {}
 
-/// The same where damage lies only in pixels and packets and there is a first full alignment.
+/// The same where damage lies in pixels and packets alone and there is a first full alignment.
 pub fn payload_accounted()
     ensures { PayloadAccounted }
 {}
 
-/// If at most one word of a packet was received wrong, each of its blocks has at most one wrong bit.
+/// Each block of a packet of which at most one word was received unlike has at most one wrong bit.
 pub fn one_wrong_bit()
     ensures { OneWrongBit }
 {}
 
-/// There are columns with damaged words only in pixels and packets, and a tap of them with a first full alignment.
+/// There are columns with damaged words of pixels and packets alone, and a tap of them that has a first full alignment.
 pub fn has_payload_example()
     ensures { HasPayloadExample }
 {}
@@ -122,7 +122,7 @@ pub fn some_reported()
     ensures { SomeReported }
 {}
 
-/// Nothing more is reported, so neither the cutting of the bits into feeds nor a gate matters.
+/// Nothing else is: so neither the cutting of the bits into feeds nor a gate matters.
 pub fn one_reported()
     ensures { OneReported }
 {}
@@ -148,7 +148,7 @@ pub fn clean_is_whole()
     ensures { CleanIsWhole }
 {}
 
-/// What is reported of columns that are spelled whole is their account.
+/// What is heard of columns that are spelled whole is their account.
 pub fn whole_heard()
     ensures { WholeHeard }
 {}
@@ -190,18 +190,18 @@ pub fn island_closes_anywhere()
     ensures { IslandClosesAnywhere }
 {}
 
-/// In all that is reported, the row of such a period comes after the events before its second column.
+/// In all that is reported the row of such a period stands after what was reported before its second column.
 pub fn row_anywhere()
     ensures { RowAnywhere }
 {}
 
-/// The same holds for such a period of a stream, whatever was received of the rest.
+/// So it does of a period of a stream of which anything else may have been received.
 pub fn stream_anywhere()
     ensures { StreamAnywhere }
 {}
 
 /// A packet of a data island is reported at its last column, whatever else was received of the island's columns, where a
-/// control column precedes the island, none is in it up to the packet's end, and the island is opened and not closed.
+/// control column stands before the island and none in it up to the packet's end, and the island is opened and not closed.
 pub fn packet_in_stream()
     ensures { PacketInStream }
 {}
@@ -228,7 +228,7 @@ pub fn noticed()
     ensures { Noticed }
 {}
 
-/// Its row in the account is then only that packet. The account has it as it was sent, even with one damaged word.
+/// Its row in the account is then that packet alone; the account has it as it was sent, as it has one with one damaged word.
 pub fn noticed_reported()
     ensures reported { NoticedReported }
     ensures few { FewOnLanes }

@@ -1,4 +1,4 @@
-//! Receives columns that are borrowed, and reports to an ear what they say.
+//! Hears columns that are lent, and reports to an ear what they say.
 ghost use Rattle.std.specs.Prelude.{◌≡◌, ◌<◌, ◌≤◌, ◌+◌, ◌++◌, List, length, take, IfOk, OnOk, OnErr};
 ghost use Rattle.outside_io.specs.Causes.{HasCause};
 ghost use Rattle.tmds_word.specs.Column.{Column};
@@ -11,7 +11,7 @@ use crate::telling::tell;
 use outside_io::Failed;
 use tmds_word::{Columns, MOST_COLUMNS};
 
-/// Receives columns, and reports to an ear what they say.
+/// Hears columns, and reports to an ear what they say.
 pub fn hear_columns<H: Hears, E: Ear>(
     columns: Columns<'_>,
     hearing: &mut H,
@@ -31,7 +31,7 @@ pub fn hear_columns<H: Hears, E: Ear>(
     Ok(())
 }
 
-/// Receives the columns that go on with what is open, and the one after them. Answers how many these are.
+/// Hears the columns that go on with what is open, and the one after them. Answers how many these are.
 #[inline]
 fn hear_part<H: Hears, E: Ear>(
     columns: Columns<'_>,

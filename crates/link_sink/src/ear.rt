@@ -10,7 +10,7 @@ use period_grammar::EventRef;
 
 /// Takes what is reported of a link, one event after another. It keeps no list of what was reported to it.
 pub trait Ear {
-    /// How often the ear has failed. The count stops at the greatest u64.
+    /// How often the ear has failed, as a u64 that stands still at its greatest.
     ghost faults: { Self → ℕ };
 
     /// From the first state to the second the ear took these events, one after another.

@@ -1,4 +1,4 @@
-//! Receives three lanes, feed after feed, and reports what they say. A receiver stores only what is still to be
+//! Three lanes whose bits arrive feed after feed, and what they say. Of what it took a receiver keeps what is still to be
 //! reported: the last bits of each lane, the characters that wait for those of another lane, and the period
 //! that goes on.
 ghost use Rattle.std.specs.Prelude.{◌≡◌, List, [], true, false, map, IfOk, OnOk, OnErr};
@@ -23,7 +23,7 @@ use std::marker::Model;
 use std::thread::Threads;
 use tmds_word::LaneBits;
 
-/// Receives three lanes, feed after feed, and reports to an ear what they say from their first full
+/// Hears three lanes whose bits arrive feed after feed, and reports to an ear what they say from their first full
 /// alignment on. All that it keeps is within it: it takes no memory.
 #[derive(Drop)]
 pub struct LaneReceiver<H: Hears> {
@@ -193,7 +193,7 @@ impl<H: Hears> LaneReceiver<H> {
     }
 }
 
-/// Takes the received columns, and reports to the ear what they say.
+/// Hears the received columns, and reports to the ear what they say.
 fn hear_parts<H: Hears, E: Ear>(
     receiver: &mut Receiver,
     hearing: &mut H,

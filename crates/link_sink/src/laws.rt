@@ -1,4 +1,4 @@
-//! The bits that a sink is fed decide its answers. The functions have no code: their contracts are the laws.
+//! What a sink answers is decided by the bits that it is fed. The functions do nothing: what they ensure are the laws.
 ghost use Rattle.link_sink.specs.Laws.{OneAlignment, OneGain, OneGainAt, OneLast};
 
 /// What is reported in addition when lanes have more bits is one list.

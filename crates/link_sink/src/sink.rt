@@ -1,4 +1,4 @@
-//! A sink of the bits of three lanes, which arrive feed after feed. It is a receiver that owns its memory.
+//! A sink of the bits of three lanes, which arrive feed after feed: a receiver in memory of its own.
 ghost use Rattle.std.specs.Prelude.{◌≡◌, List, true, false, IfOk, OnOk, OnErr};
 ghost use Rattle.outside_io.specs.Causes.{HasCause};
 ghost use Rattle.period_grammar.specs.Events.{Event, EventAt, all_at};
@@ -22,10 +22,10 @@ use std::marker::Model;
 use std::thread::Threads;
 use tmds_word::LaneBits;
 
-/// Receives the columns of a link.
+/// Hears the columns of a link.
 pub type LinkSink = LaneSink<Hearing>;
 
-/// Receives three lanes, feed after feed, and reports to an ear what they say from their first full
+/// Hears three lanes whose bits arrive feed after feed, and reports to an ear what they say from their first full
 /// alignment on. It has taken all its memory when it is opened.
 #[derive(Drop)]
 pub struct LaneSink<H: Hears> {
@@ -185,7 +185,7 @@ impl<H: Hears> LaneSink<H> {
     }
 }
 
-/// A receiver that owns its memory.
+/// A receiver in memory of its own.
 #[inline(never)]
 fn open_lanes<H: Hears>(alloc: Global) -> Result<Box<LaneReceiver<H>>, NoMemory>
     ensures open { IfOk result (λ lanes. lanes.value.is_open ≡ true) }

@@ -113,7 +113,7 @@ fn word(number: u16) -> tmds_word::Word {
     }
 }
 
-/// Receives a column some times over.
+/// Hears a column some times over.
 fn hear_times(
     seen: Seen,
     hearing: &mut DviHearing,

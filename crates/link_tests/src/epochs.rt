@@ -114,7 +114,7 @@ fn feed_all<R: Threads, W: Watch, E: TrackEar>(
     sink.finish(rt, ear)
 }
 
-/// Whether lanes have this many epochs, and this many that are aligned.
+/// Whether lanes have so many epochs, and so many that are aligned.
 fn has(answer: Result<TrackOutcome, Failed>, epochs: u64, aligned: u64) -> bool {
     match answer {
         Ok(it) => it.epochs == epochs && it.aligned == aligned,
@@ -122,7 +122,7 @@ fn has(answer: Result<TrackOutcome, Failed>, epochs: u64, aligned: u64) -> bool 
     }
 }
 
-/// Whether a sink reports a row's events, in feeds of this many bits.
+/// Whether a sink reports a row's events, in feeds of so many bits.
 fn reports<R: Threads>(rt: &R, sink: &mut TrackSink, row: &Slipped, most: u32) -> bool {
     let lanes = Lanes::of_digits(row.bits, row.digits);
     let mut ear = Listener::to(row.tells);
@@ -154,7 +154,7 @@ fn slips(rt: HostRuntime) -> Result<(), Fail> {
     Ok(())
 }
 
-/// Whether a fresh sink finds a row's epochs, in feeds of this many bits.
+/// Whether a fresh sink finds a row's epochs, in feeds of so many bits.
 fn finds<R: Threads, W: Watch>(rt: &R, alloc: Global, row: &Doubted, most: u32) -> bool {
     let lanes = Lanes::of_digits(row.bits, row.digits);
     let mut ends = Ends::new();

@@ -36,7 +36,7 @@ impl Lanes {
         }
     }
 
-    /// The lanes of hexadecimal digits, each with this many bits.
+    /// The lanes of hexadecimal digits, each with so many bits.
     pub(crate) fn of_digits(bits: [u32; 3], digits: [&str; 3]) -> Lanes {
         let [blue, green, red] = digits;
         Lanes {
@@ -80,7 +80,7 @@ impl Lanes {
         }
     }
 
-    /// Keeps no more bits of a lane than this many.
+    /// Keeps no more bits of a lane than so many.
     pub(crate) fn cut(&mut self, lane: usize, bits: u32)
         requires { lane < 3 }
     {
@@ -88,7 +88,7 @@ impl Lanes {
     }
 }
 
-/// The bytes of this many bits from a place on.
+/// The bytes of so many bits from a place on.
 pub(crate) fn part(bytes: &[u8], from: u32, bits: u32) -> &[u8]
     requires { bits ≤ 32768 }
 {

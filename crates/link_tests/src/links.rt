@@ -97,7 +97,7 @@ fn feed_all<R: Threads>(
     sink.finish(ear)
 }
 
-/// Whether a sink answers that lanes are aligned and have this many columns, and reports these events, in feeds of one kind; or that they
+/// Whether a sink answers that lanes are aligned and have so many columns, and reports these events, in feeds of one kind; or that they
 /// are not aligned, and reports nothing.
 fn reports<R: Threads>(
     rt: &R,

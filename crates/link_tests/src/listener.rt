@@ -1,4 +1,4 @@
-//! An ear that compares what is reported to it with a table.
+//! An ear that compares what is reported to it with what a table wants.
 ghost use Rattle.std.specs.Prelude.{⊤};
 ghost use Rattle.outside_io.specs.Causes.{HasCause};
 

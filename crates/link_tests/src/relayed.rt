@@ -6,7 +6,7 @@ use relay::{Relay, RelayFault};
 use std::alloc::Global;
 use std::test::*;
 
-/// Runs of this many columns, one after the other, and whether a relay takes the last of them.
+/// Runs of so many columns, one after the other, and whether a relay takes the last of them.
 static ROWS: [(&[u64], bool); 6] = [
     (&[20_000_000], true),
     (&[20_000_001], false),

@@ -28,7 +28,7 @@ pub(crate) enum Tell {
     Cut(u64),
     /// A lane that lost bits, and the place.
     Slip(u8, u64),
-    /// An alignment that was dropped, and the place.
+    /// An alignment that was let go, and the place.
     Relock(u64),
 }
 
@@ -59,7 +59,7 @@ impl Tell {
         matches!(self.numbers()[0], 6..=11)
     }
 
-    /// Whether an event is the one of a table.
+    /// Whether an event is what a table wants.
     pub(crate) fn is(self, wanted: Tell) -> bool {
         match wanted {
             Tell::SomeFault => self.is_some_fault(),

@@ -27,9 +27,6 @@ pub mod PacketLines
 pub mod PictureLines
 pub mod PacketsListed
 pub mod Rasters
-pub mod Said
-pub mod SaidPackets
-pub mod ContentTaken
 pub mod Text
 pub mod Digits
 pub mod LineForms

@@ -1,4 +1,4 @@
-//! Laws about a check of columns. The functions have no code: their contracts are the laws.
+//! What a check says of columns. The functions do nothing: what they ensure are the laws.
 ghost use Rattle.listing_laws.specs.Exact.{CountIsExact, VerdictIsExact};
 
 /// A check of columns counts no fault exactly where some conforming sender could have sent the columns before the cut.

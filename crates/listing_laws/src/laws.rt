@@ -1,12 +1,10 @@
-//! Laws about the frames and packets of a raster that are recovered, and about reading a link's listing back. The functions
-//! have no code: their contracts are the laws.
+//! What of a raster's frames and packets is recovered, and what a link's listing reads back as. The functions do
+//! nothing: what they ensure are the laws.
 ghost use Rattle.listing_laws.specs.FrameLaws.{FramesComeBack, FramesHeard};
 ghost use Rattle.listing_laws.specs.LinkLaws.{AccountReadsBack};
 ghost use Rattle.listing_laws.specs.ListingLaws.{FrameLinesComeBack, LinesOfPayload, PacketLinesAreListed, PacketLinesAsSent, PacketLinesComeBack, PacketsAsSent};
 ghost use Rattle.listing_laws.specs.PacketLaws.{PacketsComeBack, OnePacketAsSent, RasterPackets};
 ghost use Rattle.listing_laws.specs.Rasters.{RastersCome, HasRaster};
-ghost use Rattle.listing_laws.specs.Said.{ContentFieldsAreListed, FieldsAreListed, ListedIsSaid, SaidLines};
-ghost use Rattle.listing_laws.specs.Taken.{TakenIsContent};
 
 /// Of the account of a raster's columns, received with sparse damage wherever it lies, the rows are listed of exactly
 /// those frames of whose sync lines three neighbouring control columns were received with VSYNC active: each row that
@@ -16,7 +14,7 @@ pub fn frames_come_back()
     ensures { FramesComeBack }
 {}
 
-/// The same of what is reported of the received columns.
+/// The same of what is heard of the received columns.
 pub fn frames_heard()
     ensures { FramesHeard }
 {}
@@ -26,7 +24,7 @@ pub fn packets_come_back()
     ensures { PacketsComeBack }
 {}
 
-/// A packet with at most one wrong word, or with few and without a reported fault, is reported with its header
+/// A packet of which at most one word was received unlike, or few were and no fault is found, is reported with its header
 /// and bodies, and none of its blocks is lost.
 pub fn one_packet_as_sent()
     ensures { OnePacketAsSent }
@@ -42,7 +40,7 @@ pub fn raster_packets()
     ensures { RasterPackets }
 {}
 
-/// The lines `row ..`, `frame ..` and `! ragged ..` of a content listing of what is reported of a raster are the rows and frames
+/// The lines `row ..`, `frame ..` and `! ragged ..` of a content listing of what is heard of a raster are the rows and frames
 /// that were received: none is ragged.
 pub fn frame_lines_come_back()
     ensures { FrameLinesComeBack }
@@ -66,31 +64,6 @@ pub fn packet_lines_as_sent()
 /// So are those of each such packet of conforming periods, as it is reported.
 pub fn packet_lines_come_back()
     ensures { PacketLinesComeBack }
-{}
-
-/// A packet that says fields of an InfoFrame, clock numbers or samples has the lines of these, and no others.
-pub fn said_lines()
-    ensures { SaidLines }
-{}
-
-/// The lines of the fields that a packet says are in the content listing, if the packet was received whole and as it was sent.
-pub fn fields_are_listed()
-    ensures { FieldsAreListed }
-{}
-
-/// So are those of each packet of a content.
-pub fn content_fields_are_listed()
-    ensures { ContentFieldsAreListed }
-{}
-
-/// The line of an InfoFrame in a content listing gives a packet that says its fields.
-pub fn listed_is_said()
-    ensures { ListedIsSaid }
-{}
-
-/// A content listing that is taken gives rows of bytes, and packets of bytes.
-pub fn taken_is_content()
-    ensures { TakenIsContent }
 {}
 
 /// Columns that spell a raster that is not refused, and whose bytes are content, are received for it with no damage.

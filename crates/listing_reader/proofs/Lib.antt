@@ -23,4 +23,3 @@ pub mod Pieces
 pub mod Refused
 pub mod HexPairs
 pub mod OneAnswer
-pub mod Conforming

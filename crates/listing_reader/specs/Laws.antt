@@ -1,6 +1,5 @@
--- A text has one answer: two answers of a reader that fit it are equal. A link listing that is taken conforms.
-use Rattle.std.specs.Prelude.{◌≡◌, ℕ, List, Result, Ok, Err}
-use Rattle.island_pack.specs.Conforming.{IsConforming}
+-- A text has one answer: two answers of a reader that fit it are equal.
+use Rattle.std.specs.Prelude.{◌≡◌, List, Result, Ok, Err}
 use Rattle.island_pack.specs.Periods.{Period}
 use Rattle.source_end.specs.Content.{Frame}
 use Rattle.source_end.specs.declared.mode.Mode.{Mode}
@@ -8,8 +7,7 @@ use Rattle.source_end.specs.declared.refusal.RasterFault.{RasterFault}
 use Rattle.listing_reader.specs.declared.fault.ListFault.{ListFault}
 use Rattle.listing_reader.specs.declared.fault.ListError.TheVariants.{Bad}
 use Rattle.listing_reader.specs.Answers.{Answers}
-use Rattle.listing_reader.specs.LineSteps.{Read, accepts}
-use Rattle.listing_reader.specs.Reading.{reads_as}
+use Rattle.listing_reader.specs.LineSteps.{Read}
 
 -- of what a text reads as, one value is given or one fault is answered, and not both
 abbrev pub OneAnswer : Type 0 → Type 0
@@ -26,7 +24,3 @@ OneLinkAnswer = OneAnswer (List Period)
 -- of a content, or of why it has no raster
 abbrev pub OneContentAnswer : Type 0
 OneContentAnswer = OneAnswer (Result (Mode × List Frame) RasterFault)
-
--- each link listing that is taken reads as periods that conform
-abbrev pub TakenConforms : Type 0
-TakenConforms = (text : List ℕ) (periods : List Period) → reads_as text ≡ accepts periods → IsConforming periods

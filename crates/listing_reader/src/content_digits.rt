@@ -47,7 +47,7 @@ pub(crate) fn spd(rest: &[u8]) -> ContentForm<'_>
     })))
 }
 
-/// Whether the size is that of a source product description, and a space separates any two fields.
+/// Whether the size is that of a source product description, and a space stands between any two fields.
 fn is_spd_laid_out(rest: &[u8]) -> bool
     ensures value { result ≡ ((length rest.now == 52) && (is_space rest.now 16 && is_space rest.now 49)) }
     ensures size { result ≡ true → length rest.now ≡ 52 }
@@ -102,7 +102,7 @@ fn payload(rest: &[u8], bytes: &mut [u8; 27]) -> Option<u8>
     }
 }
 
-/// Whether a payload that is written has this many digits.
+/// Whether a payload that is written has so many digits.
 fn is_payload_size(digits: usize) -> bool
     ensures value { result ≡ (nat_le 1 digits && nat_le digits 54) }
     ensures few { result ≡ true → digits ≤ 54 }
@@ -153,7 +153,7 @@ pub(crate) fn packet(rest: &[u8]) -> ContentForm<'_>
     }))
 }
 
-/// Whether the size is that of a packet without sync values, and a space separates any two fields.
+/// Whether the size is that of a packet without sync values, and a space stands between any two fields.
 fn is_laid_out(rest: &[u8]) -> bool
     ensures value { result ≡ ((length rest.now == 66) && (is_space rest.now 6 && (is_space rest.now 21 && (is_space rest.now 36 && is_space rest.now 51)))) }
     ensures size { result ≡ true → length rest.now ≡ 66 }
@@ -186,7 +186,7 @@ pub(crate) fn sample(rest: &[u8]) -> ContentForm<'_>
     sample_of(&left, &right, &fields)
 }
 
-/// Whether a space follows each of two values.
+/// Whether a space stands after each of two values.
 fn is_sample_laid_out(rest: &[u8]) -> bool
     ensures value { result ≡ (nat_le 14 (length rest.now) && (is_space rest.now 6 && is_space rest.now 13)) }
     ensures size { result ≡ true → 14 ≤ length rest.now }

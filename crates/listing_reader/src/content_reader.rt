@@ -301,7 +301,7 @@ impl ContentReader {
         self.group()
     }
 
-    /// Makes a packet of the samples that still lack one. There is at least one such sample.
+    /// Makes a packet of the samples that still lack one, of which there is one.
     fn group(self) -> Result<ContentReader, NoMemory>
         requires few { kept_lines self ≤ 4294967290 }
         requires some { 1 ≤ length self.samples }
@@ -490,7 +490,7 @@ fn is_in_range(least: u16, number: u16) -> bool
     number >= least && u32::from(number) <= PIXEL_LIMIT
 }
 
-/// Whether a row fits the mode after this many rows. In a mode without a raster any row does.
+/// Whether a row fits the mode after so many rows. In a mode without a raster any row does.
 fn row_fits(mode: &Mode, rows: u64, bytes: &[u8]) -> bool
     ensures { result ≡ row_fits mode.now rows bytes.now }
 {
@@ -498,7 +498,7 @@ fn row_fits(mode: &Mode, rows: u64, bytes: &[u8]) -> bool
         || (bytes.len() == 3 * usize::from(mode.across[0]) && rows < u64::from(mode.down[0]))
 }
 
-/// Whether a frame of this size and this many rows fits the mode. In a mode without a raster any frame does.
+/// Whether a frame of this size and so many rows fits the mode. In a mode without a raster any frame does.
 fn frame_fits(mode: &Mode, rows: u64, width: u64, height: u64) -> bool
     ensures { result ≡ frame_fits mode.now rows width height }
 {

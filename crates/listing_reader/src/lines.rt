@@ -13,7 +13,7 @@ use std::marker::Model;
 /// The most bytes of a line, without its line feed.
 pub(crate) const LINE_LIMIT: usize = 32_768;
 
-// This many bytes with no line feed are the beginning of too long a line.
+// So many bytes with no line feed are the beginning of too long a line.
 const TOO_LONG: usize = LINE_LIMIT + 1;
 
 const BUFFER_SIZE: usize = 65_536;
@@ -23,7 +23,7 @@ const BUFFER_SIZE: usize = 65_536;
 pub enum Piece {
     /// A line that its line feed ends.
     Line,
-    /// The bytes after the last line feed, perhaps none; the input ends there.
+    /// What stands after the last line feed, perhaps nothing; the input ends there.
     Last,
     /// The first 32,769 bytes of a line that is longer than a line may be.
     Long,

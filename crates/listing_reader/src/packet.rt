@@ -34,7 +34,7 @@ pub(crate) fn read_packet(rest: &[u8]) -> Option<Packet>
     })
 }
 
-/// Whether the size is that of a packet, a space separates any two fields, and the sync values
+/// Whether the size is that of a packet, a space stands between any two fields, and the sync values
 /// are decimal digits.
 fn is_laid_out(rest: &[u8]) -> bool
     ensures value { result ≡ ((length rest.now == 99) && (has_spaces rest.now && list_all is_digit (part 67 32 rest.now))) }
@@ -44,7 +44,7 @@ fn is_laid_out(rest: &[u8]) -> bool
     rest.len() == SIZE && (has_spaces(rest) && are_digits(&rest[67..99]))
 }
 
-/// Whether a space separates any two fields.
+/// Whether a space stands between any two fields.
 #[tactic(auto, unfolding(crate::specs::Forms::has_spaces))]
 fn has_spaces(rest: &[u8]) -> bool
     requires { length rest.now ≡ 99 }

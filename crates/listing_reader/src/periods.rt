@@ -15,8 +15,8 @@ use source_end::{FramedItems, FramedStream, Framing, Item, ItemFault, Run, Runs}
 use std::alloc::Global;
 use std::marker::Model;
 
-/// The control period that may still get more `c` lines is kept apart from the items before it, until another kind of
-/// period, or the end.
+/// The control period whose `c` lines still follow is kept apart from the items before it, until the next period that is
+/// none, or the end.
 #[derive(Drop)]
 pub(crate) struct Periods<F: Framing> {
     alloc: Global,
@@ -129,7 +129,7 @@ impl<F: Framing> Periods<F> {
     }
 }
 
-/// Periods without a control period that goes on.
+/// Periods of which none is a control period that goes on.
 fn renewed<F: Framing>(alloc: Global, items: FramedItems<F>) -> Periods<F>
     requires { is_control_last (last_period items) ≡ false }
     ensures { result ≡ items }

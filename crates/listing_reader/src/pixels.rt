@@ -16,7 +16,7 @@ use std::alloc::Global;
 /// How many bytes of a row are decoded at a time.
 const BLOCK: usize = 512;
 
-/// Whether a video data period may have this many pixels.
+/// Whether a video data period may have so many pixels.
 #[tactic(auto, unfolding(source_end::specs::Refusals::is_in_range))]
 pub(crate) fn are_pixels_in_range(pixels: &Pixels) -> bool
     ensures { result ≡ is_in_range (video pixels.now) }

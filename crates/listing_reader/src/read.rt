@@ -28,7 +28,7 @@ pub fn read_link<S: Source>(alloc: Global, source: &mut S) -> Result<Stream, Lis
     read_lines(alloc, source, Reader::new(alloc))
 }
 
-/// Reads the text of a listing without guard bands to its end, line by line: only lines `c`, `v` and `end`. The memory
+/// Reads the text of a listing without guard bands to its end, line by line: lines `c`, `v` and `end` alone. The memory
 /// that it takes is that of the items and of a buffer of 65,536 bytes.
 pub fn read_dvi<S: Source>(alloc: Global, source: &mut S) -> Result<DviStream, ListError>
     ensures answers { (text : List ℕ) → S.left source.old ≡ Some text → Answers (dvi_reads_as text) result }

@@ -29,7 +29,7 @@ use std::marker::Model;
 #[derive(Drop)]
 pub(crate) struct Reader {
     periods: Periods<WithGuards>,
-    /// The data island that still lacks its `e` line.
+    /// The data island whose `e` line still follows.
     island: Option<Island>,
 }
 
@@ -99,7 +99,7 @@ impl Reader {
         }
     }
 
-    /// Whether this many columns more are no more than a stream may have.
+    /// Whether so many columns more are no more than a stream may have.
     fn has_room(&self, columns: u32) -> bool
         ensures { result ≡ has_room self.now columns }
     {
@@ -282,7 +282,7 @@ impl Reader {
     }
 }
 
-/// The refusal of a line that cannot follow the line before it, with numbers in their ranges or not.
+/// The refusal of what cannot follow the line before it, and whose numbers are in their ranges or not.
 fn out_of_turn(in_range: bool) -> Refusal
     ensures order { in_range ≡ true → result ≡ Refusal.Cause ListCause.Order }
     ensures range { in_range ≡ false → result ≡ Refusal.Cause ListCause.Range }

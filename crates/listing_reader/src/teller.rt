@@ -41,11 +41,11 @@ pub(crate) trait Teller: Drop {
     /// What a line does after what the lines before it said.
     ghost step: { Self → List ℕ → LineStep Self Self.Whole };
 
-    /// This many lines at least said this.
+    /// So many lines at least said this.
     ghost lines: { Self → ℕ };
 
-    /// Takes a line, or refuses it with its first cause. If a line has more than 32,768 bytes, its first
-    /// 32,768 are enough.
+    /// Takes a line, or refuses it with its first cause. Of a line of more than 32,768 bytes its first
+    /// ones are enough.
     fn take(self, line: &[u8]) -> Result<Taken<Self, Self::Whole>, Refusal>
     where
         Self: Sized,

@@ -144,8 +144,8 @@ fn too_long<T: Teller>(teller: T, line: &[u8], number: u32) -> ListError
     }
 }
 
-/// Returns what the line `end` ended, if nothing follows that line. Bytes that were already read are judged before
-/// more are read.
+/// What the line `end` ended, where nothing follows that line. What was read already is judged before
+/// more is read.
 #[tactic(auto, using(crate::proofs::Consumed::takes_none))]
 fn finish<S: Source, W: Drop>(
     whole: W,

@@ -1,4 +1,4 @@
-//! What the calls return for one capture, in buffers of every size. The capture and the listing were computed apart from this
+//! What the calls answer of one capture, in buffers of every size. The capture and the listing were computed apart from this
 //! program.
 use c_capture::{LentTap, Listed, Skews, check, make, recover};
 use std::alloc::Global;

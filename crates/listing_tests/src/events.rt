@@ -10,7 +10,7 @@ use period_grammar::{EventRef, Fault};
 /// A step of a lister: an event that is reported to it, or another call.
 #[derive(Clone, Copy)]
 pub(crate) enum Step {
-    /// This many control columns of a value.
+    /// So many control columns of a value.
     Run(u8, u64),
     Line(&'static [u8]),
     Open(u8, u8),
@@ -66,7 +66,7 @@ pub(crate) fn tell_packet<E: Ear>(
     ear.hear(at, EventRef::Packet { packet, column: 14 })
 }
 
-/// This verdict on the first block of a packet. Its other blocks are clean.
+/// This verdict on the first block of a packet, whose other blocks are clean.
 fn on_first(verdict: Verdict) -> [Verdict; 5] {
     let clean = Verdict::Clean;
     [verdict, clean, clean, clean, clean]

@@ -1,4 +1,4 @@
-//! Worked streams, and packets with a stream that a model in another language computed.
+//! Worked streams, and packets whose stream was computed by a model in another language.
 ghost use Rattle.std.specs.Prelude.{◌≤◌};
 
 use crate::events::tell_packet;
@@ -78,7 +78,7 @@ fn shorts() -> [Short; 8] {
     ]
 }
 
-/// A source of two parts, with this many bytes for each read.
+/// A source of two parts, with so many bytes for each read.
 fn source_of(alloc: Global, parts: [&[u8]; 2], piece: usize) -> Result<MemSource, Fail>
     requires { 1 ≤ piece }
 {
@@ -125,7 +125,7 @@ fn failed_devices(rt: HostRuntime) -> Result<(), Fail> {
     Ok(())
 }
 
-/// A checksum of bytes.
+/// A number that stands for bytes.
 fn digest(bytes: &[u8]) -> u32 {
     let mut sum: u32 = 0;
     for byte in bytes {
@@ -134,7 +134,7 @@ fn digest(bytes: &[u8]) -> u32 {
     sum
 }
 
-/// The text of this many samples: its length, and its digest. The samples with these four numbers start a block.
+/// The text of so many samples, of which those of four numbers start a block: its length, and its digest.
 fn listed(alloc: Global, count: u32, starts: [u32; 4]) -> Result<(usize, u32), Fail>
     requires { count ≤ 400 }
 {
@@ -192,7 +192,7 @@ static PACKETS: [([u8; 3], Verdict, Verdict); 11] = [
     ([2, 0x0f, 0x80], Verdict::Mended(9), Verdict::Mended(1)),
 ];
 
-/// A packet with this header. The bytes of its bodies go up by 11 from a first byte on.
+/// A packet of a header, whose bodies go up by 11 from a first byte on.
 fn packet_from(header: [u8; 3], first: u8) -> Packet {
     let mut bodies = [0; 28];
     let mut next = first;

@@ -30,7 +30,7 @@ impl<'a, K: Sink> CheckLister<'a, K> {
         CheckLister { sink, faults: 0 }
     }
 
-    /// How many fault lines were written whole, one for each fault that was reported to it. The count stops at
+    /// How many fault lines were written whole, one for each fault that was reported to it. The count stands still at
     /// the greatest u64.
     pub fn faults(&self) -> u64
         ensures { result ≡ self.now.faults }
@@ -38,7 +38,7 @@ impl<'a, K: Sink> CheckLister<'a, K> {
         self.faults
     }
 
-    /// Writes the last line: `clean` if no fault was reported, otherwise `faulty`.
+    /// Writes the last line: `clean` where no fault was reported, else `faulty`.
     pub fn end(&mut self) -> Result<(), Failed>
         ensures same { self.new.sink.ghost_name ≡ self.old.sink.ghost_name }
         ensures faults { self.new.faults ≡ self.old.faults }
@@ -114,7 +114,7 @@ impl<'a, K: Sink> Ear for CheckLister<'a, K> {
     ghost forgets = { λ x y events t. t };
 }
 
-/// The last line, after this many faults.
+/// The last line, after so many faults.
 fn verdict(faults: u64) -> &'static [u8]
     ensures { result.now ≡ verdict_line faults }
 {

@@ -16,7 +16,7 @@ use std::marker::Model;
 /// Room for the row of 4,096 pixels and one line more, and so for a packet of four samples, three lines for each.
 const ROOM: usize = 24_773;
 
-/// Lines, and how many of them are fault lines. The count stops at the greatest u64.
+/// Lines, and how many of them are fault lines. The count stands still at the greatest u64.
 #[derive(Drop)]
 pub(crate) struct Lines {
     bytes: [u8; ROOM],

@@ -26,7 +26,7 @@ pub struct ContentLister<'a, K: Sink> {
 }
 
 impl<'a, K: Sink> ContentLister<'a, K> {
-    /// A lister before the first report. It has written nothing.
+    /// A lister that has written nothing, and to which nothing was reported.
     pub fn open(sink: &'a mut K) -> ContentLister<'a, K>
         ensures same { result.sink.ghost_name ≡ sink.entry.ghost_name }
         ensures sink { result.sink.now ≡ sink.old }
@@ -43,7 +43,7 @@ impl<'a, K: Sink> ContentLister<'a, K> {
 
     /// How many fault lines there were of events of which every line was written. An event's fault lines are counted once all
     /// its lines are written: where the sink failed within them none of them counts, also one that was written whole. The
-    /// count stops at the greatest u64.
+    /// count stands still at the greatest u64.
     pub fn faults(&self) -> u64
         ensures { result ≡ self.now.faults }
     {
@@ -51,7 +51,7 @@ impl<'a, K: Sink> ContentLister<'a, K> {
     }
 
     /// Writes the line of a slip, which is a fault line: the lane, and the place of the capture from which on its
-    /// characters are searched again. What is kept of events stays: those reported later are listed after all that was reported.
+    /// characters are searched anew. What is kept of events stays: those reported later are listed after all that was reported.
     /// Where the sink fails, a part of the line is written, and nothing is counted.
     pub fn slip(&mut self, lane: u8, place: u64) -> Result<(), Failed>
         ensures same { self.new.sink.ghost_name ≡ self.old.sink.ghost_name }
@@ -67,8 +67,8 @@ impl<'a, K: Sink> ContentLister<'a, K> {
         Ok(())
     }
 
-    /// Writes the line of an alignment that was dropped, which is a fault line: the place of the capture from which on the lanes
-    /// are searched again. What is kept of events stays. Where the sink fails, a part of the line is written, and nothing is counted.
+    /// Writes the line of an alignment that was let go, which is a fault line: the place of the capture from which on the lanes
+    /// are searched anew. What is kept of events stays. Where the sink fails, a part of the line is written, and nothing is counted.
     pub fn relock(&mut self, place: u64) -> Result<(), Failed>
         ensures same { self.new.sink.ghost_name ≡ self.old.sink.ghost_name }
         ensures past { self.new.past ≡ self.old.past }

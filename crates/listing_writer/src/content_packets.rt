@@ -215,7 +215,7 @@ fn control_line(bodies: &[u8; 28]) -> TextLine
     fields_line(b"gcp", &numbers)
 }
 
-/// The line of an InfoFrame with this sum of its bytes.
+/// The line of an InfoFrame whose bytes have this sum.
 #[tactic(auto, unfolding(crate::specs::ContentText::checksum_words))]
 fn checksum_line(column: u64, sum: u8) -> TextLine
     ensures { result.items ≡ checksum_words column sum ++ codes "\n" }
@@ -229,7 +229,7 @@ fn checksum_line(column: u64, sum: u8) -> TextLine
     line
 }
 
-/// The line of a packet of a type without a special line.
+/// The line of a packet of a type that has no line of its own.
 #[tactic(auto, unfolding(crate::specs::ContentText::other_words))]
 fn other_line(packet: PacketRef<'_>) -> TextLine
     ensures { result.items ≡ other_words packet.entry.packet.now ++ codes "\n" }

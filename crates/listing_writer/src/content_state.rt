@@ -33,7 +33,7 @@ impl ContentState {
         }
     }
 
-    /// Receives an event, and adds its lines.
+    /// Hears an event, and adds its lines.
     pub(crate) fn hear(&mut self, event: EventRef<'_>, lines: &mut Lines)
         requires sized { IsSized (lent_event event) }
         requires empty { lines.old.text ≡ [] }
@@ -89,7 +89,7 @@ impl ContentState {
     }
 }
 
-/// A fault of one word does not separate lines of pixels; any other event does.
+/// A fault of one word parts no lines of pixels; any other event does.
 fn hear_fault(frames: &mut Frames, fault: Fault)
     ensures { (reported : List FrameEvent) → FramesRepresent frames.old reported → FramesRepresent frames.new (reported ++ frame_event_of (fault_event fault) ∷ []) }
 {

@@ -43,7 +43,7 @@ impl<'a, K: Sink> LinkLister<'a, K> {
     }
 
     /// How many fault lines were written whole: one for each fault that was reported to it, and one for each slip
-    /// and each alignment that was dropped. The count stops at the greatest u64.
+    /// and each alignment that was let go. The count stands still at the greatest u64.
     pub fn faults(&self) -> u64
         ensures { result ≡ self.now.faults }
     {
@@ -51,7 +51,7 @@ impl<'a, K: Sink> LinkLister<'a, K> {
     }
 
     /// Writes the line of a slip, which is a fault line: the lane, and the place of the capture from which on its
-    /// characters are searched again. Where the sink fails, a part of the line is written, and nothing is counted.
+    /// characters are searched anew. Where the sink fails, a part of the line is written, and nothing is counted.
     pub fn slip(&mut self, lane: u8, place: u64) -> Result<(), Failed>
         ensures same { self.new.sink.ghost_name ≡ self.old.sink.ghost_name }
         ensures counted { OnOk result (self.new.faults ≡ counted self.old.faults 1) }
@@ -65,8 +65,8 @@ impl<'a, K: Sink> LinkLister<'a, K> {
         Ok(())
     }
 
-    /// Writes the line of an alignment that was dropped, which is a fault line: the place of the capture from which on the lanes
-    /// are searched again. Where the sink fails, a part of the line is written, and nothing is counted.
+    /// Writes the line of an alignment that was let go, which is a fault line: the place of the capture from which on the lanes
+    /// are searched anew. Where the sink fails, a part of the line is written, and nothing is counted.
     pub fn relock(&mut self, place: u64) -> Result<(), Failed>
         ensures same { self.new.sink.ghost_name ≡ self.old.sink.ghost_name }
         ensures counted { OnOk result (self.new.faults ≡ counted self.old.faults 1) }
@@ -197,7 +197,7 @@ pub(crate) fn write_short<K: Sink>(sink: &mut K, line: TextLine) -> Result<(), F
     write_line(sink, line.as_slice())
 }
 
-// A separate function writes the lines of rare events, so that only these events make room for such a line.
+// What writes the lines of seldom events stands apart, so that room for such a line is made where there is one.
 
 /// Writes the line of a run of control columns.
 #[inline(never)]

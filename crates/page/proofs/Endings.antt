@@ -1,6 +1,6 @@
 -- How the recovery of a capture ends.
-use Rattle.std.proofs.Common.{arith, ◌≡◌, ◌∙◌, ◌<◌, ℕ, zero, suc, List, [], ◌∷◌, ◌++◌, Option, map, sym, subst, refl, true, false, inl, inr, Result, Ok, Err, take}
-use Rattle.std.specs.Prelude.{OnOk, OnErr, codes}
+use Rattle.std.proofs.Common.{arith, ◌≡◌, ◌∙◌, ◌<◌, ◌≤◌, ℕ, zero, suc, List, [], ◌∷◌, ◌++◌, Option, map, sym, subst, refl, true, false, inl, inr, Result, Ok, Err, length, take}
+use Rattle.std.specs.Prelude.{OnOk, OnErr, Some, codes}
 use Rattle.std.specs.Io.KnownBytes.{Appends}
 use Rattle.std.proofs.KnownBytes.{Appends-trans}
 use Rattle.outside_io.specs.Causes.{Rose}
@@ -14,7 +14,7 @@ use Rattle.link_sink.specs.Grammar.{Grammar}
 use Rattle.link_sink.specs.declared.hear.Outcome.{Outcome}
 use Rattle.listing_writer.specs.Texts.{lines_of, link_text, fault_lines, counted}
 use Rattle.page.specs.Endings.{judged_as, unheard_as}
-use Rattle.page.specs.Heard.{Said, SaysWhole, SaysShort, IsListed, IsUnended, ends_as}
+use Rattle.page.specs.Heard.{Said, SaysWhole, SaysShort, IsListed, IsUnended, IsUnaligned, ends_as}
 use Rattle.page.specs.declared.ending.Ending.TheVariants.{Unaligned}
 
 text_is : (events : List Event) → lines_of events ++ codes "end\n" ≡ link_text events

@@ -1,5 +1,5 @@
 -- What follows of how a capture was read from what its ear took.
-use Rattle.std.proofs.Common.{◌⊎◌, ℕ, List, Option, inl, inr}
+use Rattle.std.proofs.Common.{◌≡◌, ◌⊎◌, ℕ, List, Option, inl, inr}
 use Rattle.std.specs.Io.KnownBytes.{IsAtEnd}
 use Rattle.capture_file.specs.Captures.{IsCaptureOf}
 use Rattle.capture_reading.specs.Blocks.{AreNext}

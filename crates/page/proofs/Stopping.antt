@@ -1,10 +1,12 @@
 -- Where an ear stopped in the midst of what a block says, or the end.
-use Rattle.std.proofs.Common.{◌≡◌, ℕ, List, [], ◌∷◌, ◌++◌, map, length, take, ap, subst, refl, inl, inr, arith, append-nil, length-append, Result, Ok, Err}
+use Rattle.std.proofs.Common.{◌≡◌, ◌⊎◌, ◌<◌, ◌≤◌, ◌+◌, ◌∙◌, ℕ, List, [], ◌∷◌, ◌++◌, Option, map, length, take, ap, sym, subst, refl, inl, inr, arith, append-nil, length-append, Result, Ok, Err}
 use Rattle.std.specs.Prelude.{OnErr}
 use Rattle.std.specs.Io.KnownBytes.{Appends}
 use Rattle.std.proofs.KnownBytes.{Appends-trans}
+use Rattle.outside_io.specs.Causes.{Rose}
 use Rattle.capture_reading.proofs.BlockReading.{rose_after}
 use Rattle.period_grammar.specs.Events.{Event, EventAt, event_of}
+use Rattle.link_sink.specs.Ears.{StopsIn}
 use Rattle.link_sink.specs.Grammar.{Grammar}
 use Rattle.link_sink.specs.Hearings.{IsGrammar}
 use Rattle.link_sink.specs.Sinks.{Fed, IsGainBy, IsLastBy}
@@ -15,7 +17,7 @@ use Rattle.c_room.specs.Written.{link_writing, all_bytes, event_bytes, HasFilled
 use Rattle.c_room.specs.WrittenLaws.{bytes_append}
 use Rattle.c_room.specs.declared.room.EventRoom.{EventRoom}
 use Rattle.page.specs.Ears.{EarSeen, HasListed, StopsAt}
-use Rattle.page.specs.Heard.{Said, SaysSoFar, HaveNoRoom, IsStopped, StopsPast, StopsLast, said}
+use Rattle.page.specs.Heard.{Said, SaysOf, SaysSoFar, HaveNoRoom, IsStopped, StopsPast, StopsLast, said}
 use Rattle.page.proofs.Told.{alone}
 
 -- an event that was listed, and for which there was no room

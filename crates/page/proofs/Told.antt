@@ -1,5 +1,5 @@
 -- What is listed and told of a block, after what was listed and told before.
-use Rattle.std.proofs.Common.{◌≡◌, ◌∙◌, List, [], ◌++◌, map, take, ap, sym, subst, refl, inl, inr, length, arith}
+use Rattle.std.proofs.Common.{◌≡◌, ◌≤◌, ◌∙◌, ℕ, List, [], ◌++◌, map, take, ap, sym, subst, refl, inl, inr, length, arith}
 use Rattle.std.proofs.lemmas.List.{map-append}
 use Rattle.std.specs.Io.KnownBytes.{Appends}
 use Rattle.lane_deskew.proofs.Growth.{none_of_nothing}

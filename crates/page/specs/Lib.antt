@@ -1,4 +1,3 @@
 pub mod Endings
 pub mod Ears
 pub mod Heard
-pub mod Kinds

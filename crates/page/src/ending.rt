@@ -26,7 +26,6 @@ impl Ending {
     pub fn status(self) -> u8
         ensures status { result ≡ status_of self }
         ensures few { result ≤ 7 }
-        ensures known { result ≡ 2 → ⊥ }
     {
         match self {
             Ending::Done => 0,

@@ -5,20 +5,15 @@
 //! capture and by which fault, or whether a read failed. In the last two cases it has written and told what is reported of the
 //! whole blocks before. Otherwise a write failed or the room was too small for a block's events (`IsStopped`): everything
 //! before was told, and written up to a place in the next block. Devices count their failures. Nothing is allocated.
-//!
-//! `recover_kind` does this by the kind that has a number, and returns the program's exit status. The status is 2 exactly if no
-//! kind has the number; nothing is read, written or told then.
 #![tactic(auto)]
 
 mod ear;
 mod ending;
-mod kind;
 mod recovering;
 mod teller;
 mod telling;
 
 pub use ear::PageEar;
 pub use ending::Ending;
-pub use kind::PageKind;
-pub use recovering::{recover, recover_kind};
+pub use recovering::recover;
 pub use teller::Teller;

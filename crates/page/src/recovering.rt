@@ -1,68 +1,18 @@
 //! Recovers a capture: its listing is written while it is read, and what it says is told.
-ghost use Rattle.std.specs.Prelude.{◌≡◌, ◌≤◌, ◌↔◌};
+ghost use Rattle.std.specs.Prelude.{◌≡◌};
 ghost use Rattle.page.specs.Ears.{seen};
 ghost use Rattle.page.specs.Endings.{judged_as, unheard_as};
 ghost use Rattle.page.specs.Heard.{ends_as, said};
-ghost use Rattle.page.specs.Kinds.{EndsByNumber, IsNoKind, grammar_of};
 
 use crate::ear::PageEar;
 use crate::ending::Ending;
-use crate::kind::PageKind;
 use crate::teller::Teller;
 use crate::telling::Telling;
 use capture_reading::{ReadCaptureError, read_capture};
-use dvi_hearing::DviHearing;
 use link_sink::{Hears, LaneReceiver};
 use outside_io::{Failed, Sink, Source};
-use period_grammar::Hearing;
 
-/// The status if no kind has the number.
-const NO_KIND: u32 = 2;
-
-/// Recovers a capture by the kind that has a number, and returns the exit status that the program has there: 2 exactly if no kind
-/// has it. The ear is as for `recover`.
-pub fn recover_kind<S: Source, K: Sink, T: Teller>(
-    number: u32,
-    input: &mut S,
-    ear: &mut PageEar<'_, K>,
-    teller: &mut T,
-) -> u32
-    requires faults { ear.old.lister.faults ≡ 0 }
-    requires count { ear.old.room.count ≡ 0 }
-    requires used { ear.old.room.used ≡ 0 }
-    ensures same { ear.new.lister.sink.ghost_name ≡ ear.old.lister.sink.ghost_name }
-    ensures few { result ≤ 7 }
-    ensures unknown { (result ≡ 2) ↔ IsNoKind number }
-    ensures ends { EndsByNumber T.told number (S.left input.old) (S.left input.new) (S.faults input.old) (S.faults input.new)
-        (said (seen K.held K.faults ear.old) teller.old) (said (seen K.held K.faults ear.new) teller.new) result }
-{
-    match PageKind::of(number) {
-        Some(kind) => u32::from(recover_by(kind, input, ear, teller).status()),
-        None => NO_KIND,
-    }
-}
-
-/// Recovers a capture as one of a kind.
-fn recover_by<S: Source, K: Sink, T: Teller>(
-    kind: PageKind,
-    input: &mut S,
-    ear: &mut PageEar<'_, K>,
-    teller: &mut T,
-) -> Ending
-    requires faults { ear.old.lister.faults ≡ 0 }
-    requires count { ear.old.room.count ≡ 0 }
-    requires used { ear.old.room.used ≡ 0 }
-    ensures same { ear.new.lister.sink.ghost_name ≡ ear.old.lister.sink.ghost_name }
-    ensures ends { ends_as (grammar_of kind) T.told (S.left input.old) (S.left input.new) (S.faults input.old) (S.faults input.new)
-        (said (seen K.held K.faults ear.old) teller.old) (said (seen K.held K.faults ear.new) teller.new) result }
-{
-    match kind {
-        PageKind::Link => recover::<Hearing, S, K, T>(input, ear, teller),
-        PageKind::Dvi => recover::<DviHearing, S, K, T>(input, ear, teller),
-    }
-}
-
-/// Recovers a capture as `recover link` does, or as another hearing receives it: the ear's sink gets its listing while it is read, and the
+/// Recovers a capture as `recover link` does, or as another hearing hears it: the ear's sink gets its listing while it is read, and the
 /// teller is told what each block says. The ear is fresh. Eight records for each column that a block can have suffice in its room, and
 /// three bytes for each and 12,288 more.
 pub fn recover<H: Hears, S: Source, K: Sink, T: Teller>(
@@ -116,7 +66,7 @@ fn unheard(error: ReadCaptureError) -> Ending
     }
 }
 
-/// How it ends after its last line, and this many faults.
+/// How it ends after its last line, and so many faults.
 fn judged(last: Result<(), Failed>, faults: u64) -> Ending
     ensures { result ≡ judged_as last faults }
 {

@@ -13,7 +13,7 @@ use Rattle.period_grammar.specs.Heard.{heard_so_far, opened, island}
 use Rattle.period_grammar.specs.Island.{Payload, parts, payload, begins_close, packet_events, left_at}
 use Rattle.period_grammar.specs.After.{last, left_gain, island_gain, choose, payload_gain, gains, grown}
 use Rattle.period_grammar.specs.GoesOn.{goes_on, goes_on_line, goes_on_packet, goes_on_island, count_in_island, count_going_on, AreGoingOn}
-use Rattle.period_grammar.specs.Pixels.{is_pixel}
+use Rattle.period_grammar.specs.Balanced.{is_pixel}
 use Rattle.period_grammar.specs.IslandAfter.{IsPartsAfter, IsIslandAfter}
 use Rattle.period_grammar.specs.ControlAfter.{IsControlAfter}
 use Rattle.period_grammar.specs.Seen.{Seen}

@@ -14,17 +14,11 @@ pub mod Joined
 pub mod Bytes
 pub mod Sizes
 pub mod Pixels
-pub mod Controls
-pub mod Mixing
-pub mod PartPut
-pub mod Firsts
-pub mod Fronts
-pub mod LaneFronts
+pub mod Balanced
 pub mod Many
 pub mod InPacket
-pub mod Sixteens
+pub mod Groups
 pub mod Alike
-pub mod Eights
 pub mod Pushed
 pub mod LinkOne
 mod NoControls

@@ -13,7 +13,7 @@ use Rattle.period_grammar.specs.Cut.{Stretch, stretch, stretches, runs}
 use Rattle.period_grammar.specs.Heard.{heard_so_far, opened, video}
 use Rattle.period_grammar.specs.After.{last, payload_gain, gains, grown}
 use Rattle.period_grammar.specs.GoesOn.{is_whole, goes_on, goes_on_line, goes_kept, count_going_on}
-use Rattle.period_grammar.specs.Pixels.{is_pixel}
+use Rattle.period_grammar.specs.Balanced.{is_pixel}
 use Rattle.period_grammar.specs.Lines.{IsLineAfter}
 use Rattle.period_grammar.specs.ControlAfter.{IsControlAfter}
 use Rattle.period_grammar.specs.Seen.{Seen}

@@ -8,7 +8,7 @@ use Rattle.tmds_word.specs.Column.{Column}
 use Rattle.island_pack.specs.Spelling.{column_words, has_control}
 use Rattle.terc4.specs.Tables.{is_control}
 use Rattle.terc4.specs.Columns.{is_control_column, one_if}
-use Rattle.period_grammar.specs.Pixels.{is_pixel}
+use Rattle.period_grammar.specs.Balanced.{is_pixel}
 
 neither : (a b : Bool) → (a || b) ≡ false → (a ≡ false) × (b ≡ false)
 neither a b e = (grind arith, grind arith)

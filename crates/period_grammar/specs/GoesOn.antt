@@ -19,9 +19,6 @@ is_whole v c = is_control c.blue && (is_control c.green && (is_control c.red && 
 abbrev pub is_alike : Column → Column → Bool
 is_alike other c = (c.blue == other.blue) && ((c.green == other.green) && (c.red == other.red))
 
-abbrev pub is_unlike : Column → Column → Bool
-is_unlike other c = not (is_alike other c)
-
 -- whether a column goes on with the last of some runs
 abbrev pub goes_on_run : List Run → Column → Bool
 goes_on_run [] c = false

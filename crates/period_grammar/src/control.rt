@@ -1,28 +1,22 @@
 //! What is kept of the control columns of one piece.
-ghost use Rattle.std.specs.Prelude.{◌≡◌, ◌<◌, ◌≤◌, ◌+◌, ◌^◌, ◌++◌, ◌∷◌, [], All, List, ℕ, length, map, slice_index, true, ◌==◌, ◌&&◌};
+ghost use Rattle.std.specs.Prelude.{◌≡◌, ◌<◌, ◌≤◌, ◌+◌, ◌^◌, ◌++◌, ◌∷◌, [], All, List, ℕ, length, slice_index, true, ◌==◌, ◌&&◌};
 ghost use Rattle.std.specs.List.{prefix_len};
-ghost use Rattle.std.specs.Simd.Lanes.{mask_l};
 ghost use Rattle.tmds_word.specs.Column.{Column, column_of};
 ghost use Rattle.tmds_word.specs.Lent.{columns_in};
-ghost use Rattle.tmds_word.specs.Words.{columns_of};
 ghost use Rattle.island_pack.specs.Periods.{ctl};
 ghost use Rattle.period_grammar.specs.Column.{value_of};
 ghost use Rattle.period_grammar.specs.Cut.{runs};
 ghost use Rattle.period_grammar.specs.Heard.{last_run, lacks, has_preamble};
 ghost use Rattle.period_grammar.specs.After.{change};
-ghost use Rattle.period_grammar.specs.GoesOn.{goes_on_run, goes_kept, is_alike, is_unlike};
+ghost use Rattle.period_grammar.specs.GoesOn.{goes_on_run, goes_kept, is_alike};
 ghost use Rattle.period_grammar.specs.ControlAfter.{IsControlAfter, IsCounted};
 ghost use Rattle.period_grammar.specs.Noted.{events, Lent};
 
 use crate::column::{self, has_value};
 use crate::event::Fault;
 use crate::event_queue::{EventQueue, QueuedEvent};
-use std::simd::prelude::*;
 use terc4::RUN;
 use tmds_word::{Columns, Word};
-
-/// How many columns are compared at once.
-const EIGHT: usize = 8;
 
 /// The number of columns, their last run, and how many last columns have its control bits.
 #[derive(Clone, Copy)]
@@ -79,7 +73,7 @@ impl ControlState {
         (self.run != 0) & has_value(column, self.value)
     }
 
-    /// Receives a column of the last run's value.
+    /// Hears a column of the last run's value.
     pub fn hear_again(&mut self)
         requires counted { IsCounted self.old }
         requires few { self.old.columns + 1 < 2 ^ 64 }
@@ -107,7 +101,7 @@ impl ControlState {
         count_alike(columns, &first)
     }
 
-    /// Receives columns of the last run's value, this many.
+    /// Hears columns of the last run's value, this many.
     pub fn hear_run(&mut self, count: u64)
         requires counted { IsCounted self.old }
         requires few { self.old.columns + count < 2 ^ 64 }
@@ -177,58 +171,6 @@ impl ControlState {
 
 /// How many columns, from the first on, have the words of another one.
 fn count_alike(columns: Columns<'_>, other: &[Word; 3]) -> usize
-    ensures within { result ≤ length (columns_in columns.entry) }
-    ensures count { result ≡ prefix_len (is_alike (column_of other.now)) (columns_in columns.entry) }
-{
-    let mut at = 0;
-    while columns.len() - at >= EIGHT {
-        let count = alike_of_eight(columns.from(at).first(EIGHT), other);
-        at += count;
-        if count < EIGHT {
-            return at;
-        }
-    }
-    at + alike_of_rest(columns.from(at), other)
-}
-
-/// How many of eight columns, from the first on, have the words of another.
-#[inline(always)]
-fn alike_of_eight(columns: Columns<'_>, other: &[Word; 3]) -> usize
-    requires eight { length (columns_in columns) ≡ 8 }
-    ensures within { result ≤ 8 }
-    ensures count { result ≡ prefix_len (is_alike (column_of other.now)) (columns_in columns.entry) }
-{
-    let blue = u16x8::from_slice(columns.blue());
-    let green = u16x8::from_slice(columns.green());
-    let red = u16x8::from_slice(columns.red());
-    first_unlike(unlike_columns(blue, green, red, other))
-}
-
-/// Which of eight columns have a word that is not that of another column.
-#[inline(always)]
-fn unlike_columns(blue: u16x8, green: u16x8, red: u16x8, other: &[Word; 3]) -> u64
-    ensures { result ≡ mask_l (map (is_unlike (column_of other.now)) (columns_of blue green red)) }
-{
-    let b = u16x8::splat(column::blue(other).value());
-    let g = u16x8::splat(column::green(other).value());
-    let r = u16x8::splat(column::red(other).value());
-    ((blue.simd_ne(b) | green.simd_ne(g)) | red.simd_ne(r)).to_bitmask()
-}
-
-/// How many of eight columns come before the first that is marked.
-#[inline(always)]
-fn first_unlike(unlike: u64) -> usize
-    ensures { (other : Column) (cs : List Column) → length cs ≡ 8 → unlike ≡ mask_l (map (is_unlike other) cs) → result ≡ prefix_len (is_alike other) cs }
-{
-    if unlike == 0 {
-        EIGHT
-    } else {
-        unlike.trailing_zeros() as usize
-    }
-}
-
-/// How many columns, from the first on, have the words of another: one after another.
-fn alike_of_rest(columns: Columns<'_>, other: &[Word; 3]) -> usize
     ensures within { result ≤ length (columns_in columns.entry) }
     ensures count { result ≡ prefix_len (is_alike (column_of other.now)) (columns_in columns.entry) }
 {

@@ -1,4 +1,4 @@
-//! Receives columns one after another, and reports what they say.
+//! Hears columns one after another, and reports what they say.
 ghost use Rattle.std.specs.Prelude.{◌≡◌, ◌<◌, ◌≤◌, ◌+◌, ◌++◌, ◌∷◌, [], ℕ, All, List, length, map, take, true, false, slice_get, Some};
 ghost use Rattle.std.specs.Bool.{OnTrue, OnFalse};
 ghost use Rattle.tmds_word.specs.Column.{Column, column_of};
@@ -25,7 +25,7 @@ use std::marker::Model;
 use terc4::is_control_column;
 use tmds_word::{Columns, MOST_COLUMNS, Word};
 
-/// Receives the columns of a link one after another. It keeps a few numbers of them, the bytes of one line, and one
+/// Hears the columns of a link one after another. It keeps a few numbers of them, the bytes of one line, and one
 /// packet.
 #[derive(Drop)]
 pub struct Hearing {
@@ -49,7 +49,7 @@ impl Model for Hearing {
 }
 
 impl Hearing {
-    /// A hearing that has received nothing. The room for a line of 4,096 pixels is within it: it takes no memory.
+    /// A hearing that has heard nothing. The room for a line of 4,096 pixels is within it: it takes no memory.
     pub fn open() -> Hearing
         ensures open { result.finished ≡ false }
         ensures heard { HearingRepresents result [] }
@@ -66,7 +66,7 @@ impl Hearing {
         }
     }
 
-    /// Receives one column, the words of lanes 0, 1 and 2; `tells` and `reported` then say what is reported at it.
+    /// Hears one column, the words of lanes 0, 1 and 2; `tells` and `reported` then say what is reported at it.
     pub fn hear(&mut self, column: &[Word; 3])
         requires few { self.old.columns < MOST_COLUMNS }
         requires open { self.old.finished ≡ false }
@@ -82,7 +82,7 @@ impl Hearing {
         }
     }
 
-    /// Receives columns from the first on, as long as they go on with the run, the line or the packet that is open, and answers
+    /// Hears columns from the first on, as long as they go on with the run, the line or the packet that is open, and answers
     /// how many these are: none where none is open. Nothing is reported. `hear` takes the column that follows.
     pub fn hear_while(&mut self, columns: Columns<'_>) -> usize
         requires few { self.old.columns + length (columns_in columns) ≤ MOST_COLUMNS }
@@ -99,7 +99,7 @@ impl Hearing {
         self.hear_front(columns)
     }
 
-    /// Forgets all that was received and reported: it is as a fresh one. It takes no memory.
+    /// Forgets all that was heard and reported: it is as a fresh one. It takes no memory.
     pub fn restart(&mut self)
         ensures open { self.new.finished ≡ false }
         ensures heard { HearingRepresents self.new [] }
@@ -112,7 +112,7 @@ impl Hearing {
         self.finished = false;
     }
 
-    /// Receives columns as long as they go on, and answers how many these are.
+    /// Hears columns as long as they go on, and answers how many these are.
     fn hear_front(&mut self, columns: Columns<'_>) -> usize
         requires few { self.old.columns + length (columns_in columns) ≤ MOST_COLUMNS }
         ensures within { result ≤ length (columns_in columns.entry) }
@@ -132,7 +132,7 @@ impl Hearing {
         }
     }
 
-    /// Receives columns of a control period as long as they go on with its last run, and answers how many these are.
+    /// Hears columns of a control period as long as they go on with its last run, and answers how many these are.
     fn hear_run(&mut self, columns: Columns<'_>) -> usize
         requires phase { self.old.phase ≡ Control }
         requires few { self.old.columns + length (columns_in columns) ≤ MOST_COLUMNS }
@@ -150,7 +150,7 @@ impl Hearing {
         count
     }
 
-    /// Receives pixels of the line that is open, and answers how many these are.
+    /// Hears pixels of the line that is open, and answers how many these are.
     fn hear_line(&mut self, columns: Columns<'_>) -> usize
         requires phase { (start : ℕ) × (self.old.phase ≡ Video start) }
         requires few { self.old.columns + length (columns_in columns) ≤ MOST_COLUMNS }
@@ -167,7 +167,7 @@ impl Hearing {
         count
     }
 
-    /// Receives columns of the packet that is being received, and answers how many these are.
+    /// Hears columns of the packet that is being received, and answers how many these are.
     fn hear_packet(&mut self, columns: Columns<'_>) -> usize
         requires phase { (start : ℕ) × (self.old.phase ≡ InIsland start) }
         requires few { self.old.columns + length (columns_in columns) ≤ MOST_COLUMNS }
@@ -184,7 +184,7 @@ impl Hearing {
         count
     }
 
-    /// Receives a column that goes on with what is open, and says whether it does. Of any other it receives nothing.
+    /// Hears a column that goes on with what is open, and says whether it does. Of any other it hears nothing.
     fn hear_on(&mut self, column: &[Word; 3]) -> bool
         requires { self.old.columns < MOST_COLUMNS }
         ensures count { (cs : List Column) → HearingRepresents self.old cs → result ≡ goes_on (last (stretches cs)) (column_of column.now) }
@@ -226,7 +226,7 @@ impl Hearing {
         }
     }
 
-    /// Receives a column of any kind, in any phase. It stands apart, so that `hear` is short where nothing is reported.
+    /// Hears a column of any kind, in any phase. It stands apart, so that `hear` is short where nothing is reported.
     #[inline(never)]
     fn hear_any(&mut self, column: &[Word; 3])
         requires few { self.old.columns < MOST_COLUMNS }
@@ -286,7 +286,7 @@ impl Hearing {
         self.finished = true;
     }
 
-    /// How many columns were received.
+    /// How many columns were heard.
     pub fn columns(&self) -> u64
         ensures { result ≡ self.now.columns }
     {

@@ -11,7 +11,7 @@ ghost use Rattle.island_pack.specs.Repaired.{packet_of, verdicts_of, packet_in, 
 ghost use Rattle.period_grammar.specs.Island.{Payload, payload, packet_events, closing_events, breaks, if_so, block_fault, packet_faults};
 ghost use Rattle.period_grammar.specs.After.{island_gain, after_payload};
 ghost use Rattle.period_grammar.specs.GoesOn.{goes_on_packet, count_in_island, AreGoingOn};
-ghost use Rattle.period_grammar.specs.Pixels.{is_pixel};
+ghost use Rattle.period_grammar.specs.Balanced.{is_pixel};
 ghost use Rattle.period_grammar.specs.IslandAfter.{IsIslandAfter, IsBlocked, IsPartsAfter, at_some};
 ghost use Rattle.period_grammar.specs.Noted.{events, Lent, lent};
 
@@ -169,7 +169,7 @@ fn tell_close(
     tell_empty(packets == 0, start, notes);
 }
 
-/// Whether a column closes the island, where this many words of the one before are the closing guard's.
+/// Whether a column closes the island, where so many words of the one before are the closing guard's.
 fn is_closed_by(words: u8, column: &[Word; 3]) -> bool
     ensures { result ≡ nat_le 3 (words + closing_words (column_of column.now)) }
 {
@@ -244,7 +244,7 @@ impl Island {
         self.left = Left::Packet;
     }
 
-    /// Receives the first column of a packet or of the closing guard.
+    /// Hears the first column of a packet or of the closing guard.
     fn begin(&mut self, column: &[Word; 3])
         requires none { self.old.within ≡ 0 }
         requires packet { self.old.left ≡ Left.Packet }
@@ -262,7 +262,7 @@ impl Island {
         };
     }
 
-    /// Receives a column, where the island began at column `start`.
+    /// Hears a column, where the island began at column `start`.
     pub fn hear(&mut self, start: u64, column: &[Word; 3], notes: &mut EventQueue)
         requires blocked { IsBlocked self.old }
         requires fits { (start + 2) + (32 * self.old.packets + 2) < 2 ^ 64 }
@@ -312,7 +312,7 @@ impl Island {
         }
     }
 
-    /// Receives columns as long as they go on with the packet that is being received, and answers how many these are. Nothing
+    /// Hears columns as long as they go on with the packet that is being received, and answers how many these are. Nothing
     /// is reported of them.
     pub fn hear_while(&mut self, columns: Columns<'_>) -> usize
         requires blocked { IsBlocked self.old }
@@ -341,7 +341,7 @@ impl Island {
         at
     }
 
-    /// Receives columns of a packet after its first two and before its last, as long as they are no control columns, and
+    /// Hears columns of a packet after its first two and before its last, as long as they are no control columns, and
     /// answers how many these are.
     fn hear_within(&mut self, columns: Columns<'_>) -> usize
         requires blocked { IsBlocked self.old }
@@ -361,7 +361,7 @@ impl Island {
         count
     }
 
-    /// Receives a column that goes on with the packet that is being received, and says whether it does. Of any other it receives
+    /// Hears a column that goes on with the packet that is being received, and says whether it does. Of any other it hears
     /// nothing. The column is no control column.
     pub fn hear_on(&mut self, column: &[Word; 3]) -> bool
         requires blocked { IsBlocked self.old }

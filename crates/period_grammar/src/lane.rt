@@ -1,13 +1,12 @@
 //! The words of one lane of a line, and the first that is wrongly coded.
-ghost use Rattle.std.specs.Prelude.{◌≡◌, ◌<◌, ◌≤◌, ◌+◌, ◌*◌, ◌^◌, ◌++◌, ◌∷◌, [], List, ℕ, length};
+ghost use Rattle.std.specs.Prelude.{◌≡◌, ◌<◌, ◌≤◌, ◌+◌, ◌++◌, ◌∷◌, [], All, List, ℕ, ℤ, Some, length};
 ghost use Rattle.tmds_code.specs.Coding.{decoded_byte};
+ghost use Rattle.tmds_code.specs.Balances.{disparity_at, followed_all};
 ghost use Rattle.island_pack.specs.declared.ranges.TheConstants.{PIXEL_LIMIT};
 ghost use Rattle.period_grammar.specs.Judged.{IsLaneAfter};
 ghost use Rattle.period_grammar.specs.LineSeen.{IsSized};
-ghost use Rattle.period_grammar.specs.Sixteen.{IsHeard, IsStepOf};
 
-use crate::sixteen::LaneFront;
-use tmds_code::CodeJudge;
+use tmds_code::{Balance, CodeJudge};
 use tmds_word::Word;
 
 /// Judges the words of a lane one after another, and keeps the place of the first wrong one.
@@ -29,7 +28,7 @@ impl LaneJudge {
         }
     }
 
-    /// Receives the word of a pixel, and gives its byte.
+    /// Hears the word of a pixel, and gives its byte.
     pub fn hear(&mut self, pixel: u32, word: Word) -> u8
         requires few { pixel < PIXEL_LIMIT }
         requires sized { IsSized self.old pixel }
@@ -44,29 +43,32 @@ impl LaneJudge {
         byte
     }
 
-    /// The step from which words that follow are judged.
-    #[inline(always)]
-    pub fn step(&self) -> u8
-        ensures within { result ≤ 8 }
-        ensures step { IsStepOf self.now.judge.disparity result }
+    /// Hears the words from a pixel on at once, which were followed to a balance.
+    pub fn hear_followed(&mut self, pixel: u32, words: &[u16], balance: Balance)
+        requires few { pixel + length words.now ≤ PIXEL_LIMIT }
+        requires sized { IsSized self.old pixel }
+        requires words { All (λ w. w < 1024) words.now }
+        requires followed { (d : ℤ) → disparity_at balance ≡ Some d → followed_all (Some self.old.judge.disparity) words.now ≡ Some d }
+        ensures sized { IsSized self.new (pixel + length words.now) }
+        ensures heard { (ws : List ℕ) → IsLaneAfter self.old ws → IsLaneAfter self.new (ws ++ words.now) }
     {
-        self.judge.step()
+        if balance.is_right() {
+            self.judge.hear_right(words.len() as u16, balance);
+        } else {
+            self.hear_each(pixel, words);
+        }
     }
 
-    /// Receives the words from a pixel on at once, by what was judged of them from this lane's step.
-    #[inline(always)]
-    pub fn hear_front(&mut self, pixel: u32, count: usize, front: LaneFront)
-        requires few { pixel + count ≤ PIXEL_LIMIT }
+    /// Hears the words from a pixel on, one by one.
+    fn hear_each(&mut self, pixel: u32, words: &[u16])
+        requires few { pixel + length words.now ≤ PIXEL_LIMIT }
         requires sized { IsSized self.old pixel }
-        requires count { count ≤ 16 }
-        requires wrong { front.wrong < 2 ^ count }
-        requires ones { front.ones ≤ 10 * count }
-        ensures sized { IsSized self.new (pixel + count) }
-        ensures heard { (ws vs : List ℕ) (step : ℕ) → IsLaneAfter self.old ws → length vs ≡ count → IsStepOf self.old.judge.disparity step → IsHeard step vs front → IsLaneAfter self.new (ws ++ vs) }
+        requires words { All (λ w. w < 1024) words.now }
+        ensures sized { IsSized self.new (pixel + length words.now) }
+        ensures heard { (ws : List ℕ) → IsLaneAfter self.old ws → IsLaneAfter self.new (ws ++ words.now) }
     {
-        self.judge.hear_counted(count as u16, u16::from(front.ones));
-        if self.first.is_none() && front.wrong != 0 {
-            self.first = Some(pixel + front.wrong.trailing_zeros());
+        for i in 0..words.len() {
+            self.hear(pixel + i as u32, Word::of(words[i]));
         }
     }
 }

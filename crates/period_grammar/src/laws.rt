@@ -1,4 +1,4 @@
-//! What holds of everything that is reported. The functions have no code: their contracts are the laws.
+//! What holds of everything that is reported. The functions do nothing: what they ensure are the laws.
 ghost use Rattle.period_grammar.specs.Gains.{PushLaw, EndLaw, LinkIsOne};
 ghost use Rattle.period_grammar.specs.Sizes.{Sizes, ValueBelow};
 ghost use Rattle.period_grammar.specs.Before.{ReportedBefore};
@@ -24,7 +24,7 @@ pub fn end_law()
     ensures { EndLaw }
 {}
 
-/// What is reported of a link is what its rule reports.
+/// What is heard of a link is what its rule reports.
 pub fn link_is_one()
     ensures { LinkIsOne }
 {}

@@ -3,7 +3,7 @@ ghost use Rattle.std.specs.Prelude.{◌≡◌, ◌<◌, ◌≤◌, ◌+◌, ◌^
 ghost use Rattle.std.specs.List.{prefix_len};
 ghost use Rattle.tmds_word.specs.Column.{Column, column_of};
 ghost use Rattle.tmds_word.specs.Lent.{columns_in};
-ghost use Rattle.period_grammar.specs.Pixels.{is_pixel};
+ghost use Rattle.period_grammar.specs.Balanced.{is_pixel};
 ghost use Rattle.period_grammar.specs.Heard.{line_of, line_at, code_fault};
 ghost use Rattle.period_grammar.specs.Lines.{IsLineAfter};
 ghost use Rattle.period_grammar.specs.Noted.{events, Lent, lent};
@@ -12,9 +12,9 @@ ghost use Rattle.period_grammar.specs.declared.island.WholePacket.{WholePacket};
 use crate::column;
 use crate::event::Fault;
 use crate::event_queue::{EventQueue, QueuedEvent};
+use crate::followed::{Balances, GROUP};
 use crate::held::Bytes;
 use crate::lane::LaneJudge;
-use crate::sixteen::{SIXTEEN, Steps};
 use island_pack::PIXEL_LIMIT;
 use std::marker::Model;
 use terc4::is_control_column;
@@ -65,7 +65,7 @@ impl Line {
         self.red = LaneJudge::new();
     }
 
-    /// Receives one pixel column.
+    /// Hears one pixel column.
     pub fn hear(&mut self, column: &[Word; 3])
         requires { self.old.count + 1 < 2 ^ 64 }
         ensures count { self.new.count ≡ self.old.count + 1 }
@@ -83,7 +83,7 @@ impl Line {
         self.count += 1;
     }
 
-    /// Receives columns as long as they are no control columns, and answers how many these are.
+    /// Hears columns as long as they are no control columns, and answers how many these are.
     pub fn hear_while(&mut self, columns: Columns<'_>) -> usize
         requires few { self.old.count + length (columns_in columns) ≤ MOST_COLUMNS }
         ensures within { result ≤ length (columns_in columns.entry) }
@@ -91,56 +91,48 @@ impl Line {
         ensures count { self.new.count ≡ self.old.count + result }
         ensures heard { (pixels : List Column) → IsLineAfter self.old pixels → IsLineAfter self.new (pixels ++ take result (columns_in columns.entry)) }
     {
-        let front = self.hear_sixteens(columns);
-        front + self.hear_each(columns.from(front))
+        let mut at = 0;
+        while at < columns.len() {
+            at += self.hear_groups(columns.from(at));
+            let end = columns.len().min(at + GROUP);
+            let more = self.hear_each(columns.from(at).first(end - at));
+            if more < end - at {
+                return at + more;
+            }
+            at = end;
+        }
+        at
     }
 
-    /// Receives columns, sixteen at a time, as long as they are no control columns. Answers how many these are: less than
-    /// sixteen may be left, or there is no room for sixteen more.
-    fn hear_sixteens(&mut self, columns: Columns<'_>) -> usize
+    /// Hears columns, group after group, as long as two lanes are rightly coded, and answers how many these are.
+    fn hear_groups(&mut self, columns: Columns<'_>) -> usize
         ensures within { result ≤ length (columns_in columns.entry) }
         ensures pixels { All (λ c. is_pixel c ≡ true) (take result (columns_in columns.entry)) }
         ensures count { self.new.count ≡ self.old.count + result }
         ensures heard { (pixels : List Column) → IsLineAfter self.old pixels → IsLineAfter self.new (pixels ++ take result (columns_in columns.entry)) }
     {
-        let room = u64::from(PIXEL_LIMIT).saturating_sub(self.count);
-        let fits = columns.len().min(room as usize);
-        let mut at = 0;
-        while at + SIXTEEN <= fits {
-            let count = self.hear_sixteen(columns.from(at).first(SIXTEEN));
-            at += count;
-            if count < SIXTEEN {
-                return at;
-            }
-        }
-        at
-    }
-
-    /// Receives the columns before the first control column of sixteen, and answers how many these are.
-    #[inline(always)]
-    fn hear_sixteen(&mut self, columns: Columns<'_>) -> usize
-        requires sixteen { length (columns_in columns) ≡ 16 }
-        requires room { self.old.count + 16 ≤ PIXEL_LIMIT }
-        ensures within { result ≤ 16 }
-        ensures pixels { result ≡ prefix_len is_pixel (columns_in columns.entry) }
-        ensures count { self.new.count ≡ self.old.count + result }
-        ensures heard { (pixels : List Column) → IsLineAfter self.old pixels → IsLineAfter self.new (pixels ++ take result (columns_in columns.entry)) }
-    {
-        let steps = Steps {
-            blue: self.blue.step(),
-            green: self.green.step(),
-            red: self.red.step(),
+        let pixel = self.count;
+        let from = Balances {
+            blue: self.blue.judge.balance(),
+            green: self.green.judge.balance(),
+            red: self.red.judge.balance(),
         };
-        let front = self.bytes.push_sixteen(columns, steps);
-        let pixel = self.count as u32;
-        self.blue.hear_front(pixel, front.count, front.blue);
-        self.green.hear_front(pixel, front.count, front.green);
-        self.red.hear_front(pixel, front.count, front.red);
-        self.count += front.count as u64;
-        front.count
+        if pixel >= u64::from(PIXEL_LIMIT) || !from.are_enough() {
+            return 0;
+        }
+        let fits = columns.len().min(PIXEL_LIMIT as usize - pixel as usize);
+        let (n, balances) = self.bytes.push_groups(columns.first(fits), &from);
+        let heard = columns.first(n);
+        let first = pixel as u32;
+        self.blue.hear_followed(first, heard.blue(), balances.blue);
+        self.green
+            .hear_followed(first, heard.green(), balances.green);
+        self.red.hear_followed(first, heard.red(), balances.red);
+        self.count = pixel + n as u64;
+        n
     }
 
-    /// Receives columns one by one as long as they are no control columns, and answers how many these are.
+    /// Hears columns one by one as long as they are no control columns, and answers how many these are.
     fn hear_each(&mut self, columns: Columns<'_>) -> usize
         requires few { self.old.count + length (columns_in columns) ≤ MOST_COLUMNS }
         ensures within { result ≤ length (columns_in columns.entry) }

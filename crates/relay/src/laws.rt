@@ -1,4 +1,4 @@
-//! Laws of what a relay makes. The functions have no code: their contracts are the laws.
+//! What holds of what a relay makes. The functions do nothing: what they ensure are the laws.
 
 ghost use Rattle.relay.specs.Laws.{RelayedConforms, ColumnsGrow, Gained};
 ghost use Rattle.relay.specs.Received.{RelayedAccount};
@@ -19,7 +19,7 @@ pub fn columns_grow()
     ensures { ColumnsGrow }
 {}
 
-/// What events add depends only on what was gathered and on the island that goes on.
+/// What events add depends on what was gathered and on the island that goes on alone.
 pub fn gained()
     ensures { Gained }
 {}
@@ -29,7 +29,7 @@ pub fn relayed_account()
     ensures { RelayedAccount }
 {}
 
-/// A line or an island is sent on if its row is reported, whatever is reported before and after it.
+/// A line or an island of which the row is reported is sent on, whatever is reported before and after it.
 pub fn alone_relayed()
     ensures line { LineRelayed }
     ensures island { IslandRelayed }
@@ -65,7 +65,7 @@ pub fn parts_gather()
     ensures { PartsGather }
 {}
 
-/// The periods of a relay take no more than 20,000,000 columns.
+/// What a relay stands for takes no more than 20,000,000 columns.
 pub fn stands_for_few()
     ensures { RepresentsFew }
 {}

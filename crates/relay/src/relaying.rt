@@ -69,11 +69,11 @@ pub struct Relay {
     pub(crate) faulty: bool,
     /// Why it failed.
     pub(crate) trouble: Option<RelayFault>,
-    /// How often it failed. The count stops at the greatest u64.
+    /// How often it failed. The count stands still at the greatest u64.
     pub(crate) faults: u64,
 }
 
-/// Whether settled columns, a control period of this many, and this many more pass `COLUMN_LIMIT`.
+/// Whether settled columns, a control period of so many, and so many more pass `COLUMN_LIMIT`.
 fn is_long(columns: u32, period: u64, more: u32) -> bool
     requires { period < 2 ^ 33 }
     ensures { result ≡ nat_lt COLUMN_LIMIT (columns + max 12 period + more) }
@@ -318,7 +318,7 @@ impl Ear for Relay {
 
     ghost faults = { λ r. r.faults };
 
-    // The relay represents each list that it represented before, followed by these events.
+    // It stands for each list that it stood for, and these events after it.
     ghost took = { Took };
 
     // The columns of events are made nothing of.

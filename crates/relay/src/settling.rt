@@ -32,7 +32,7 @@ pub(crate) fn at_least_twelve(columns: u32) -> u32
     columns.max(RUN)
 }
 
-/// Hands on columns of one value. The first `left` stay as they are. Says how many more do.
+/// Hands on columns of one value, of which the first `left` stay as they are, and says how many more do.
 fn hand_on(run: Run, left: u32, ctl: u8, out: &mut Gathering) -> Result<u32, NoMemory>
     requires { ctl < 16 }
     ensures taken { OnOk result (Took out.old out.new (some_changed ctl left run.value run.count)) }
@@ -54,7 +54,7 @@ fn first_value(runs: &[Run]) -> u8
     }
 }
 
-/// Hands on runs. Their first `left` columns stay as they are.
+/// Hands on runs, of whose columns the first `left` stay as they are.
 fn hand_on_all(runs: &[Run], left: u32, ctl: u8, out: &mut Gathering) -> Result<(), NoMemory>
     requires { ctl < 16 }
     ensures { OnOk result (Took out.old out.new (changed_from ctl left (values_of runs.now))) }
@@ -66,7 +66,7 @@ fn hand_on_all(runs: &[Run], left: u32, ctl: u8, out: &mut Gathering) -> Result<
     Ok(())
 }
 
-/// Hands on a control period of this many columns: at least twelve, the last `changed` of them with the control bits.
+/// Hands on a control period of so many columns: at least twelve, the last `changed` of them with the control bits.
 pub(crate) fn settle(
     period: OpenRuns,
     columns: u32,

@@ -77,7 +77,7 @@ ends =
 unfoldable pub nineteen_at : List Bool → ℕ → Bool
 nineteen_at xs e = passes_below 19 (λ k. has (window xs (e - 190 + 10 * k)))
 
-pub from_has : (xs : List Bool) (p : ℕ) (o : Option ℕ) → window xs p ≡ o → has o ≡ true → HasControl xs p
+from_has : (xs : List Bool) (p : ℕ) (o : Option ℕ) → window xs p ≡ o → has o ≡ true → HasControl xs p
 unfolding has
 from_has xs p o h k = grind arith
 

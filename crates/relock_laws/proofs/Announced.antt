@@ -134,7 +134,7 @@ whole_as_sent _ _ g h (of_island u v lu lv) none same =
     last_two (nat_le 3 (video_words g)) (nat_le 3 (video_words h)) (nat_le 3 (island_words g)) (nat_le 3 (island_words h))
     (le-leb 3 (island_words g) (omega arith)) (le-leb 3 (island_words h) (omega arith))
 
-pub self_unlike : (s : Column) → unlike s s ≡ 0
+self_unlike : (s : Column) → unlike s s ≡ 0
 unfolding unlike_words one_if
 self_unlike s = grind (arith, eq-eqb)
 

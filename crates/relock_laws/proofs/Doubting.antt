@@ -1,18 +1,21 @@
--- A control period that is received whole: an earlier alignment with another skew is doubted there.
-use Rattle.std.proofs.Common.{◌≡◌, ℕ, ◌+◌, ◌-◌, ◌*◌, ◌/◌, ◌<◌, ◌≤◌, Bool, true, false, List, Option, Some, ap, ◌∙◌, sym, subst, arith, inl, inr, true≢false}
+-- At the second of two good control periods in a row of one skew an earlier alignment with another one is doubted: no three edges lie
+-- between them.
+use Rattle.std.proofs.Common.{◌≡◌, ◌⊎◌, ℕ, ◌+◌, ◌-◌, ◌*◌, ◌/◌, ◌<◌, ◌≤◌, max, Bool, List, ap, ◌∙◌, sym, arith, inl, inr, true≢false}
 use Rattle.std.proofs.lemmas.Bool.{cases_lt}
 use Rattle.tmds_word.specs.Bits.{window}
-use Rattle.terc4.specs.Tables.{is_control}
-use Rattle.lane_align.specs.Lanes.{HasControl, IsEdge}
-use Rattle.lane_align.proofs.Controls.{one_lock}
-use Rattle.lane_align.proofs.Edges.{control_no_edge}
-use Rattle.lane_edges.specs.Begins.{IsBeginOf}
+use Rattle.lane_align.specs.Lanes.{IsEdge}
+use Rattle.lane_deskew.specs.Triples.{IsTriple}
+use Rattle.link_sink.specs.Sinks.{Fed}
 use Rattle.relock_laws.specs.Settled.{EndsNineteen}
 use Rattle.relock_laws.specs.Refuted.{GoesOn}
-use Rattle.relock_laws.specs.Doubted.{IsWholeRun, DoubtsAtWhole}
+use Rattle.relock_laws.specs.Doubted.{EndsRun, IsQuiet, AreTwoPeriods, DoubtsAtSecond}
 use Rattle.relock_laws.proofs.Refuting.{whole_apart, contends}
 
 -- One lane.
+
+-- control words end at an edge
+pub run_of_edge : (xs : List Bool) (e : ℕ) → IsEdge xs e → EndsRun xs e
+run_of_edge xs e edge = let past = edge.past in record { begins = omega arith; run = edge.run; word = edge.word; here = edge.here; no_control = edge.no_control }
 
 -- none do shortly after it where no control words follow
 pub no_edge_after : (xs : List Bool) (i b : ℕ) → IsEdge xs i → GoesOn xs i → IsEdge xs b → i < b → b ≤ i + 140 → ⊥
@@ -24,100 +27,111 @@ no_edge_after xs i b own on edge later near =
     let at : i + 10 * k ≡ b - 120 + 10 * 11 = omega arith in
     true≢false (sym last.control ∙ on.payload k last.word (omega arith) (ap (window xs) at ∙ last.here))
 
-not_both : (o : Option ℕ) (v w : ℕ) → o ≡ Some v → o ≡ Some w → is_control v ≡ true → is_control w ≡ false → ⊥
-not_both o v w here there is apart = cc
-
--- near the end of a good control period after which no control words follow there is no other edge
-pub near_edge : (xs : List Bool) (i b : ℕ) → IsEdge xs i → EndsNineteen xs i → GoesOn xs i → IsEdge xs b → i ≤ b + 140 → b ≤ i + 140 → b ≡ i
-near_edge xs i b own good on edge low high = elim (cases_lt i b) [
-  | inl later ↦ absurd (no_edge_after xs i b own on edge later high)
-  | inr upto ↦ elim (cases_lt b i) [
-    | inr not ↦ omega arith
-    | inl early ↦
-        let same = whole_apart xs b i edge own in
-        let begins = good.begins in
-        let k = (b + 190 - i) / 10 in
-        let at : i - 190 + 10 * k ≡ b = omega arith in
-        let c = good.controls k (omega arith) in
-        absurd (not_both (window xs b) c.word edge.word (subst (λ p. window xs p ≡ Some c.word) at c.here) edge.here c.control edge.no_control)
+-- after the first of two ends there is no edge until the second, nor one shortly after that
+one_edge : (xs : List Bool) (d i b : ℕ) → IsQuiet xs d i → IsEdge xs i → GoesOn xs i → IsEdge xs b → d < b → b ≤ i + 140 → b ≡ i
+one_edge xs d i b quiet own on edge after near = elim (cases_lt b i) [
+  | inl between ↦ absurd (quiet b after between (run_of_edge xs b edge))
+  | inr past ↦ elim (cases_lt i b) [
+    | inr upto ↦ omega arith
+    | inl later ↦ absurd (no_edge_after xs i b own on edge later near)
   ]
 ]
 
--- An earlier edge.
+-- the nineteen control words before the second come after the first
+far_apart : (xs : List Bool) (d i : ℕ) → IsEdge xs d → IsEdge xs i → EndsNineteen xs i → GoesOn xs d → d < i → d + 190 < i
+far_apart xs d i first second good on lt = elim (cases_lt (d + 190) i) [
+  | inl far ↦ far
+  | inr near ↦
+      let same = whole_apart xs d i first second in
+      let begins = good.begins in
+      let k = (d + 190 - i) / 10 in
+      let at : d + 10 * 0 ≡ i - 190 + 10 * k = omega arith in
+      let c = good.controls k (omega arith) in
+      absurd (true≢false (sym c.control ∙ on.payload 0 c.word (omega arith) (ap (window xs) at ∙ c.here)))
+]
 
--- what comes before an edge, as far as there are characters: so many control characters, and three others before them
-pub record IsRunHere (xs : List Bool) (d n : ℕ) : Type 0 where
-  pub controls : (k : ℕ) → k < n → 10 * k + 10 ≤ d → HasControl xs (d - 10 - 10 * k)
-  pub others : (k : ℕ) → k < 3 → 10 * n + 10 + 10 * k ≤ d → HasControl xs (d - 10 * n - 10 - 10 * k) → ⊥
+-- Three lanes.
 
--- an earlier edge lies before all of these
-pub own_early : (xs : List Bool) (p d n : ℕ) → IsEdge xs p → IsEdge xs d → p < d → IsRunHere xs d n → p + 10 * n + 30 ≤ d
-own_early xs p d n own edge later run =
-    let same = whole_apart xs p d own edge in
-    let past = own.past in
-    let m = (d - p) / 10 in
-    let last : HasControl xs (p - 10) = let at : p - 120 + 10 * 11 ≡ p - 10 = omega arith in subst (HasControl xs) at (own.run 11 (omega arith)) in
-    elim (cases_lt n m) [
-      | inr inside ↦
-          let at : d - 10 - 10 * (m - 1) ≡ p = omega arith in
-          absurd (control_no_edge xs p (subst (HasControl xs) at (run.controls (m - 1) (omega arith) (omega arith))) own)
-      | inl before ↦ elim (cases_lt (n + 2) m) [
-        | inl far ↦ omega arith
-        | inr near ↦
-            let k = m - n in
-            let at : p - 10 ≡ d - 10 * n - 10 - 10 * k = omega arith in
-            absurd (run.others k (omega arith) (omega arith) (subst (HasControl xs) at last))
+greatest_is : (b g r : ℕ) → (max b (max g r) ≡ b) ⊎ ((max b (max g r) ≡ g) ⊎ (max b (max g r) ≡ r))
+greatest_is b g r = elim (cases_lt b (max g r)) [
+  | inr first ↦ inl (omega arith)
+  | inl less ↦ elim (cases_lt g r) [
+    | inr second ↦ inr (inl (omega arith))
+    | inl third ↦ inr (inr (omega arith))
+  ]
+]
+
+-- no three edges near each other lie between the two
+none_between : (fed : Fed) (d e f i j k : ℕ) → AreTwoPeriods fed d e f i j k → (b g r : ℕ) → IsTriple fed.blue fed.green fed.red b g r
+    → max d (max e f) < max b (max g r) → max b (max g r) < max i (max j k) → ⊥
+none_between fed d e f i j k two b g r t after before =
+    let s = two.second.triple in
+    let far = far_apart fed.blue d i two.first.triple.blue s.blue two.second.blue two.first.blue_on two.later in
+    let same0 = two.same_skew.0 in
+    let same1 = two.same_skew.1 in
+    let bg = t.blue_green in
+    let gr = t.green_red in
+    let br = t.blue_red in
+    let ij = s.blue_green in
+    let jk = s.green_red in
+    let ik = s.blue_red in
+    let bg0 = bg.0 in
+    let bg1 = bg.1 in
+    let gr0 = gr.0 in
+    let gr1 = gr.1 in
+    let br0 = br.0 in
+    let br1 = br.1 in
+    let ij0 = ij.0 in
+    let ij1 = ij.1 in
+    let jk0 = jk.0 in
+    let jk1 = jk.1 in
+    let ik0 = ik.0 in
+    let ik1 = ik.1 in
+    let blue : d < b → b ≤ i + 140 → b ≡ i = one_edge fed.blue d i b two.blue_quiet s.blue two.second.blue_on t.blue in
+    let green : e < g → g ≤ j + 140 → g ≡ j = one_edge fed.green e j g two.green_quiet s.green two.second.green_on t.green in
+    let red : f < r → r ≤ k + 140 → r ≡ k = one_edge fed.red f k r two.red_quiet s.red two.second.red_on t.red in
+    elim (greatest_is b g r) [
+      | inl at ↦
+          let x = blue (omega arith) (omega arith) in
+          let y = green (omega arith) (omega arith) in
+          let z = red (omega arith) (omega arith) in
+          omega arith
+      | inr other ↦ elim other [
+        | inl at ↦
+            let y = green (omega arith) (omega arith) in
+            let x = blue (omega arith) (omega arith) in
+            let z = red (omega arith) (omega arith) in
+            omega arith
+        | inr at ↦
+            let z = red (omega arith) (omega arith) in
+            let x = blue (omega arith) (omega arith) in
+            let y = green (omega arith) (omega arith) in
+            omega arith
       ]
     ]
 
-pub run_here : (xs : List Bool) (d n : ℕ) → IsWholeRun xs d n → IsRunHere xs d n
-run_here xs d n run = record { controls = λ k lt long. run.controls k lt; others = λ k lt long. run.others k lt }
-
--- the period begins so many characters before its edge
-begins_there : (xs : List Bool) (p d n : ℕ) → IsEdge xs p → IsEdge xs d → p < d → IsWholeRun xs d n → IsBeginOf xs d (d - 10 * n)
-begins_there xs p d n own edge later run =
-    let early = own_early xs p d n own edge later (run_here xs d n run) in
-    let same = whole_apart xs p d own edge in
-    let past = own.past in
-    let aligned = own.aligned in
-    let long = run.begins in
-    let some : 0 < n = elim (cases_lt 0 n) [
-      | inl some ↦ some
-      | inr none ↦
-          let at : d - 120 + 10 * 11 ≡ d - 10 * n - 10 - 10 * 0 = omega arith in
-          absurd (run.others 0 (omega arith) (subst (HasControl xs) at (edge.run 11 (omega arith))))
-    ] in
+pub doubts_at_second : DoubtsAtSecond
+doubts_at_second fed p q r d e f i j k own two x y z other =
+    let same0 = two.same_skew.0 in
+    let same1 = two.same_skew.1 in
+    let later = two.later in
     record {
-      begins = record {
-        lock = own.lock;
-        is_lock = own.is_lock;
-        past = omega arith;
-        aligned = omega arith;
-        control = let at : d - 10 - 10 * (n - 1) ≡ d - 10 * n = omega arith in subst (HasControl xs) at (run.controls (n - 1) (omega arith));
-        others = run.others;
+      contender = contends fed p q r i j k own two.second (omega arith) (omega arith) (omega arith) (λ same.
+          let a = same.0 in let b = same.1 in other (omega arith, omega arith));
+      blue = d;
+      green = e;
+      red = f;
+      earlier = contends fed p q r d e f own two.first x y z other;
+      row = record {
+        before = omega arith;
+        unopposed = λ b g v is lt. upto b g v is.later.triple lt;
+        unupheld = λ b g v is lt. upto b g v is.later.triple lt;
       };
-      before = omega arith;
-      last = λ r b less. elim (cases_lt (d - 10 * n) r) [
-        | inr not ↦ not
-        | inl past ↦
-            let one = one_lock xs b.lock own.lock b.is_lock own.is_lock in
-            let there = b.aligned in
-            let k = (d - r) / 10 in
-            let at : d - 10 - 10 * k ≡ r - 10 - 10 * 0 = omega arith in
-            absurd (b.others 0 (omega arith) (subst (HasControl xs) at (run.controls k (omega arith))))
-      ];
+      same_skew = two.same_skew;
     }
-
-pub doubts_at_whole : DoubtsAtWhole
-doubts_at_whole fed p q r d e f n own w x y z other =
-    let t = own.first.triple in
-    let u = w.period.triple in
-    record {
-      contender = contends fed p q r d e f own w.period x y z other;
-      begins = record {
-        bits = 10 * n;
-        blue = begins_there fed.blue p d n t.blue u.blue x w.blue;
-        green = begins_there fed.green q e n t.green u.green y w.green;
-        red = begins_there fed.red r f n t.red u.red z w.red;
-      };
-    }
+  where
+    upto : (b g v : ℕ) → IsTriple fed.blue fed.green fed.red b g v → max b (max g v) < max i (max j k) → max b (max g v) ≤ max d (max e f)
+    upto b g v t lt = elim (cases_lt (max d (max e f)) (max b (max g v))) [
+      | inl after ↦ absurd (none_between fed d e f i j k two b g v t after lt)
+      | inr not ↦ not
+    ]

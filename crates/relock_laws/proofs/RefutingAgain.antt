@@ -1,12 +1,11 @@
 -- A tap after any bits: the epoch that has the skew of a good control period of it is let go for no edges, neither earlier nor later ones.
-use Rattle.std.proofs.Common.{◌≡◌, ◌⊎◌, ℕ, ◌+◌, ◌-◌, ◌*◌, ◌/◌, ◌<◌, ◌≤◌, Bool, List, length, drop, get_or, ◌∙◌, subst, arith, inl, inr, Some, length-drop}
+use Rattle.std.proofs.Common.{◌≡◌, ◌⊎◌, ℕ, ◌+◌, ◌-◌, ◌*◌, ◌/◌, ◌<◌, ◌≤◌, max, Bool, List, length, drop, get_or, ◌∙◌, subst, arith, inl, inr, Some, length-drop}
 use Rattle.std.specs.Prelude.{slice_index}
 use Rattle.std.proofs.lemmas.Bool.{cases_lt}
 use Rattle.tmds_word.specs.Bits.{window}
 use Rattle.tmds_word.specs.Column.{Column, blues, greens, reds}
 use Rattle.tmds_word.specs.Taps.{part_of}
 use Rattle.lane_align.specs.Lanes.{IsEdge}
-use Rattle.lane_align.proofs.Edges.{edges_apart}
 use Rattle.lane_deskew.specs.Triples.{IsTriple, IsFirst}
 use Rattle.lane_deskew.proofs.First.{one_first}
 use Rattle.island_pack.specs.Periods.{Period}
@@ -16,26 +15,26 @@ use Rattle.link_sink.specs.Sinks.{Fed}
 use Rattle.track_sink.specs.Epochs.{rest_of}
 use Rattle.track_sink.specs.declared.watch.Cause.TheVariants.{Slip}
 use Rattle.relock_sink.specs.Bands.{OpensNothing, unopened_kept}
-use Rattle.relock_sink.specs.Rivals.{HaveSameSkew, IsRefuted, middle, columns_before}
-use Rattle.relock_sink.specs.Doubts.{IsDoubted, IsLetGo}
+use Rattle.relock_sink.specs.Rivals.{HaveSameSkew, IsConfirmed, IsRefuted, middle, columns_before}
+use Rattle.relock_sink.specs.Doubts.{IsContender, IsUpheld, AreInRow, IsDoubted, IsLetGo}
 use Rattle.relock_sink.specs.RefutedDecided.{later_of}
 use Rattle.relock_sink.specs.Refuting.{refuting_rule}
 use Rattle.relock_laws.specs.Settled.{IsAgain, IsGoodPeriod}
-use Rattle.relock_laws.specs.Refuted.{GoesOn}
+use Rattle.relock_laws.specs.Refuted.{GoesOn, IsWholePeriod}
 use Rattle.relock_laws.specs.RefutingSettled.{IsWholeGoodPeriod, IsSettledBy, SameSkewIsLast, RecoversUnrefuted}
-use Rattle.relock_laws.specs.Doubted.{EachIsSpared}
+use Rattle.relock_laws.specs.Doubted.{OneOfTwoIsSpared}
 use Rattle.relock_laws.proofs.Again.{accounted, accounted_there, calm_again, long_lane}
 use Rattle.relock_laws.proofs.Ending.{none_unconfirmed}
 use Rattle.relock_laws.proofs.Doubting.{no_edge_after}
 use Rattle.relock_laws.proofs.GoodPeriod.{HasLast, earlier_edge}
-use Rattle.relock_laws.proofs.Refuting.{whole_apart}
+use Rattle.relock_laws.proofs.Refuting.{whole_apart, later_period}
 use Rattle.relock_laws.proofs.RefutingEnding.{let_go_leaves}
 use Rattle.relock_laws.proofs.RefutingSettling.{EndsLateBy, late_by, rest_period, settles_unrefuted, settled_has_skew, settled_no_stray}
 use Rattle.relock_laws.proofs.Settling.{least_of, HaveLast, have_last, triple_at}
 use Rattle.relock_laws.proofs.Seen.{part_word}
 use Rattle.relock_laws.proofs.Spared.{IsLaneFrom}
 use Rattle.relock_laws.proofs.Standing.{columns_open}
-use Rattle.relock_laws.proofs.Undoubted.{AreAfter, later_undoubted}
+use Rattle.relock_laws.proofs.Undoubted.{AreAfter, enough_before, later_undoubted}
 use Rattle.relock_laws.proofs.Unrefuted.{last_unrefuted}
 use Rattle.relock_laws.proofs.Upholding.{AreFrom}
 use Rattle.relock_laws.proofs.Windows.{column_moved, rest_window, back_window}
@@ -164,37 +163,36 @@ columns_again ps sent received offset skews counts x fed before a d e f z p q r 
           (characters (λ l. l.red) received (λ k lt. (h.characters k lt).red)) tapped.red_part.bits_are again.red_after (omega arith) again.red_whole v vn;
     }
 
--- it is doubted for no later edges where it is aligned there, or the guard band there is received whole
-not_doubted_later : (ps : List Period) (sent received : List Column) (offset : ℕ) (skews counts : List ℕ) (x fed : Fed) (before : List ℕ) (a d e f z p q r : ℕ)
-    → IsAgain ps sent received offset skews counts x fed before a d e f → (z + p ≡ d) ⊎ IsWholeGoodPeriod fed d e f → EachIsSpared ps sent received (a + 12)
-    → HaveLast fed d e f z → z + p ≤ d → z + q ≤ e → z + r ≤ f → HaveSameSkew p q r d e f
-    → (i j k : ℕ) → IsDoubted (rest_of z fed) p q r i j k → d ≤ z + i → e ≤ z + j → f ≤ z + k → ⊥
-not_doubted_later ps sent received offset skews counts x fed before a d e f z p q r again good each_is_spared h pb pg pr same i j k is lb lg lv =
-    let own = triple_at fed d e f z again.good h in
-    let t = is.contender.later.own.first.triple in
-    let u = is.contender.later.triple in
-    let past_b = t.blue.past in
-    let past_g = t.green.past in
-    let past_r = t.red.past in
-    let after_b = own.blue.past in
-    let even = whole_apart (drop z fed.blue) p (d - z) t.blue own.blue in
-    let bi = whole_apart (drop z fed.blue) p i t.blue u.blue in
-    let gi = whole_apart (drop z fed.green) q j t.green u.green in
-    let vi = whole_apart (drop z fed.red) r k t.red u.red in
-    let same0 = same.0 in
-    let same1 = same.1 in
-    let n = (d - z - p) / 10 in
-    let bn : z + p + 10 * n ≡ d = omega arith in
-    let gn : z + q + 10 * n ≡ e = omega arith in
-    let vn : z + r + 10 * n ≡ f = omega arith in
-    let are = columns_again ps sent received offset skews counts x fed before a d e f z p q r n again (omega arith) (omega arith) (omega arith) bn gn vn in
-    let past = past_all in
-    let x = past.0 in
-    let y = past.1 in
-    let v = past.2 in
-    let after : AreAfter p q r n i j k = record { blue = omega arith; green = omega arith; red = omega arith } in
-    let more = more_before ((i - p) / 10) ((j - q) / 10) ((k - r) / 10) (n + 1) (omega arith) (omega arith) (omega arith) in
-    later_undoubted ps sent received (free_received ps sent received again.reception.reception) (rest_of z fed) p q r n a are (a + 12) each_is_spared again.ends i j k is after (omega arith) (omega arith)
+-- an alignment with the skew of the good control period is upheld there
+upheld_there : (fed : Fed) (p q r d e f : ℕ) → IsConfirmed fed p q r → IsWholePeriod fed d e f → HaveSameSkew p q r d e f → p < d → q < e → r < f → IsUpheld fed p q r d e f
+upheld_there fed p q r d e f own period same b g v = record { later = later_period fed p q r d e f own period b g v; own_skew = same }
+
+-- so a contender before it is not in a row with one after it
+not_over : (fed : Fed) (p q r d e f b g v i j k : ℕ) → IsWholePeriod fed d e f → HaveSameSkew p q r d e f → IsContender fed p q r b g v → IsContender fed p q r i j k
+    → AreInRow fed p q r (max b (max g v)) (max i (max j k)) → b < d → g < e → v < f → d ≤ i → e ≤ j → f ≤ k → ⊥
+not_over fed p q r d e f b g v i j k period same early is row eb eg ev lb lg lv =
+    let own = early.later in
+    let pb = own.blue_later in
+    let pg = own.green_later in
+    let pr = own.red_later in
+    let t = period.triple in
+    let u = is.later.triple in
+    let near = close fed d e f t in
+    let de = near.blue_green in
+    let ed = near.green_blue in
+    let df = near.blue_red in
+    let fd = near.red_blue in
+    let upheld = upheld_there fed p q r d e f own.own period same (omega arith) (omega arith) (omega arith) in
+    elim (cases_lt (max d (max e f)) (max i (max j k))) [
+      | inl less ↦ let none = row.unupheld d e f upheld less in omega arith
+      | inr not ↦
+          let x = there fed.blue d i t.blue period.blue_on u.blue lb (omega arith) in
+          let y = there fed.green e j t.green period.green_on u.green lg (omega arith) in
+          let w = there fed.red f k t.red period.red_on u.red lv (omega arith) in
+          let same0 = same.0 in
+          let same1 = same.1 in
+          is.other_skew (omega arith, omega arith)
+    ]
   where
     there : (xs : List Bool) (d i : ℕ) → IsEdge xs d → GoesOn xs d → IsEdge xs i → d ≤ i → i ≤ d + 140 → d ≡ i
     there xs d i own on edge le near = elim (cases_lt d i) [
@@ -202,53 +200,46 @@ not_doubted_later ps sent received offset skews counts x fed before a d e f z p 
       | inr upto ↦ omega arith
     ]
 
-    -- all three lie past the good control period
-    past_there : z + p ≡ d → (d < z + i) × (e < z + j) × (f < z + k)
-    past_there at =
-        let x = is.contender.later.blue_later in
-        let y = is.contender.later.green_later in
-        let v = is.contender.later.red_later in
-        let same0 = same.0 in
-        let same1 = same.1 in
-        (omega arith, omega arith, omega arith)
-
-    past_whole : IsWholeGoodPeriod fed d e f → z + p < d → (d < z + i) × (e < z + j) × (f < z + k)
-    past_whole w before =
-        let own = triple_at fed d e f z again.good h in
-        let far = edges_apart (drop z fed.blue) p (d - z) is.contender.later.own.first.triple.blue own.blue (omega arith) in
-        let good = again.good in
-        let de0 = good.blue_green.0 in
-        let de1 = good.blue_green.1 in
-        let df0 = good.blue_red.0 in
-        let df1 = good.blue_red.1 in
-        let period = rest_period fed d e f z w h (omega arith) (omega arith) (omega arith) in
-        let u = is.contender.later.triple in
-        let ij0 = u.blue_green.0 in
-        let ij1 = u.blue_green.1 in
-        let ik0 = u.blue_red.0 in
-        let ik1 = u.blue_red.1 in
-        elim (cases_lt (d + 140) (z + i)) [
-          | inl past ↦ (omega arith, omega arith, omega arith)
-          | inr near ↦
-              let x = there (drop z fed.blue) (d - z) i period.triple.blue period.blue_on u.blue (omega arith) (omega arith) in
-              let y = there (drop z fed.green) (e - z) j period.triple.green period.green_on u.green (omega arith) (omega arith) in
-              let v = there (drop z fed.red) (f - z) k period.triple.red period.red_on u.red (omega arith) (omega arith) in
-              let same0 = same.0 in
-              let same1 = same.1 in
-              absurd (is.contender.other_skew (omega arith, omega arith))
-        ]
-
-    past_all : (d < z + i) × (e < z + j) × (f < z + k)
-    past_all = elim good [
-      | inl at ↦ past_there at
-      | inr w ↦ elim (cases_lt (z + p) d) [ inl before ↦ past_whole w before | inr at ↦ past_there (omega arith) ]
+not_doubted_later : (ps : List Period) (sent received : List Column) (offset : ℕ) (skews counts : List ℕ) (x fed : Fed) (before : List ℕ) (a d e f z p q r : ℕ)
+    → IsAgain ps sent received offset skews counts x fed before a d e f → (z + p ≡ d) ⊎ IsWholeGoodPeriod fed d e f → OneOfTwoIsSpared ps sent received (a + 12)
+    → HaveLast fed d e f z → z + p ≤ d → z + q ≤ e → z + r ≤ f → HaveSameSkew p q r d e f
+    → (i j k : ℕ) (is : IsDoubted (rest_of z fed) p q r i j k) → d ≤ z + i → e ≤ z + j → f ≤ z + k
+    → ArePlaced d e f z is.blue is.green is.red → ⊥
+not_doubted_later ps sent received offset skews counts x fed before a d e f z p q r again good one_of_two h pb pg pr same i j k is lb lg lv (all_earlier b g v) =
+    let same0 = same.0 in
+    let same1 = same.1 in
+    let later = is.earlier.later.blue_later in
+    elim good [
+      | inl there ↦ omega arith
+      | inr w ↦
+          let period = rest_period fed d e f z w h (omega arith) (omega arith) (omega arith) in
+          not_over (rest_of z fed) p q r (d - z) (e - z) (f - z) is.blue is.green is.red i j k period (omega arith, omega arith) is.earlier is.contender is.row
+          (omega arith) (omega arith) (omega arith) (omega arith) (omega arith) (omega arith)
     ]
+not_doubted_later ps sent received offset skews counts x fed before a d e f z p q r again good one_of_two h pb pg pr same i j k is lb lg lv (all_later b g v) =
+    let own = triple_at fed d e f z again.good h in
+    let t = is.earlier.later.own.first.triple in
+    let past_b = t.blue.past in
+    let past_g = t.green.past in
+    let past_r = t.red.past in
+    let after_b = own.blue.past in
+    let even = whole_apart (drop z fed.blue) p (d - z) t.blue own.blue in
+    let same0 = same.0 in
+    let same1 = same.1 in
+    let n = (d - z - p) / 10 in
+    let bn : z + p + 10 * n ≡ d = omega arith in
+    let gn : z + q + 10 * n ≡ e = omega arith in
+    let vn : z + r + 10 * n ≡ f = omega arith in
+    let are = columns_again ps sent received offset skews counts x fed before a d e f z p q r n again (omega arith) (omega arith) (omega arith) bn gn vn in
+    let after : AreAfter p q r n is.blue is.green is.red = record { blue = omega arith; green = omega arith; red = omega arith } in
+    let enough = enough_before p q r n is.blue is.green is.red after in
+    later_undoubted ps sent received (free_received ps sent received again.reception.reception) (rest_of z fed) p q r n a are (a + 12) one_of_two i j k is after (omega arith)
 
 same_skew_stands : (ps : List Period) (sent received : List Column) (offset : ℕ) (skews counts : List ℕ) (x fed : Fed) (before : List ℕ) (a d e f : ℕ)
-    → IsAgain ps sent received offset skews counts x fed before a d e f → EachIsSpared ps sent received (a + 12)
+    → IsAgain ps sent received offset skews counts x fed before a d e f → OneOfTwoIsSpared ps sent received (a + 12)
     → (z p q r : ℕ) → IsSettledBy refuting_rule fed d e f z p q r → HaveSameSkew p q r d e f → (z + p ≡ d) ⊎ IsWholeGoodPeriod fed d e f
     → (i j k : ℕ) → IsLetGo (rest_of z fed) p q r i j k → ⊥
-same_skew_stands ps sent received offset skews counts x fed before a d e f again each_is_spared z p q r is same whole i j k u =
+same_skew_stands ps sent received offset skews counts x fed before a d e f again one_of_two z p q r is same whole i j k u =
     let h = have_last fed d e f z again.good is.begins (late_by fed z (least_of d e f) is.ends) in
     let other = (later_of (rest_of z fed) p q r i j k u).triple in
     by h (where_lies h i j k other)
@@ -276,7 +267,8 @@ same_skew_stands ps sent received offset skews counts x fed before a d e f again
         let pr = before_it.2 in
         not_later ps sent received offset skews counts x fed before a d e f z p q r i j k again is.begins own (omega arith) (omega arith) (omega arith) same b g v refuted
     later_stands h b g v (inr doubted) =
-        not_doubted_later ps sent received offset skews counts x fed before a d e f z p q r again whole each_is_spared h before_it.0 before_it.1 before_it.2 same i j k doubted b g v
+        not_doubted_later ps sent received offset skews counts x fed before a d e f z p q r again whole one_of_two h before_it.0 before_it.1 before_it.2 same i j k doubted b g v
+        (where_lies h doubted.blue doubted.green doubted.red doubted.earlier.later.triple)
 
     by : HaveLast fed d e f z → ArePlaced d e f z i j k → ⊥
     by h (all_earlier b g v) = not_earlier fed d e f z p q r i j k again.good h is.ends b g v u
@@ -289,17 +281,17 @@ let_go_first x p q r d e f s t u first is =
     subst (λ n. IsLetGo x n t u d e f) same.0 (subst (λ n. IsLetGo x p n u d e f) same.1 (subst (λ n. IsLetGo x p q n d e f) same.2 is))
 
 pub same_skew_is_last : SameSkewIsLast
-same_skew_is_last ps sent received offset skews counts x fed before a d e f again each_is_spared z p q r is same whole =
+same_skew_is_last ps sent received offset skews counts x fed before a d e f again one_of_two z p q r is same whole =
     let calm = calm_again ps sent received offset skews counts x fed before a d e f again in
     let none = settled_no_stray fed d e f z p q r again.good calm.blue calm.green calm.red is in
     last_unrefuted (rest_of z fed)
     (record { no_stray = none; confirmed = none_unconfirmed (rest_of z fed) p q r is.first is.confirmed })
     (λ s t v i j k u.
-    same_skew_stands ps sent received offset skews counts x fed before a d e f again each_is_spared z p q r is same whole i j k
+    same_skew_stands ps sent received offset skews counts x fed before a d e f again one_of_two z p q r is same whole i j k
     (let_go_first (rest_of z fed) s t v i j k p q r is.first u))
 
 pub recovers_unrefuted : RecoversUnrefuted
-recovers_unrefuted ps sent received offset skews counts x fed before a d e f again w each_is_spared =
+recovers_unrefuted ps sent received offset skews counts x fed before a d e f again w one_of_two =
     let calm = calm_again ps sent received offset skews counts x fed before a d e f again in
     let s = settles_unrefuted fed d e f w in
     let z = s.0 in
@@ -316,7 +308,7 @@ recovers_unrefuted ps sent received offset skews counts x fed before a d e f aga
         r,
         is,
         elim skew.1 [
-          | inl same ↦ inl (same, same_skew_is_last ps sent received offset skews counts x fed before a d e f again each_is_spared z p q r is same (inr w))
+          | inl same ↦ inl (same, same_skew_is_last ps sent received offset skews counts x fed before a d e f again one_of_two z p q r is same (inr w))
           | inr opens ↦ inr opens
         ],
         accounted_there ps sent received offset skews counts x fed before a d e f z p q r again is.first is.place,

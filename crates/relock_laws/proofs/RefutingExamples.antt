@@ -1,11 +1,9 @@
 -- The premises can be met.
-use Rattle.std.proofs.Common.{◌≡◌, ℕ, ◌+◌, ◌-◌, ◌/◌, ◌<◌, ◌≤◌, ◌⊎◌, Bool, true, false, not, ◌||◌, ◌==◌, [], ◌∷◌, get_or, refl, ap, ◌∙◌, sym, arith, inl, inr, eqb-true}
-use Rattle.std.proofs.lemmas.Bool.{cases_lt}
-use Rattle.std.proofs.lemmas.List.{length-map}
+use Rattle.std.proofs.Common.{◌≡◌, ℕ, ◌+◌, ◌<◌, ◌≤◌, ◌⊎◌, Bool, true, false, not, ◌||◌, ◌==◌, [], ◌∷◌, length, refl, ap, arith, inl, inr, eqb-true}
 use Rattle.tmds_word.specs.Column.{blues, greens, reds}
 use Rattle.tmds_word.specs.Taps.{part_of}
 use Rattle.tmds_word.proofs.Below.{passes_below, passes_at}
-use Rattle.terc4.specs.Tables.{video_guard, island_guard, control_words, terc_words, is_in, is_control}
+use Rattle.terc4.specs.Tables.{video_guard}
 use Rattle.island_pack.specs.Kinds.{kinds_in, kinds_of, kind_at}
 use Rattle.island_pack.specs.Periods.{values_of}
 use Rattle.link_laws.specs.Laws.{EndsControl}
@@ -18,21 +16,21 @@ use Rattle.link_sink.specs.Sinks.{Fed}
 use Rattle.track_laws.specs.Laws.{Received}
 use Rattle.track_laws.proofs.SlipExample as slips
 use Rattle.relock_sink.specs.Refuting.{IsLastUnrefuted}
+use Rattle.relock_laws.specs.Doubted.{OneOfTwoIsSpared}
 use Rattle.relock_laws.specs.RefutingLaws.{HasUnrefutedExample, HasSlipFirstExample}
 use Rattle.relock_laws.proofs.Examples.{small}
 use Rattle.relock_laws.proofs.Last.{until_is_last}
-use Rattle.relock_laws.proofs.Refuting.{between}
 use Rattle.relock_laws.proofs.SlipUnrefuted.{slip_ends_alone}
-use Rattle.relock_laws.proofs.Spared.{RunEnds, run_ends}
 use Rattle.relock_laws.proofs.Standing.{until_stands}
-use Rattle.relock_laws.proofs.Undoubted.{own_first}
+use Rattle.relock_laws.proofs.Undoubted.{own_first, not_doubted}
 use Rattle.relock_laws.proofs.UndoubtedExample.{is_control_kind, no_control}
 use Rattle.relock_laws.proofs.Unrefuted.{not_let_go, last_unrefuted}
 
 abbrev x : Fed
 x = record { blue = part_of (blues damaged) 7 863; green = part_of (greens damaged) 77 793; red = part_of (reds damaged) 42 828 }
 
--- Control periods end with three columns of the stream, the last of which no other columns follow.
+-- Control periods end with three columns of the stream, the last of which no other columns follow: so none are two in a row after the
+-- first.
 
 abbrev ends_there : ℕ → Bool
 ends_there n = not (is_control_kind (kind_at (kinds_of stream) n)) || (is_control_kind (kind_at (kinds_of stream) (n + 1)) || ((n == 23) || (n == 38)))
@@ -54,47 +52,20 @@ two_ends j lt e =
       | inr second ↦ inr (eqb-true j 38 second)
     ]
 
--- After the first the red lane has no twelve control characters in a row.
+long_sent : length sent ≡ 87
+unfolding sent values_of video_guard
+long_sent = refl
 
-abbrev reds_other : ℕ → Bool
-reds_other n = not (is_control (get_or (reds damaged) n 0))
-
-others_test : (reds_other 24 ≡ true) × (reds_other 30 ≡ true) × (reds_other 41 ≡ true) × (reds_other 52 ≡ true) × (reds_other 63 ≡ true) × (reds_other 74 ≡ true)
-unfolding damaged values_of is_control is_in control_words terc_words video_guard island_guard
-others_test = (refl, refl, refl, refl, refl, refl)
-
-no_run_over : (m n : ℕ) → RunEnds (reds damaged) m → reds_other n ≡ true → n ≤ m → m ≤ n + 11 → ⊥
-no_run_over m n run other low high =
-    let far = run.far in
-    let at : m - 11 + (n - (m - 11)) ≡ n = omega arith in
-    let control : is_control (get_or (reds damaged) n 0) ≡ true = ap (λ k. is_control (get_or (reds damaged) k 0)) (sym at) ∙ run.controls (n - (m - 11)) (omega arith) in
-    clash_not (is_control (get_or (reds damaged) n 0)) control other
-  where
-    clash_not : (b : Bool) → b ≡ true → not b ≡ true → ⊥
-    clash_not true is none = cc
-    clash_not false is none = cc
-
-no_run : (m : ℕ) → 24 ≤ m → RunEnds (reds damaged) m → ⊥
-no_run m late run =
-    let within = run.within in
-    let long = long_damaged in
-    let size = length-map damaged (λ c. c.red) in
-    elim (cases_lt m 36) [
-      | inl a ↦ no_run_over m 24 run others_test.0 (omega arith) (omega arith)
-      | inr past ↦ elim (cases_lt m 42) [
-        | inl b ↦ no_run_over m 30 run others_test.1 (omega arith) (omega arith)
-        | inr past_b ↦ elim (cases_lt m 53) [
-          | inl c ↦ no_run_over m 41 run others_test.2 (omega arith) (omega arith)
-          | inr past_c ↦ elim (cases_lt m 64) [
-            | inl d ↦ no_run_over m 52 run others_test.3 (omega arith) (omega arith)
-            | inr past_d ↦ elim (cases_lt m 75) [
-              | inl e ↦ no_run_over m 63 run others_test.4 (omega arith) (omega arith)
-              | inr past_e ↦ no_run_over m 74 run others_test.5 (omega arith) (omega arith)
-            ]
-          ]
-        ]
+none_in_row : OneOfTwoIsSpared stream sent damaged 25
+none_in_row i j late a b lt inside none =
+    let size = long_sent in
+    absurd (elim (two_ends i (omega arith) a) [
+      | inl first ↦ omega arith
+      | inr second ↦ elim (two_ends j (omega arith) b) [
+        | inl one ↦ omega arith
+        | inr two ↦ omega arith
       ]
-    ]
+    ])
 
 unrefuted : IsLastUnrefuted x
 unrefuted =
@@ -103,19 +74,14 @@ unrefuted =
     let until = aligns damaged damaged_spared in
     last_unrefuted x (until_is_last stream sent damaged 7 skews counts x reception small 24 until) (λ p q r d e f.
     not_let_go x p q r d e f (until_stands stream sent damaged 7 skews counts x reception small 24 until p q r d e f) (λ is.
-    let now = is.contender.later in
-    let own = own_first stream sent damaged free 7 skews counts x reception.tapped small 24 until p q r now.own.first in
-    let first = two_ends (own.a + 11) (omega (arith, own.upto)) own.ends in
-    let near = between x p q r d e f now.own now.triple now.blue_later now.green_later now.red_later in
-    let past = now.own.first.triple.red.past in
-    let later = now.red_later in
-    let whole = near.red_whole in
-    no_run (own.a + (11 + (f - r) / 10)) (late own.a own.upto first (f - r) (omega arith))
-    (run_ends (reds damaged) x.red r 0 own.a f (own.a + (11 + (f - r) / 10)) own.are.red now.triple.red (omega arith) whole (omega arith) (omega arith))))
+    let own = own_first stream sent damaged free 7 skews counts x reception.tapped small 24 until p q r is.contender.later.own.first in
+    not_doubted stream sent damaged free 7 skews counts x reception.tapped 24 25 until none_in_row p q r d e f own (late own.a own.upto own.ends) is))
   where
-    late : (a : ℕ) → a + 12 ≤ 24 → (a + 11 ≡ 23) ⊎ (a + 11 ≡ 38) → (n : ℕ) → 10 ≤ n → 24 ≤ a + (11 + n / 10)
-    late a upto (inl first) n more = omega arith
-    late a upto (inr second) n more = absurd (omega arith)
+    late : (a : ℕ) → a + 12 ≤ 24 → EndsControl stream (a + 11) → (u : ℕ) → 24 ≤ u + 1 → a + 12 ≤ u → 25 ≤ u + 1
+    late a upto ends u after later = elim (two_ends (a + 11) (omega arith) ends) [
+      | inl first ↦ omega arith
+      | inr second ↦ absurd (omega arith)
+    ]
 
 pub unrefuted_example : HasUnrefutedExample
 unrefuted_example =

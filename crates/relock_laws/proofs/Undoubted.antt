@@ -1,6 +1,6 @@
--- The alignment of a tap is not doubted where the beginning or the end of each control period is spared: edges contend with it at none
--- whose end is, and where a beginning is, all lanes show it.
-use Rattle.std.proofs.Common.{◌≡◌, ℕ, ◌+◌, ◌-◌, ◌*◌, ◌/◌, ◌%◌, ◌<◌, ◌≤◌, max, Bool, List, length, get_or, subst, arith, inl, inr, Some}
+-- The alignment of a tap is not doubted twice in a row where one of any two control periods in a row is spared: edges contend with it
+-- at none that is, and at those the edges of its own skew uphold it.
+use Rattle.std.proofs.Common.{◌≡◌, ◌⊎◌, ℕ, ◌+◌, ◌-◌, ◌*◌, ◌/◌, ◌%◌, ◌<◌, ◌≤◌, max, Bool, List, length, get_or, subst, arith, inl, inr, Some}
 use Rattle.std.specs.Prelude.{slice_index}
 use Rattle.std.proofs.lemmas.Bool.{cases_lt}
 use Rattle.tmds_word.specs.Bits.{window}
@@ -12,21 +12,54 @@ use Rattle.lane_deskew.proofs.First.{one_first}
 use Rattle.island_pack.specs.Kinds.{Kind, control_column, kinds_of, kind_at, EndsAt}
 use Rattle.island_pack.specs.Periods.{Period}
 use Rattle.link_sink.specs.Sinks.{Fed}
-use Rattle.link_laws.specs.Alternating.{IsAlternating}
+use Rattle.link_sink.proofs.Decided.{IsLeast, least_or_none}
 use Rattle.link_laws.specs.Laws.{ReceivedFreely, EndsControl, BeginColumn, HoldsEnd, AlignsUntil}
 use Rattle.link_laws.proofs.Freely.{free_received}
-use Rattle.link_laws.proofs.Shapes.{alternating}
+use Rattle.link_laws.proofs.LaneEnds.{kind_cases}
+use Rattle.link_laws.proofs.Shapes.{alternating, ends_apart}
 use Rattle.link_laws.proofs.Tapped.{characters, tap_accounted}
 use Rattle.link_laws.proofs.Until.{Holds}
 use Rattle.relock_sink.specs.Rivals.{middle, columns_before, HaveSameSkew}
-use Rattle.relock_sink.specs.Doubts.{IsContender, IsDoubted}
-use Rattle.relock_laws.specs.Doubted.{IsSpared, BeginsUntil, IsBeginSpared, EachIsSpared, UntilIsUndoubted}
-use Rattle.relock_laws.proofs.Begun.{begun_lane, begun_there}
+use Rattle.relock_sink.specs.Doubts.{IsContender, IsUpheld, IsDoubted}
+use Rattle.relock_laws.specs.Doubted.{IsSpared, OneOfTwoIsSpared, UntilIsUndoubted}
 use Rattle.relock_laws.proofs.Refuting.{between}
 use Rattle.relock_laws.proofs.Seen.{part_word}
-use Rattle.relock_laws.proofs.Spared.{IsLaneFrom, spared_lane, edge_there, three_after}
+use Rattle.relock_laws.proofs.Spared.{IsLaneFrom, spared_lane, edge_there}
 use Rattle.relock_laws.proofs.UntilEnds.{lane_until, early_edge_there}
-use Rattle.relock_laws.proofs.Upholding.{AreFrom, ends_of, ends_long}
+use Rattle.relock_laws.proofs.Upholding.{AreFrom, ends_of, spared_upholds}
+
+-- The ends of control periods.
+
+kind_decided : (k : Kind) → Dec (k ≡ control_column)
+kind_decided k = kind_cases (Dec (k ≡ control_column)) k (λ is. yes is) (λ apart. no apart)
+
+end_decided : (kinds : List Kind) (n : ℕ) → Dec (EndsAt kinds n)
+end_decided kinds n = by (kind_decided (kind_at kinds n)) (kind_decided (kind_at kinds (n + 1)))
+  where
+    by : Dec (kind_at kinds n ≡ control_column) → Dec (kind_at kinds (n + 1) ≡ control_column) → Dec (EndsAt kinds n)
+    by (yes here) (no then) = yes (record { here = here; then = then })
+    by (yes here) (yes goes_on) = no (λ e. e.then goes_on)
+    by (no apart) (yes goes_on) = no (λ e. apart e.here)
+    by (no apart) (no then) = no (λ e. apart e.here)
+
+-- the first after another one
+record IsNextEnd (kinds : List Kind) (i j n : ℕ) : Type 0 where
+  after : i < n
+  upto : n ≤ j
+  ends : EndsAt kinds n
+  least : (k : ℕ) → i < k → k < n → EndsAt kinds k → ⊥
+
+next_end : (kinds : List Kind) (i j : ℕ) → EndsAt kinds j → i < j → (n : ℕ) × IsNextEnd kinds i j n
+next_end kinds i j ends lt = by (least_or_none (λ k. EndsAt kinds (i + 1 + k)) (j - i) (λ k. end_decided kinds (i + 1 + k)))
+  where
+    moved : (k : ℕ) → i < k → EndsAt kinds k → EndsAt kinds (i + 1 + (k - (i + 1)))
+    moved k past end = let at : k ≡ i + 1 + (k - (i + 1)) = omega arith in subst (EndsAt kinds) at end
+
+    by : ((p : ℕ) × IsLeast (λ k. EndsAt kinds (i + 1 + k)) (j - i) p) ⊎ ((k : ℕ) → k < j - i → EndsAt kinds (i + 1 + k) → ⊥) → (n : ℕ) × IsNextEnd kinds i j n
+    by (inl l) =
+        let below = l.1.below in
+        (i + 1 + l.0, record { after = omega arith; upto = omega arith; ends = l.1.here; least = λ k past short end. l.1.least (k - (i + 1)) (omega arith) (moved k past end) })
+    by (inr none) = absurd (none (j - (i + 1)) (omega arith) (moved j lt ends))
 
 -- The alignment in use.
 
@@ -78,25 +111,28 @@ own_first ps sent received reception offset skews counts x tapped small until al
 pub same_there : (p q r d e f c : ℕ) → p + 10 * c ≡ d → q + 10 * c ≡ e → r + 10 * c ≡ f → HaveSameSkew p q r d e f
 same_there p q r d e f c b g v = (omega arith, omega arith)
 
--- The beginning of a control period.
+-- Edges of one skew.
 
--- it has at least twelve columns
-long_period : (kinds : List Kind) → IsAlternating kinds → (j i : ℕ) → EndsAt kinds i → j ≤ i → (h : ℕ) → j ≡ h + 1 → (kind_at kinds h ≡ control_column → ⊥) → j + 11 ≤ i
-long_period kinds alternates j i ends order h at none = elim (cases_lt i (j + 11)) [
-  | inr long ↦ long
-  | inl short ↦
-      let place : i - (i - h) ≡ h = omega arith in
-      absurd (none (subst (λ m. kind_at kinds m ≡ control_column) place (ends_long kinds alternates i (i - h) ends (omega arith))))
-]
+-- all three are later
+later_on : (b g v d e f : ℕ) → HaveSameSkew b g v d e f → max b (max g v) < max d (max e f) → (b < d) × (g < e) × (v < f)
+later_on b g v d e f same lt = let one = same.0 in let two = same.1 in (omega arith, omega arith, omega arith)
 
--- and begins at least three columns after another one
-begins_far : (kinds : List Kind) → IsAlternating kinds → (u j i : ℕ) → EndsAt kinds u → j ≤ i → ((k : ℕ) → j ≤ k → k ≤ i → kind_at kinds k ≡ control_column) → u < i → u + 4 ≤ j
-begins_far kinds alternates u j i ends order control later = elim (cases_lt j (u + 4)) [
-  | inr far ↦ far
-  | inl near ↦
-      let k = max j (u + 1) - (u + 1) in
-      absurd (three_after kinds alternates u k ends (omega arith) (control (u + 1 + k) (omega arith) (omega arith)))
-]
+-- and have more columns before them
+more_on : (p b d : ℕ) → p < b → b < d → p % 10 ≡ b % 10 → p % 10 ≡ d % 10 → (b - p) / 10 < (d - p) / 10
+more_on p b d after later here there = omega arith
+
+more_before : (a b c d e f : ℕ) → a < d → b < e → c < f → middle a b c < middle d e f
+more_before a b c d e f x y z = omega arith
+
+all_less : (a b c d e f : ℕ) → a < d → b < e → c < f → max a (max b c) < max d (max e f)
+all_less a b c d e f x y z = omega arith
+
+-- an edge near another end than that of some columns
+before_by : (p b m n : ℕ) → p < b → (b - p) / 10 ≤ m + 14 → m + 15 ≤ n → b < p + 10 * n
+before_by p b m n later near far = omega arith
+
+after_by : (p d c n : ℕ) → p < d → c ≤ (d - p) / 10 + 14 → n + 15 ≤ c → p + 10 * n < d
+after_by p d c n later near far = omega arith
 
 -- Where an alignment has received columns from one on.
 
@@ -140,50 +176,76 @@ module _ (ps : List Period) (sent received : List Column) (reception : ReceivedF
       t.red (omega arith) after.red near.red_whole near.near.third_over near.near.third_under in
       is.other_skew (same_there p q r d e f c b g v)
 
-  -- and none doubt it at one whose beginning is
-  begun_has_none : (d e f i j : ℕ) → IsDoubted x p q r d e f → AreAfter p q r n d e f → i + n ≡ a + (11 + columns_before p q r d e f) → a + 15 ≤ j → BeginsUntil ps j i → IsBeginSpared sent received j i → ⊥
-  begun_has_none d e f i j is after at late begins spared =
-      let c = columns_before p q r d e f in
+  -- after a control period that is not spared the next one is, so that no edges after it contend before others uphold the alignment
+  pub none_after : (from u m low : ℕ) → OneOfTwoIsSpared ps sent received from → from ≤ u + 1 → EndsControl ps u → n ≤ m → u + n ≡ a + (11 + m) → (IsSpared sent received u → ⊥)
+      → ((l : ℕ) → m + 15 ≤ l → low < max (p + 10 * l) (max (q + 10 * l) (r + 10 * l)))
+      → (d e f : ℕ) → IsContender x p q r d e f → AreAfter p q r n d e f → m < columns_before p q r d e f
+      → ((i j k : ℕ) → IsUpheld x p q r i j k → max i (max j k) < max d (max e f) → max i (max j k) ≤ low) → ⊥
+  none_after from u m low one_of_two late first long at damaged above d e f is after more unupheld =
       let kinds = kinds_of ps in
       let alternates = alternating ps reception.conforming in
-      let enough = enough_before p q r n d e f after in
-      let seen = ends_of ps sent received reception x p q r n a i (11 + c) are (omega arith) (omega arith) is.contender.period in
-      let within = seen.2 in
-      let long : j + 11 ≤ i = long_period kinds alternates j i seen.0 begins.order (j - 1) (omega arith) (begins.before (j - 1) (omega arith)) in
-      let h = reception.sparse in
-      let t = is.contender.later.triple in
-      let own = is.contender.later.own.first.triple in
-      let past_b = own.blue.past in
-      let past_g = own.green.past in
-      let past_r = own.red.past in
-      let near = between x p q r d e f is.contender.later.own t is.contender.later.blue_later is.contender.later.green_later is.contender.later.red_later in
-      let bits = is.begins.bits in
-      let b = begun_there (blues received) x.blue p n a are.blue (omega arith) j i c d
-      (begun_lane (λ l. l.blue) ps sent received j i reception begins spared (omega arith) (omega arith) (λ k l fits. fits.blue) h.few_blue)
-      own.blue t.blue near.blue_whole after.blue late long at near.near.first_over near.near.first_under (d - bits) is.begins.blue in
-      let g = begun_there (greens received) x.green q n a are.green (omega arith) j i c e
-      (begun_lane (λ l. l.green) ps sent received j i reception begins spared (omega arith) (omega arith) (λ k l fits. fits.green) h.few_green)
-      own.green t.green near.green_whole after.green late long at near.near.second_over near.near.second_under (e - bits) is.begins.green in
-      let v = begun_there (reds received) x.red r n a are.red (omega arith) j i c f
-      (begun_lane (λ l. l.red) ps sent received j i reception begins spared (omega arith) (omega arith) (λ k l fits. fits.red) h.few_red)
-      own.red t.red near.red_whole after.red late long at near.near.third_over near.near.third_under (f - bits) is.begins.red in
-      is.contender.other_skew (omega arith, omega arith)
-
-  -- so none doubt it after a column from which the beginning or the end of each control period is spared
-  pub later_undoubted : (from : ℕ) → EachIsSpared ps sent received from → EndsControl ps (a + 11) → (d e f : ℕ) → IsDoubted x p q r d e f → AreAfter p q r n d e f
-      → n < columns_before p q r d e f → from + n ≤ a + (11 + columns_before p q r d e f) + 1 → ⊥
-  later_undoubted from each_is_spared own_ends d e f is after more late =
+      let same_length = reception.sparse.same_length in
+      let now = is.later in
       let c = columns_before p q r d e f in
-      let i = a + (11 + c) - n in
-      let long = reception.sparse.same_length in
-      let seen = ends_of ps sent received reception x p q r n a i (11 + c) are (omega arith) (omega arith) is.contender.period in
-      let within = seen.2 in
-      elim (each_is_spared i (omega arith) seen.0 (omega arith)) [
-        | inl spared ↦ spared_has_none d e f i is.contender after (omega arith) spared
-        | inr begun ↦
-            let far = begins_far (kinds_of ps) (alternating ps reception.conforming) (a + 11) begun.0 i own_ends begun.1.order begun.1.control (omega arith) in
-            begun_has_none d e f i begun.0 is after (omega arith) (omega arith) begun.1 begun.2
+      let j = a + (11 + c) - n in
+      let second = ends_of ps sent received reception x p q r n a j (11 + c) are (omega arith) (omega arith) is.period in
+      let inside = second.1 in
+      let within = second.2 in
+      let bc = between x p q r d e f now.own now.triple now.blue_later now.green_later now.red_later in
+      let found = next_end kinds u j second.0 (omega arith) in
+      let next = found.1 in
+      let past = next.after in
+      let upto = next.upto in
+      elim (one_of_two u found.0 late first next.ends past (omega arith) next.least) [
+        | inl spared ↦ damaged spared
+        | inr spared ↦ elim (cases_lt found.0 j) [
+          | inr reached ↦
+              let same : found.0 ≡ j = omega arith in
+              spared_has_none d e f j is after (omega arith) (subst (IsSpared sent received) same spared)
+          | inl short ↦
+              let l = found.0 + n - (a + 11) in
+              let far_m = ends_apart kinds alternates u found.0 first next.ends past in
+              let far_c = ends_apart kinds alternates found.0 j next.ends second.0 short in
+              let upheld = spared_upholds ps sent received reception x p q r n a found.0 l now.own are (omega arith) (omega arith) (omega arith) next.ends (omega arith) spared in
+              let lc : l + 15 ≤ c = omega arith in
+              let below = all_less (p + 10 * l) (q + 10 * l) (r + 10 * l) d e f
+              (after_by p d c l now.blue_later bc.near.first_over lc) (after_by q e c l now.green_later bc.near.second_over lc) (after_by r f c l now.red_later bc.near.third_over lc) in
+              let later = above l (omega arith) in
+              let none = unupheld (p + 10 * l) (q + 10 * l) (r + 10 * l) upheld below in
+              omega arith
+        ]
       ]
+
+  -- nor do two in a row after a column from which one of any two control periods in a row is spared
+  pub later_undoubted : (from : ℕ) → OneOfTwoIsSpared ps sent received from → (d e f : ℕ) (is : IsDoubted x p q r d e f) → AreAfter p q r n is.blue is.green is.red
+      → from + n ≤ a + (11 + columns_before p q r is.blue is.green is.red) + 1 → ⊥
+  later_undoubted from one_of_two d e f is after late =
+      let b = is.blue in
+      let g = is.green in
+      let v = is.red in
+      let early = is.earlier.later in
+      let now = is.contender.later in
+      let m = columns_before p q r b g v in
+      let enough = enough_before p q r n b g v after in
+      let u = a + (11 + m) - n in
+      let first = ends_of ps sent received reception x p q r n a u (11 + m) are (omega arith) (omega arith) is.earlier.period in
+      let bm = between x p q r b g v early.own early.triple early.blue_later early.green_later early.red_later in
+      let bc = between x p q r d e f now.own now.triple now.blue_later now.green_later now.red_later in
+      let later = later_on b g v d e f is.same_skew is.row.before in
+      let later_b = later.0 in
+      let later_g = later.1 in
+      let later_r = later.2 in
+      let after_b = after.blue in
+      let after_g = after.green in
+      let after_r = after.red in
+      none_after from u m (max b (max g v)) one_of_two (omega arith) first.0 enough (omega arith) (λ spared. spared_has_none b g v u is.earlier after (omega arith) spared)
+      (λ l far. all_less b g v (p + 10 * l) (q + 10 * l) (r + 10 * l)
+      (before_by p b m l early.blue_later bm.near.first_under far) (before_by q g m l early.green_later bm.near.second_under far) (before_by r v m l early.red_later bm.near.third_under far))
+      d e f is.contender (record { blue = omega arith; green = omega arith; red = omega arith })
+      (more_before ((b - p) / 10) ((g - q) / 10) ((v - r) / 10) ((d - p) / 10) ((e - q) / 10) ((f - r) / 10)
+      (more_on p b d early.blue_later later.0 bm.blue_whole bc.blue_whole) (more_on q g e early.green_later later.1 bm.green_whole bc.green_whole)
+      (more_on r v f early.red_later later.2 bm.red_whole bc.red_whole))
+      is.row.unupheld
 
 -- Of a tap.
 
@@ -218,30 +280,29 @@ module _ (ps : List Period) (sent received : List Column) (reception : ReceivedF
           → Holds words (offset + slice_index skews lane) (slice_index counts lane) until
       holds words bits lane until h lt part = record { begins = h.begins lane lt; reaches = h.reaches lane lt; within = part.within }
 
-  -- so where the beginning or the end of each is spared, none doubt it: those that end after it
-  pub not_doubted : (until from : ℕ) → AlignsUntil ps sent received offset skews counts until → EachIsSpared ps sent received from
+  -- so where one of any two in a row is spared, no two do with none between that upholds the alignment: those that end after it
+  pub not_doubted : (until from : ℕ) → AlignsUntil ps sent received offset skews counts until → OneOfTwoIsSpared ps sent received from
       → (p q r d e f : ℕ) (own : IsOwn ps received offset skews until x p q r) → ((u : ℕ) → until ≤ u + 1 → own.a + 12 ≤ u → from ≤ u + 1) → IsDoubted x p q r d e f → ⊥
-  not_doubted until from aligns each_is_spared p q r d e f own late is =
-      let c = columns_before p q r d e f in
-      let now = is.contender.later in
-      let near = between x p q r d e f now.own now.triple now.blue_later now.green_later now.red_later in
-      let b = now.blue_later in
-      let g = now.green_later in
-      let v = now.red_later in
-      let one = enough_before p q r 1 d e f (later_by_one b g v near.blue_whole near.green_whole near.red_whole) in
-      elim (cases_lt (own.a + (11 + c) + 1) until) [
-        | inl short ↦ early_has_none until aligns p q r d e f own.a own.are own.begins is.contender short
+  not_doubted until from aligns one_of_two p q r d e f own late is =
+      let m = columns_before p q r is.blue is.green is.red in
+      let early = is.earlier.later in
+      let near = between x p q r is.blue is.green is.red early.own early.triple early.blue_later early.green_later early.red_later in
+      let b = early.blue_later in
+      let g = early.green_later in
+      let v = early.red_later in
+      let one = enough_before p q r 1 is.blue is.green is.red (later_by_one is.blue is.green is.red b g v near.blue_whole near.green_whole near.red_whole) in
+      elim (cases_lt (own.a + (11 + m) + 1) until) [
+        | inl short ↦ early_has_none until aligns p q r is.blue is.green is.red own.a own.are own.begins is.earlier short
         | inr after ↦
-            let from_late = late (own.a + (11 + c)) after (omega arith) in
-            later_undoubted ps sent received reception x p q r 0 own.a own.are from each_is_spared own.ends d e f is (record { blue = omega arith; green = omega arith; red = omega arith })
-            (omega arith) (omega arith)
+            let from_late = late (own.a + (11 + m)) after (omega arith) in
+            later_undoubted ps sent received reception x p q r 0 own.a own.are from one_of_two d e f is (record { blue = omega arith; green = omega arith; red = omega arith }) (omega arith)
       ]
     where
-      later_by_one : p < d → q < e → r < f → p % 10 ≡ d % 10 → q % 10 ≡ e % 10 → r % 10 ≡ f % 10 → AreAfter p q r 1 d e f
-      later_by_one b g v x y z = record { blue = omega arith; green = omega arith; red = omega arith }
+      later_by_one : (d e f : ℕ) → p < d → q < e → r < f → p % 10 ≡ d % 10 → q % 10 ≡ e % 10 → r % 10 ≡ f % 10 → AreAfter p q r 1 d e f
+      later_by_one d e f b g v x y z = record { blue = omega arith; green = omega arith; red = omega arith }
 
 pub until_is_undoubted : UntilIsUndoubted
-until_is_undoubted ps sent received offset skews counts x reception small until aligns each_is_spared p q r d e f is =
+until_is_undoubted ps sent received offset skews counts x reception small until aligns one_of_two p q r d e f is =
     let free = free_received ps sent received reception.reception in
     let own = own_first ps sent received free offset skews counts x reception.tapped small until aligns p q r is.contender.later.own.first in
-    not_doubted ps sent received free offset skews counts x reception.tapped until until aligns each_is_spared p q r d e f own (λ u after later. after) is
+    not_doubted ps sent received free offset skews counts x reception.tapped until until aligns one_of_two p q r d e f own (λ u after later. after) is

@@ -1,7 +1,6 @@
--- A tap of the short stream: of its first control period the beginning is spared and the end is not, of its second the end is.
-use Rattle.std.proofs.Common.{◌≡◌, ℕ, zero, suc, ◌+◌, ◌-◌, ◌*◌, ◌<◌, ◌≤◌, Bool, true, false, not, ◌||◌, ◌==◌, List, [], ◌∷◌, length, refl, ap, ◌∙◌, sym, subst, arith, inl, inr, eqb-true}
+-- A tap of the short stream, whose second control period is spared and whose first is not.
+use Rattle.std.proofs.Common.{◌≡◌, ℕ, zero, suc, ◌+◌, ◌-◌, ◌*◌, ◌<◌, ◌≤◌, Bool, true, false, not, ◌||◌, ◌==◌, List, [], ◌∷◌, length, refl, ap, ◌∙◌, sym, subst, arith, inr, eqb-true}
 use Rattle.std.specs.Prelude.{slice_index}
-use Rattle.std.proofs.lemmas.Bool.{cases_lt}
 use Rattle.std.proofs.lemmas.List.{length-map}
 use Rattle.tmds_word.specs.Column.{blues, greens, reds}
 use Rattle.tmds_word.specs.Taps.{part_of, HasSmallSkew}
@@ -16,7 +15,7 @@ use Rattle.link_laws.specs.Laws.{EndsControl, HoldsEnd, AlignsUntil}
 use Rattle.link_laws.proofs.Computed.{or_second}
 use Rattle.track_laws.specs.Laws.{Received}
 use Rattle.track_laws.proofs.SlipStream.{stream, sent, received, long_received, reception, alone, after_first}
-use Rattle.relock_laws.specs.Doubted.{IsSpared, BeginsUntil, IsBeginSpared, EachIsSpared, HasUndoubtedExample}
+use Rattle.relock_laws.specs.Doubted.{IsSpared, OneOfTwoIsSpared, HasUndoubtedExample}
 
 abbrev skews : List ℕ
 skews = 0 ∷ (10 ∷ (20 ∷ []))
@@ -104,44 +103,11 @@ long_sent : length sent ≡ 91
 unfolding sent values_of video_guard
 long_sent = refl
 
--- of the first its beginning is spared, with which the stream begins
-
-pub control_kind : (k : Kind) → is_control_kind k ≡ true → k ≡ control_column
-control_kind control_column is = refl
-control_kind first_guard is = cc
-control_kind second_guard is = cc
-control_kind pixel_column is = cc
-control_kind packet_column is = cc
-
-first_test : passes_below 24 (λ n. is_control_kind (kind_at (kinds_of stream) n)) ≡ true
-unfolding passes_below stream kinds_of kinds_in values_of
-first_test = refl
-
-first_begins : BeginsUntil stream 0 23
-first_begins = record {
-  order = omega arith;
-  control = λ k low high. control_kind (kind_at (kinds_of stream) k) (passes_at 24 (λ n. is_control_kind (kind_at (kinds_of stream) n)) k first_test (omega arith));
-  before = λ h at. absurd (omega arith);
-}
-
-column_test : (unlike_at sent received 0 ≡ 0) × (unlike_at sent received 23 ≡ 0)
-unfolding unlike_words one_if sent received values_of control_words video_guard
-column_test = (refl, refl)
-
-first_spared : IsBeginSpared sent received 0 23
-first_spared = record { first = λ k low high. let at : 0 ≡ k = omega arith in subst (λ n. unlike_at sent received n ≡ 0) at column_test.0; last = column_test.1 }
-
-pub each_is_spared : EachIsSpared stream sent received 24
-each_is_spared i late ends inside =
+pub one_of_two : OneOfTwoIsSpared stream sent received 24
+one_of_two i j late a b lt inside none =
     let size = long_sent in
-    elim (cases_lt i 24) [
-      | inl first ↦
-          let at : 23 ≡ i = omega arith in
-          inr (0, subst (BeginsUntil stream 0) at first_begins, subst (IsBeginSpared sent received 0) at first_spared)
-      | inr more ↦
-          let same = only_end i more (omega arith) ends in
-          inl (subst (IsSpared sent received) (sym same) second_spared)
-    ]
+    let same = only_end j (omega arith) (omega arith) b in
+    inr (subst (IsSpared sent received) (sym same) second_spared)
 
 unlike_test : unlike_at sent received 26 ≡ 1
 unfolding unlike_words one_if sent received values_of control_words video_guard
@@ -175,7 +141,7 @@ undoubted_example = (
     reception = tapped;
     small = small;
     aligns = aligns;
-    spared = each_is_spared;
+    spared = one_of_two;
     ends = first_ends;
     late = omega arith;
     damaged = λ spared. let none = spared 26 (omega arith) (omega arith) in let some = unlike_test in omega arith;

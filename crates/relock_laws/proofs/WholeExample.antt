@@ -25,7 +25,7 @@ use Rattle.relock_laws.specs.RefutingLaws.{EndsBy}
 use Rattle.relock_laws.specs.RefutingSettled.{IsWholeGoodPeriod, HasWholeExample}
 use Rattle.relock_laws.proofs.AgainExample.{nineteen_at, nineteen, guard_apart, announced_test}
 use Rattle.relock_laws.proofs.RefutingEnding.{stray_leaves}
-use Rattle.relock_laws.proofs.UndoubtedExample.{each_is_spared}
+use Rattle.relock_laws.proofs.UndoubtedExample.{one_of_two}
 
 -- The lanes.
 
@@ -222,4 +222,4 @@ ends_early = elim (end_decided fed) [
 
 pub whole_example : HasWholeExample
 whole_example =
-    (stream, sent, received, 0, 0 ∷ (10 ∷ (20 ∷ [])), 900 ∷ (890 ∷ (880 ∷ [])), x, fed, 123 ∷ (123 ∷ (123 ∷ [])), 12, 363, 353, 343, ends_early.0, again, whole, each_is_spared, ends_early.1)
+    (stream, sent, received, 0, 0 ∷ (10 ∷ (20 ∷ [])), 900 ∷ (890 ∷ (880 ∷ [])), x, fed, 123 ∷ (123 ∷ (123 ∷ [])), 12, 363, 353, 343, ends_early.0, again, whole, one_of_two, ends_early.1)

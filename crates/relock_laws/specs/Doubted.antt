@@ -1,11 +1,12 @@
--- When an alignment is doubted: never a true one, and each other one at a control period that is received whole.
-use Rattle.std.specs.Prelude.{◌≡◌, ◌⊎◌, ℕ, ◌+◌, ◌-◌, ◌*◌, ◌<◌, ◌≤◌, Bool, true, false, ◌||◌, List, length}
+-- When an alignment is doubted twice in a row: never a true one, and each other one at the second good control period in a row.
+use Rattle.std.specs.Prelude.{◌≡◌, ◌⊎◌, ℕ, ◌+◌, ◌-◌, ◌<◌, ◌≤◌, Bool, true, false, ◌||◌, List, length, Some}
+use Rattle.tmds_word.specs.Bits.{window}
 use Rattle.tmds_word.specs.Column.{Column}
 use Rattle.tmds_word.specs.Taps.{IsTap, HasSmallSkew}
 use Rattle.terc4.specs.Columns.{is_control_column, is_twelve_or_more}
 use Rattle.terc4.specs.Tables.{is_control, is_guard, value_in, terc_words}
-use Rattle.lane_align.specs.Lanes.{HasControl}
-use Rattle.island_pack.specs.Kinds.{control_column, kinds_of, kind_at}
+use Rattle.lane_align.specs.Lanes.{IsRun}
+use Rattle.lane_deskew.specs.Triples.{AreTriple}
 use Rattle.island_pack.specs.Periods.{Period}
 use Rattle.island_pack.specs.Sparse.{column_at, unlike_at, IsSparseInPayload}
 use Rattle.link_sink.specs.Sinks.{Fed}
@@ -13,7 +14,7 @@ use Rattle.link_laws.specs.Laws.{EndsControl, AlignsUntil}
 use Rattle.link_laws.specs.Local.{ReceivedUntil}
 use Rattle.track_laws.specs.Laws.{Received, Slipped, SlipsInVideo}
 use Rattle.relock_sink.specs.Rivals.{IsConfirmed, HaveSameSkew}
-use Rattle.relock_sink.specs.Doubts.{IsContender, IsDoubted}
+use Rattle.relock_sink.specs.Doubts.{IsContender, IsDoubted, IsLetGo}
 use Rattle.relock_laws.specs.Refuted.{IsWholePeriod}
 
 -- A true alignment.
@@ -38,28 +39,18 @@ SlipHasNoContender =
 abbrev pub IsSpared : List Column → List Column → ℕ → Type 0
 IsSpared sent received i = (k : ℕ) → i < k + 15 → k ≤ i + 3 → unlike_at sent received k ≡ 0
 
--- column j is the first one of the control period whose last one is column i
-pub record BeginsUntil (ps : List Period) (j i : ℕ) : Type 0 where
-  pub order : j ≤ i
-  pub control : (k : ℕ) → j ≤ k → k ≤ i → kind_at (kinds_of ps) k ≡ control_column
-  pub before : (h : ℕ) → j ≡ h + 1 → kind_at (kinds_of ps) h ≡ control_column → ⊥
-
--- its first column, the three before it, if there are any, and its last one were received as they were sent
-pub record IsBeginSpared (sent received : List Column) (j i : ℕ) : Type 0 where
-  pub first : (k : ℕ) → j ≤ k + 3 → k ≤ j → unlike_at sent received k ≡ 0
-  pub last : unlike_at sent received i ≡ 0
-
--- the beginning or the end was spared of each control period that other columns follow, from the one before a column on
-abbrev pub EachIsSpared : List Period → List Column → List Column → ℕ → Type 0
-EachIsSpared ps sent received until =
-    (i : ℕ) → until ≤ i + 1 → EndsControl ps i → i + 1 < length sent → IsSpared sent received i ⊎ ((j : ℕ) × BeginsUntil ps j i × IsBeginSpared sent received j i)
+-- so were they at one of any two control periods in a row that other columns follow, from the one before a column on
+abbrev pub OneOfTwoIsSpared : List Period → List Column → List Column → ℕ → Type 0
+OneOfTwoIsSpared ps sent received until =
+    (i j : ℕ) → until ≤ i + 1 → EndsControl ps i → EndsControl ps j → i < j → j + 1 < length sent → ((k : ℕ) → i < k → k < j → EndsControl ps k → ⊥)
+    → IsSpared sent received i ⊎ IsSpared sent received j
 
 -- where damage is sparse, wherever it lies, and spares control and guard words until a column that each lane has, and from there on
--- the beginning or the end of each control period, the alignment of a tap is not doubted
+-- one of any two control periods in a row, the alignment of a tap is not doubted twice in a row
 abbrev pub UntilIsUndoubted : Type 0
 UntilIsUndoubted =
     (ps : List Period) (sent received : List Column) (offset : ℕ) (skews counts : List ℕ) (x : Fed) → Received ps sent received offset skews counts x
-    → HasSmallSkew skews → (until : ℕ) → AlignsUntil ps sent received offset skews counts until → EachIsSpared ps sent received until
+    → HasSmallSkew skews → (until : ℕ) → AlignsUntil ps sent received offset skews counts until → OneOfTwoIsSpared ps sent received until
     → (p q r d e f : ℕ) → IsDoubted x p q r d e f → ⊥
 
 -- Where any characters are received after the alignment.
@@ -93,33 +84,65 @@ ClearHasNoContender =
 
 -- Another alignment.
 
--- so many control characters end at an edge, and three others come before them
-pub record IsWholeRun (xs : List Bool) (e n : ℕ) : Type 0 where
-  pub begins : 10 * n + 30 ≤ e
-  pub controls : (k : ℕ) → k < n → HasControl xs (e - 10 - 10 * k)
-  pub others : (k : ℕ) → k < 3 → HasControl xs (e - 10 * n - 10 - 10 * k) → ⊥
+-- twelve control words end at a place, and no other follows there
+pub record EndsRun (xs : List Bool) (e : ℕ) : Type 0 where
+  pub begins : 120 ≤ e
+  pub run : IsRun xs (e - 120)
+  pub word : ℕ
+  pub here : window xs e ≡ Some word
+  pub no_control : is_control word ≡ false
 
--- a control period of so many columns that is received whole on all lanes, from three characters before it on
-pub record IsWholeFrom (fed : Fed) (d e f n : ℕ) : Type 0 where
-  pub period : IsWholePeriod fed d e f
-  pub blue : IsWholeRun fed.blue d n
-  pub green : IsWholeRun fed.green e n
-  pub red : IsWholeRun fed.red f n
+-- in whatever phase, none do strictly between two places
+abbrev pub IsQuiet : List Bool → ℕ → ℕ → Type 0
+IsQuiet xs d i = (e : ℕ) → d < e → e < i → EndsRun xs e → ⊥
 
--- an earlier alignment with another skew is doubted there, without exception
-abbrev pub DoubtsAtWhole : Type 0
-DoubtsAtWhole =
-    (fed : Fed) (p q r d e f n : ℕ) → IsConfirmed fed p q r → IsWholeFrom fed d e f n → p < d → q < e → r < f → (HaveSameSkew p q r d e f → ⊥)
-    → IsDoubted fed p q r d e f
+-- two control periods of one skew whose guard bands are received whole, and no run of control words ends between them on any lane
+pub record AreTwoPeriods (fed : Fed) (d e f i j k : ℕ) : Type 0 where
+  pub first : IsWholePeriod fed d e f
+  pub second : IsWholePeriod fed i j k
+  pub later : d < i
+  pub same_skew : HaveSameSkew d e f i j k
+  pub blue_quiet : IsQuiet fed.blue d i
+  pub green_quiet : IsQuiet fed.green e j
+  pub red_quiet : IsQuiet fed.red f k
+
+-- an earlier alignment with another skew is doubted at the second of them, so it is let go there at the latest, without exception
+abbrev pub DoubtsAtSecond : Type 0
+DoubtsAtSecond =
+    (fed : Fed) (p q r d e f i j k : ℕ) → IsConfirmed fed p q r → AreTwoPeriods fed d e f i j k → p < d → q < e → r < f → (HaveSameSkew p q r d e f → ⊥)
+    → IsDoubted fed p q r i j k
+
+-- control words end near each other on all three lanes, in whatever phase
+abbrev pub EndTogether : Fed → (d e f : ℕ) → Type 0
+EndTogether fed d e f = AreTriple (EndsRun fed.blue) (EndsRun fed.green) (EndsRun fed.red) d e f
+
+-- Some end between two control periods: after the first on some lane, and before the second on each. They have the skew of the second.
+abbrev pub KeepSkewBetween : Fed → (d e f i j k : ℕ) → Type 0
+KeepSkewBetween fed d e f i j k =
+    (b g r : ℕ) → EndTogether fed b g r → (d < b) ⊎ ((e < g) ⊎ (f < r)) → b < i → g < j → r < k → HaveSameSkew b g r i j k
+
+-- two control periods of one skew whose guard bands are received whole; other control periods may end between them at this skew
+pub record AreOfOneSkew (fed : Fed) (d e f i j k : ℕ) : Type 0 where
+  pub first : IsWholePeriod fed d e f
+  pub second : IsWholePeriod fed i j k
+  pub later : d < i
+  pub same_skew : HaveSameSkew d e f i j k
+  pub between : KeepSkewBetween fed d e f i j k
+
+-- an earlier alignment with another skew is let go at the second of them
+abbrev pub LetsGoAtSecond : Type 0
+LetsGoAtSecond =
+    (fed : Fed) (p q r d e f i j k : ℕ) → IsConfirmed fed p q r → AreOfOneSkew fed d e f i j k → p < d → q < e → r < f → (HaveSameSkew p q r d e f → ⊥)
+    → IsLetGo fed p q r i j k
 
 -- Examples.
 
--- a tap, damage beside the end of a control period of which leaves its beginning spared
+-- a tap, damage beside the end of a control period of which leaves it to the next one to be spared
 pub record IsUndoubtedExample (ps : List Period) (sent received : List Column) (offset : ℕ) (skews counts : List ℕ) (x : Fed) (until i : ℕ) : Type 0 where
   pub reception : Received ps sent received offset skews counts x
   pub small : HasSmallSkew skews
   pub aligns : AlignsUntil ps sent received offset skews counts until
-  pub spared : EachIsSpared ps sent received until
+  pub spared : OneOfTwoIsSpared ps sent received until
   pub ends : EndsControl ps i
   pub late : until ≤ i + 1
   pub damaged : IsSpared sent received i → ⊥

@@ -4,4 +4,3 @@ pub mod Refuted
 pub mod RefutingLaws
 pub mod RefutingSettled
 pub mod Doubted
-pub mod WholePeriods

@@ -1,5 +1,5 @@
--- Where the epochs of lanes end whose alignment is let go where it is refuted or doubted: nowhere where no lane slips, and where one slips
--- once, where those of lanes do whose alignments are always used.
+-- Where the epochs of lanes end whose alignment is let go where it is refuted or doubted twice in a row: nowhere where no lane slips, and where one slips once,
+-- where those of lanes do whose alignments are always used.
 use Rattle.std.specs.Prelude.{◌≡◌, ◌⊎◌, ℕ, List}
 use Rattle.tmds_word.specs.Column.{Column}
 use Rattle.tmds_word.specs.Taps.{HasSmallSkew}
@@ -14,7 +14,7 @@ use Rattle.track_laws.specs.Laws.{Received, Slipped, SlipsInVideo, IsSlipExample
 use Rattle.relock_sink.specs.Relocks.{IsUnconfirmedEnd}
 use Rattle.relock_sink.specs.Rivals.{IsRefuted}
 use Rattle.relock_sink.specs.Refuting.{IsSlipFirst, IsRefutedEnd, IsLastUnrefuted, refuting_rule}
-use Rattle.relock_laws.specs.Doubted.{EachIsSpared}
+use Rattle.relock_laws.specs.Doubted.{OneOfTwoIsSpared}
 
 -- Ends of epochs.
 
@@ -39,11 +39,11 @@ PayloadIsLastUnrefuted =
     → IsSparseInPayload ps sent received → HasSmallSkew skews → IsLastUnrefuted x
 
 -- so they have where damage is sparse, wherever it lies, and spares control and guard words until a column that each of them has, and
--- from there on the beginning or the end of each control period
+-- from there on one of any two control periods in a row
 abbrev pub UntilIsLastUnrefuted : Type 0
 UntilIsLastUnrefuted =
     (ps : List Period) (sent received : List Column) (offset : ℕ) (skews counts : List ℕ) (x : Fed) → Received ps sent received offset skews counts x
-    → HasSmallSkew skews → (until : ℕ) → AlignsUntil ps sent received offset skews counts until → EachIsSpared ps sent received until
+    → HasSmallSkew skews → (until : ℕ) → AlignsUntil ps sent received offset skews counts until → OneOfTwoIsSpared ps sent received until
     → IsLastUnrefuted x
 
 -- Where one lane slips once.

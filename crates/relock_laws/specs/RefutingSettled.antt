@@ -1,5 +1,5 @@
 -- Whatever came before: how lanes are aligned from a good control period on whose guard band is received whole, where alignments are
--- let go where they are refuted or doubted.
+-- let go where they are refuted or doubted twice in a row.
 use Rattle.std.specs.Prelude.{◌≡◌, ◌⊎◌, ℕ, ◌+◌, ◌-◌, ◌*◌, ◌<◌, ◌≤◌, max, min, true, List, ◌++◌, length, drop}
 use Rattle.tmds_word.specs.Column.{Column}
 use Rattle.lane_deskew.specs.Triples.{IsFirst}
@@ -19,7 +19,7 @@ use Rattle.relock_sink.specs.Refuting.{IsSlipFirst, IsLastUnrefuted, refuting_ru
 use Rattle.relock_laws.specs.Settled.{IsGoodPeriod, IsCalmFrom, IsAgain}
 use Rattle.relock_laws.specs.Refuted.{GoesOn, OpensAt}
 use Rattle.relock_laws.specs.RefutingLaws.{EndsBy}
-use Rattle.relock_laws.specs.Doubted.{EachIsSpared, IsWholeRun}
+use Rattle.relock_laws.specs.Doubted.{OneOfTwoIsSpared, KeepSkewBetween}
 
 -- the places of a capture at which its epochs begin, which end by a rule
 pub data IsStartBy (r : EpochRule) : Fed → ℕ → Type 0 where
@@ -76,13 +76,13 @@ SettledHasSkew =
     → (start p q r : ℕ) → IsSettledBy refuting_rule fed d e f start p q r
     → HasNoEnd (rest_of start fed) × (HaveSameSkew p q r d e f ⊎ OpensThere fed d e f start p q r)
 
--- a tap of columns received with sparse damage, wherever it lies, that spares the beginning or the end of each control period from
--- there on, after any bits: each such epoch that has the skew of the good control period is the last where it is aligned there, or the guard band
+-- a tap of columns received with sparse damage, wherever it lies, that spares one of any two control periods in a row from there on,
+-- after any bits: each such epoch that has the skew of the good control period is the last where it is aligned there, or the guard band
 -- there is received whole
 abbrev pub SameSkewIsLast : Type 0
 SameSkewIsLast =
     (ps : List Period) (sent received : List Column) (offset : ℕ) (skews counts : List ℕ) (x fed : Fed) (before : List ℕ) (a d e f : ℕ)
-    → IsAgain ps sent received offset skews counts x fed before a d e f → EachIsSpared ps sent received (a + 12)
+    → IsAgain ps sent received offset skews counts x fed before a d e f → OneOfTwoIsSpared ps sent received (a + 12)
     → (start p q r : ℕ) → IsSettledBy refuting_rule fed d e f start p q r → HaveSameSkew p q r d e f → (start + p ≡ d) ⊎ IsWholeGoodPeriod fed d e f
     → IsLastUnrefuted (rest_of start fed)
 
@@ -111,7 +111,7 @@ SameSkewIsAccounted =
 abbrev pub RecoversUnrefuted : Type 0
 RecoversUnrefuted =
     (ps : List Period) (sent received : List Column) (offset : ℕ) (skews counts : List ℕ) (x fed : Fed) (before : List ℕ) (a d e f : ℕ)
-    → IsAgain ps sent received offset skews counts x fed before a d e f → IsWholeGoodPeriod fed d e f → EachIsSpared ps sent received (a + 12)
+    → IsAgain ps sent received offset skews counts x fed before a d e f → IsWholeGoodPeriod fed d e f → OneOfTwoIsSpared ps sent received (a + 12)
     → (start : ℕ) × IsStartBy refuting_rule fed start
     × ((p q r : ℕ) × IsSettledBy refuting_rule fed d e f start p q r
     × ((HaveSameSkew p q r d e f × IsLastUnrefuted (rest_of start fed)) ⊎ OpensThere fed d e f start p q r)
@@ -121,47 +121,51 @@ RecoversUnrefuted =
 abbrev pub HasWholeExample : Type 0
 HasWholeExample =
     (ps : List Period) × (sent received : List Column) × (offset : ℕ) × (skews counts : List ℕ) × (x fed : Fed) × (before : List ℕ) × (a d e f place : ℕ)
-    × IsAgain ps sent received offset skews counts x fed before a d e f × IsWholeGoodPeriod fed d e f × EachIsSpared ps sent received (a + 12)
+    × IsAgain ps sent received offset skews counts x fed before a d e f × IsWholeGoodPeriod fed d e f × OneOfTwoIsSpared ps sent received (a + 12)
     × EndsBy refuting_rule fed place
 
--- A control period that is received whole from three characters before it on.
+-- Two good control periods of one skew, one after the other.
 
-pub record IsWholeGoodFrom (fed : Fed) (d e f n : ℕ) : Type 0 where
-  pub good : IsWholeGoodPeriod fed d e f
-  pub blue : IsWholeRun fed.blue d n
-  pub green : IsWholeRun fed.green e n
-  pub red : IsWholeRun fed.red f n
+-- they have one skew, and their guard bands are received whole; where control words end near each other on all lanes between them, it
+-- is at this skew; what else the lanes have is free
+pub record AreTwoGood (fed : Fed) (d e f i j k : ℕ) : Type 0 where
+  pub first : IsWholeGoodPeriod fed d e f
+  pub second : IsWholeGoodPeriod fed i j k
+  pub later : d < i
+  pub same_skew : HaveSameSkew d e f i j k
+  pub between : KeepSkewBetween fed d e f i j k
 
--- an epoch has its last twelve characters, and has its skew, whatever opens by another one; or it ends there at a stray
-abbrev pub SettlesAtWhole : Type 0
-SettlesAtWhole =
-    (fed : Fed) (d e f n : ℕ) → IsWholeGoodFrom fed d e f n
+-- an epoch has the last twelve characters of the second, and its alignment has their skew, whatever opens by another one; or it ends
+-- there at a stray
+abbrev pub SettlesAtSecond : Type 0
+SettlesAtSecond =
+    (fed : Fed) (d e f i j k : ℕ) → AreTwoGood fed d e f i j k
     → (start : ℕ) × IsStartBy refuting_rule fed start
-    × ((p q r : ℕ) × IsSettledBy refuting_rule fed d e f start p q r × (HaveSameSkew p q r d e f ⊎ SlipsThere fed d e f start))
+    × ((p q r : ℕ) × IsSettledBy refuting_rule fed i j k start p q r × (HaveSameSkew p q r i j k ⊎ SlipsThere fed i j k start))
 
--- where the lanes have few damaged characters from there on, each such epoch has no stray: it has its skew
-abbrev pub WholeHasSkew : Type 0
-WholeHasSkew =
-    (fed : Fed) (d e f n : ℕ) → IsWholeGoodFrom fed d e f n → IsCalmFrom fed.blue d → IsCalmFrom fed.green e → IsCalmFrom fed.red f
-    → (start p q r : ℕ) → IsSettledBy refuting_rule fed d e f start p q r → HasNoEnd (rest_of start fed) × HaveSameSkew p q r d e f
+-- where the lanes have few damaged characters from the second on, each such epoch has no stray: it has their skew
+abbrev pub SecondHasSkew : Type 0
+SecondHasSkew =
+    (fed : Fed) (d e f i j k : ℕ) → AreTwoGood fed d e f i j k → IsCalmFrom fed.blue i → IsCalmFrom fed.green j → IsCalmFrom fed.red k
+    → (start p q r : ℕ) → IsSettledBy refuting_rule fed i j k start p q r → HasNoEnd (rest_of start fed) × HaveSameSkew p q r i j k
 
--- so of a tap of columns received with sparse damage, after any bits, there is such an epoch that is the last and has its skew
-abbrev pub RecoversAtWhole : Type 0
-RecoversAtWhole =
-    (ps : List Period) (sent received : List Column) (offset : ℕ) (skews counts : List ℕ) (x fed : Fed) (before : List ℕ) (a d e f n : ℕ)
-    → IsAgain ps sent received offset skews counts x fed before a d e f → IsWholeGoodFrom fed d e f n → EachIsSpared ps sent received (a + 12)
+-- so of a tap of columns received with sparse damage, after any bits, there is such an epoch that is the last and has their skew
+abbrev pub RecoversAtSecond : Type 0
+RecoversAtSecond =
+    (ps : List Period) (sent received : List Column) (offset : ℕ) (skews counts : List ℕ) (x fed : Fed) (before : List ℕ) (a d e f i j k : ℕ)
+    → IsAgain ps sent received offset skews counts x fed before a i j k → AreTwoGood fed d e f i j k → OneOfTwoIsSpared ps sent received (a + 12)
     → (start : ℕ) × IsStartBy refuting_rule fed start
-    × ((p q r : ℕ) × IsSettledBy refuting_rule fed d e f start p q r × HaveSameSkew p q r d e f × IsLastUnrefuted (rest_of start fed))
+    × ((p q r : ℕ) × IsSettledBy refuting_rule fed i j k start p q r × HaveSameSkew p q r i j k × IsLastUnrefuted (rest_of start fed))
 
--- there are lanes with such a control period, and before it an alignment of another skew that is confirmed
-abbrev pub HasSkewedExample : Type 0
-HasSkewedExample =
-    (fed : Fed) × (p q r d e f n : ℕ) × IsConfirmed fed p q r × IsWholeGoodFrom fed d e f n
+-- there are lanes with two such control periods, and before them an alignment of another skew that is confirmed
+abbrev pub HasSecondExample : Type 0
+HasSecondExample =
+    (fed : Fed) × (p q r d e f i j k : ℕ) × IsConfirmed fed p q r × AreTwoGood fed d e f i j k
     × (p < d) × (q < e) × (r < f) × (HaveSameSkew p q r d e f → ⊥)
 
--- there are such a tap and bits before it
-abbrev pub HasWholeFromExample : Type 0
-HasWholeFromExample =
-    (ps : List Period) × (sent received : List Column) × (offset : ℕ) × (skews counts : List ℕ) × (x fed : Fed) × (before : List ℕ) × (a d e f n : ℕ)
-    × IsAgain ps sent received offset skews counts x fed before a d e f × IsWholeGoodFrom fed d e f n × EachIsSpared ps sent received (a + 12)
+-- there are such a tap, bits before it in which the first of two such control periods ends, and the second one in the tap
+abbrev pub HasTwiceExample : Type 0
+HasTwiceExample =
+    (ps : List Period) × (sent received : List Column) × (offset : ℕ) × (skews counts : List ℕ) × (x fed : Fed) × (before : List ℕ) × (a d e f i j k : ℕ)
+    × IsAgain ps sent received offset skews counts x fed before a i j k × AreTwoGood fed d e f i j k × OneOfTwoIsSpared ps sent received (a + 12)
     × (length fed.blue + length fed.green + length fed.red < 4000)

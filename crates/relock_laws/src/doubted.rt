@@ -1,7 +1,7 @@
-//! When an alignment is doubted. Each law is over definitions alone.
-ghost use Rattle.relock_laws.specs.Doubted.{PayloadHasNoContender, SlipHasNoContender, UntilIsUndoubted, ClearHasNoContender, DoubtsAtWhole, HasUndoubtedExample};
+//! When an alignment is doubted twice in a row. Each law is over definitions alone.
+ghost use Rattle.relock_laws.specs.Doubted.{PayloadHasNoContender, SlipHasNoContender, UntilIsUndoubted, ClearHasNoContender, DoubtsAtSecond, LetsGoAtSecond, HasUndoubtedExample};
 
-/// By the alignment of a tap whose damage lies only in pixels and packets no control period ends in the midst of edges of another
+/// By the alignment of a tap whose damage lies in pixels and packets alone no control period ends in the midst of edges of another
 /// skew at which a guard band is received whole.
 pub fn payload_has_no_contender()
     ensures { PayloadHasNoContender }
@@ -13,7 +13,7 @@ pub fn slip_has_no_contender()
 {}
 
 /// Where damage is sparse, wherever it lies, spares control and guard characters until a column that each lane has, and from there on
-/// the beginning or the end of each control period, the alignment of a tap is not doubted.
+/// the end of one of any two control periods in a row, the alignment of a tap is not doubted twice in a row.
 pub fn until_is_undoubted()
     ensures { UntilIsUndoubted }
 {}
@@ -24,10 +24,15 @@ pub fn clear_has_no_contender()
     ensures { ClearHasNoContender }
 {}
 
-/// Each earlier alignment with another skew is doubted at a control period of nineteen characters that is received whole, from three
-/// characters before it to fifteen after it: it is dropped there at the latest.
-pub fn doubts_at_whole()
-    ensures { DoubtsAtWhole }
+/// Each earlier alignment with another skew is doubted at the second of two control periods in a row of nineteen characters whose
+/// guard bands are received whole, at one skew: it is let go there at the latest.
+pub fn doubts_at_second()
+    ensures { DoubtsAtSecond }
+{}
+
+/// It is let go there, too, if other control periods end between the two at their skew.
+pub fn lets_go_at_second()
+    ensures { LetsGoAtSecond }
 {}
 
 /// The premises can be met: a stream with a damaged pixel beside the end of a control period, and a tap of it.

@@ -2,15 +2,14 @@
 //!
 //! They are stated for `relock_rule`, and in `refuted` and `doubted` for the rule of `recover relock` (`refuting_rule`). An
 //! epoch has one end or none, which later bits do not change. A stream received with the damage of `track_headline` has one
-//! epoch by the first rule. It has one by the second too if damage after the alignment spares the beginning or the end of each
-//! control period. With one slip within a line the ends are those of `recover track`. The alignment of a tap is refuted by
-//! nothing, whatever sparse damage follows it, and not doubted if damage spares the beginning or the end of each. Whatever
-//! arrived before a good control period, some epoch is aligned there, or was earlier where a guard band followed. By
-//! `relock_rule` that epoch of a tap is the last, and reports the account if it is aligned there; by `refuting_rule` it does
-//! so where it has the skew of the period. A wrong earlier alignment is refuted at a whole good period unless something opens
-//! by it too, and doubted in any case at one that came whole from three characters before it on. By `relock_rule` only: if no
-//! lane has a stray, there is one epoch, whatever arrived after the alignment. There is no code here: each function is a law,
-//! and its contract states it.
+//! epoch by the first rule. It has one by the second too if damage after the alignment spares one of any two control periods in
+//! a row. With one slip within a line the ends are those of `recover track`. The alignment of a tap is refuted by nothing,
+//! whatever sparse damage follows it, and not doubted twice in a row if damage spares one of two. Whatever arrived before a
+//! good control period, some epoch is aligned there, or was earlier where a guard band followed. By `relock_rule` that epoch of
+//! a tap is the last, and reports the account if it is aligned there; by `refuting_rule` it does so under the premises of
+//! `relock_again`. A wrong earlier alignment is refuted at a whole good period unless something opens by it too, and doubted at
+//! the second of two in any case. By `relock_rule` only: if no lane has a stray, there is one epoch, whatever arrived after the
+//! alignment. There is no code here: each function is a law, and its contract states it.
 #![tactic(auto)]
 
 ghost use Rattle.relock_laws.specs.Laws.{PayloadIsLastEpoch, UntilIsLastEpoch, LocalIsLastEpoch, SlipIsConfirmed, SlipEnds, HasLastExample, HasSlipEndExample};
@@ -20,7 +19,7 @@ ghost use Rattle.relock_laws.specs.Settled.{EndsOrIsLast, OneEnd, SettlesAtPerio
 pub mod doubted;
 pub mod refuted;
 
-/// The lanes of a tap whose damage lies only in pixels and packets have one epoch.
+/// The lanes of a tap whose damage lies in pixels and packets alone have one epoch.
 pub fn payload_is_last_epoch()
     ensures { PayloadIsLastEpoch }
 {}
@@ -89,7 +88,7 @@ pub fn ends_open()
     ensures { EndsOpen }
 {}
 
-/// So the alignment of a tap is refuted by no other edges: where damage lies only in pixels and packets, and where it is sparse,
+/// So the alignment of a tap is refuted by no other edges: where damage lies in pixels and packets alone, and where it is sparse,
 /// wherever it lies, and spares control and guard characters until a column that each lane has.
 pub fn true_alignment_stands()
     ensures payload { PayloadStands }

@@ -1,15 +1,14 @@
-//! Where the epochs of three lanes end whose alignment is dropped too where it is refuted, or doubted.
+//! Where the epochs of three lanes end whose alignment is let go too where it is refuted, or doubted twice in a row.
 ghost use Rattle.relock_laws.specs.RefutingLaws.{PayloadIsLastUnrefuted, UntilIsLastUnrefuted, EndsOrIsUnrefuted, OneRefutingEnd, SlipStands, SlipEndsAlone, HasUnrefutedExample, HasSlipFirstExample};
-ghost use Rattle.relock_laws.specs.WholePeriods.{WholeComesWhole};
-ghost use Rattle.relock_laws.specs.RefutingSettled.{SettlesByRefuting, SettlesUnrefuted, SettledHasSkew, SameSkewIsLast, SameSkewIsAccounted, RecoversUnrefuted, HasWholeExample, SettlesAtWhole, WholeHasSkew, RecoversAtWhole, HasSkewedExample, HasWholeFromExample};
+ghost use Rattle.relock_laws.specs.RefutingSettled.{SettlesByRefuting, SettlesUnrefuted, SettledHasSkew, SameSkewIsLast, SameSkewIsAccounted, RecoversUnrefuted, HasWholeExample, SettlesAtSecond, SecondHasSkew, RecoversAtSecond, HasSecondExample, HasTwiceExample};
 
-/// The lanes of a tap whose damage lies only in pixels and packets have one epoch.
+/// The lanes of a tap whose damage lies in pixels and packets alone have one epoch.
 pub fn payload_is_last_unrefuted()
     ensures { PayloadIsLastUnrefuted }
 {}
 
 /// So have those of a tap whose damage is sparse, wherever it lies, and spares control and guard characters until a column
-/// that each of them has, and from there on the beginning or the end of each control period.
+/// that each of them has, and from there on one of any two control periods in a row.
 pub fn until_is_last_unrefuted()
     ensures { UntilIsLastUnrefuted }
 {}
@@ -55,8 +54,8 @@ pub fn settled_has_skew()
     ensures { SettledHasSkew }
 {}
 
-/// Of a tap of columns received with sparse damage that spares the beginning or the end of each control period from there on, after
-/// any bits, that epoch is the last where it has their skew; and what is reported of its columns from there on is the account.
+/// Of a tap of columns received with sparse damage that spares one of any two control periods in a row from there on, after any bits,
+/// that epoch is the last where it has their skew; and what is reported of its columns from there on is the account.
 pub fn same_skew_is_last()
     ensures last { SameSkewIsLast }
     ensures accounted { SameSkewIsAccounted }
@@ -74,32 +73,26 @@ pub fn whole_example()
     ensures { HasWholeExample }
 {}
 
-/// At a control period that is received whole, from three characters before it to fifteen after it, the alignment of that epoch has its
-/// skew, whatever opens by another one, or the epoch ends there at a stray; and it has none where few characters are damaged from there
-/// on.
-pub fn settles_at_whole()
-    ensures some { SettlesAtWhole }
-    ensures skew { WholeHasSkew }
+/// At the second of two such control periods of one skew the alignment of that epoch has their skew, whatever opens by
+/// another one, or the epoch ends there at a stray; and it has none where few characters are damaged from there on. Other control
+/// periods may end between them, at this skew.
+pub fn settles_at_second()
+    ensures some { SettlesAtSecond }
+    ensures skew { SecondHasSkew }
 {}
 
 /// So from there on the lanes of a tap of columns received with sparse damage have one epoch, and it has their skew.
-pub fn recovers_at_whole()
-    ensures { RecoversAtWhole }
+pub fn recovers_at_second()
+    ensures { RecoversAtSecond }
 {}
 
-/// The lanes of a tap have a control period so whose columns were received as they were sent: nineteen, the three before them and the
-/// fifteen after them.
-pub fn whole_comes_whole()
-    ensures { WholeComesWhole }
+/// The premise can be met: lanes with two such control periods, one of which gains a character before them, so that an
+/// earlier alignment, at which a period opens, has another skew.
+pub fn second_example()
+    ensures { HasSecondExample }
 {}
 
-/// The premise can be met: lanes with such a control period, one of which gains a character before it, so that an earlier alignment,
-/// at which a period opens, has another skew.
-pub fn skewed_example()
-    ensures { HasSkewedExample }
-{}
-
-/// So can those on a tap that comes after other bits.
-pub fn whole_from_example()
-    ensures { HasWholeFromExample }
+/// So can those on a tap that comes after other bits: the first of two such control periods ends in these.
+pub fn twice_example()
+    ensures { HasTwiceExample }
 {}

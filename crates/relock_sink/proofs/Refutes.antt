@@ -7,7 +7,7 @@ use Rattle.relock_sink.specs.Columns.{column_here, column_after}
 use Rattle.relock_sink.specs.Rivals.{is_guard_band, IsLaterBand, IsRival}
 use Rattle.relock_sink.specs.Judges.{IsBand, IsEnding, IsUnopened, column_third, AreLater, HaveOneSkew, columns_to, last_places, IsOwn, AreEdges}
 use Rattle.relock_sink.specs.Verdicts.{Says}
-use Rattle.relock_sink.specs.declared.rival.Verdict.TheVariants.{Nothing, Contended, Refuted}
+use Rattle.relock_sink.specs.declared.rival.Verdict.TheVariants.{Nothing, Upheld, Doubted, Refuted}
 use Rattle.relock_sink.proofs.Places.{aligned_is, far_edges, so_at_edges, so_here}
 
 module _ (fed : Fed) (own edges : List ℕ) (is_own : IsOwn fed own) (are_edges : AreEdges fed edges) where
@@ -62,19 +62,25 @@ module _ (fed : Fed) (own edges : List ℕ) (is_own : IsOwn fed own) (are_edges 
   -- Verdicts.
 
   pub not_later : (AreLater own edges → ⊥) → Says Nothing fed own edges
-  not_later none = λ is. none (is.later.blue_later, is.later.green_later, is.later.red_later)
-
-  pub own_skew : HaveOneSkew own edges → Says Nothing fed own edges
-  own_skew same = λ is. is.other_skew same
+  not_later none = (
+    λ is. none (is.later.blue_later, is.later.green_later, is.later.red_later),
+    λ is. none (is.later.blue_later, is.later.green_later, is.later.red_later),
+  )
 
   pub no_band : (IsBand fed edges → ⊥) → Says Nothing fed own edges
-  no_band none = λ is. none (so_here fed edges are_edges is_guard_band true is.later.band)
+  no_band none = (
+    λ is. none (so_here fed edges are_edges is_guard_band true is.later.band),
+    λ is. none (so_here fed edges are_edges is_guard_band true is.later.band),
+  )
 
-  pub no_end : (IsEnding fed (last_places own edges) → ⊥) → Says Nothing fed own edges
-  no_end none = λ is. none (at_places AreEnding ending_kept is.period)
+  pub own_skew : AreLater own edges → HaveOneSkew own edges → IsBand fed edges → Says Upheld fed own edges
+  own_skew later same band = record { later = later_by later band; own_skew = same }
+
+  pub no_end : (HaveOneSkew own edges → ⊥) → (IsEnding fed (last_places own edges) → ⊥) → Says Nothing fed own edges
+  no_end apart none = (λ is. none (at_places AreEnding ending_kept is.period), λ is. apart is.own_skew)
 
   pub nothing_opens : AreLater own edges → (HaveOneSkew own edges → ⊥) → IsBand fed edges → IsUnopened fed (last_places own edges) → Says Refuted fed own edges
   nothing_opens later apart band is = rival_by AreUnopened unopened_kept later apart band is
 
-  pub something_opens : AreLater own edges → (HaveOneSkew own edges → ⊥) → IsBand fed edges → IsEnding fed (last_places own edges) → (IsUnopened fed (last_places own edges) → ⊥) → Says Contended fed own edges
+  pub something_opens : AreLater own edges → (HaveOneSkew own edges → ⊥) → IsBand fed edges → IsEnding fed (last_places own edges) → (IsUnopened fed (last_places own edges) → ⊥) → Says Doubted fed own edges
   something_opens later apart band ending opened = (rival_by AreEnding ending_kept later apart band ending, λ is. opened (at_places AreUnopened unopened_kept is.period))

@@ -1,10 +1,9 @@
 -- What is known of the edges for which an alignment is let go, as the search of alignments goes on.
-use Rattle.std.proofs.Common.{◌≡◌, ℕ, ◌+◌, ◌-◌, ◌<◌, ◌≤◌, max, true, List, slice_index, ◌∙◌, sym, subst, arith, inl, inr}
+use Rattle.std.proofs.Common.{◌≡◌, ℕ, ◌+◌, ◌-◌, ◌<◌, ◌≤◌, max, true, List, slice_index, Option, ◌∙◌, sym, subst, arith, inl, inr}
 use Rattle.std.proofs.lemmas.Bool.{cases_lt}
 use Rattle.lane_deskew.specs.Triples.{IsAlignment}
 use Rattle.lane_deskew.proofs.First.{one_first}
 use Rattle.alignment_search.specs.Alignments.{greatest, least, HasNoAlignment, IsNextAlignment}
-use Rattle.alignment_search.specs.Begins.{HaveBegun}
 use Rattle.alignment_search.specs.Searches.{HasSearched}
 use Rattle.alignment_search.specs.declared.finder.AlignmentFinder.{AlignmentFinder}
 use Rattle.alignment_search.proofs.Alignments.{same_greatest, next_is_first}
@@ -21,11 +20,12 @@ use Rattle.relock_sink.specs.Judges.{IsOwn, IsOpening, AreEdges}
 use Rattle.relock_sink.specs.RefutedDecided.{IsFirstRefuted, later_of}
 use Rattle.relock_sink.specs.Watches.{IsNever}
 use Rattle.relock_sink.specs.Watching.{never_so}
-use Rattle.relock_sink.specs.RivalSearches.{KnowsOwn, HasSoughtRivals, LetGoFor, IsKnownBefore, IsKnownAfter, IsRefutedBefore}
+use Rattle.relock_sink.specs.RivalSearches.{KnowsOwn, KnowsDoubt, HasSoughtRivals, LetGoFor, IsKnownBefore, IsKnownAfter, IsRefutedBefore}
 use Rattle.relock_sink.specs.declared.rivals.Own.{Own}
 use Rattle.relock_sink.specs.declared.rivals.Own.TheVariants.{Sought, Confirmed, Other}
 use Rattle.relock_sink.specs.declared.rivals.RivalSearch.{RivalSearch}
 use Rattle.relock_sink.proofs.Places.{far_edges, so_at_edges, so_here}
+use Rattle.relock_sink.proofs.Doubting.{doubt_until, doubt_past}
 
 -- what is said of lanes whose alignment is sought
 pub knows_by : (own : Own) (P Q : Type 0) (fed : Fed) → (P → Q) → KnowsOwn own P fed → KnowsOwn own Q fed
@@ -40,18 +40,20 @@ first_apart fed edges p q r first own later =
     let y = s.0 in
     omega arith
 
--- where no alignment is confirmed before edges, nothing is let go for them
-unconfirmed_after : (fed : Fed) (edges : List ℕ) (now : Own) → KnowsOwn now ⊥ fed → ((p q r : ℕ) → IsConfirmed fed p q r → p < slice_index edges 0 → ⊥) → IsKnownAfter now fed edges
-unconfirmed_after fed edges now own none = record {
+-- where no alignment is confirmed before edges, nothing is let go for them, nor is any doubted
+unconfirmed_after : (fed : Fed) (edges : List ℕ) (before now : Own) (doubt : Option (List ℕ)) → IsKnownBefore before doubt fed edges → KnowsOwn now ⊥ fed → ((p q r : ℕ) → IsConfirmed fed p q r → p < slice_index edges 0 → ⊥)
+    → IsKnownAfter now doubt fed edges
+unconfirmed_after fed edges before now doubt known own none = record {
   own = own;
+  doubt = doubt_past fed edges known.triple (λ p q r is. none p q r is.later.own is.later.blue_later) (λ p q r is. none p q r is.later.own is.later.blue_later) doubt known.doubt;
   stands = λ given. let l = later_of fed given.0 given.1 given.2 (slice_index edges 0) (slice_index edges 1) (slice_index edges 2) given.3 in none given.0 given.1 given.2 l.own l.blue_later;
 }
 
-pub first_after : (fed : Fed) (edges : List ℕ) (now : Own) → IsAlignment fed.blue fed.green fed.red edges → KnowsOwn now ⊥ fed → IsKnownAfter now fed edges
-first_after fed edges now first own = unconfirmed_after fed edges now own (λ p q r is later. first_apart fed edges p q r first is later)
+pub first_after : (fed : Fed) (edges : List ℕ) (now : Own) (doubt : Option (List ℕ)) → IsKnownBefore Sought doubt fed edges → KnowsOwn now ⊥ fed → IsKnownAfter now doubt fed edges
+first_after fed edges now doubt known own = unconfirmed_after fed edges Sought now doubt known own (λ p q r is later. first_apart fed edges p q r known.own is later)
 
-pub never_after : (fed : Fed) (edges : List ℕ) → IsNever true fed → IsKnownAfter Other fed edges
-never_after fed edges never = unconfirmed_after fed edges Other never (λ p q r is later. never_so true fed p q r never is)
+pub never_after : (fed : Fed) (edges : List ℕ) (doubt : Option (List ℕ)) → IsKnownBefore Other doubt fed edges → IsKnownAfter Other doubt fed edges
+never_after fed edges doubt known = unconfirmed_after fed edges Other Other doubt known known.own (λ p q r is later. never_so true fed p q r known.own is)
 
 -- the search of alignments stays so, whatever follows
 pub whatever : (finder : AlignmentFinder) (fed : Fed) → finder.limit + 9 ≤ most_of fed → HasSearched finder fed.blue fed.green fed.red
@@ -71,8 +73,13 @@ module _ (was : RivalSearch) (fed : Fed) (edges : List ℕ) (sought : HasSoughtR
       knows_by was.own (was.alignments.past ≡ 0) (IsAlignment fed.blue fed.green fed.red edges) fed
       (λ none. (next_is_first fed.blue fed.green fed.red edges).0 (subst (λ n. IsNextAlignment fed.blue fed.green fed.red n edges) none next)) sought.own
 
-  pub known_at : (now : AlignmentFinder) → HaveBegun now fed.blue fed.green fed.red edges → greatest edges + 90 ≤ most_of fed → IsKnownBefore was.own now fed edges
-  known_at now begun long = record { triple = next.triple; own = own_at; begun = begun; shown = long }
+  pub known_at : was.alignments.limit ≤ greatest edges → greatest edges + 90 ≤ most_of fed → IsKnownBefore was.own was.doubt fed edges
+  known_at more long = record {
+    triple = next.triple;
+    own = own_at;
+    doubt = doubt_until fed was.alignments.limit (greatest edges) was.alignments.past next.least more (searched_here was fed sought).within was.doubt sought.doubt;
+    shown = long;
+  }
 
   -- the epoch's alignment is not let go for edges before it
   none_before : (p q r d e f : ℕ) → IsLetGo fed p q r d e f → greatest edges ≤ max d (max e f)
@@ -86,7 +93,7 @@ module _ (was : RivalSearch) (fed : Fed) (edges : List ℕ) (sought : HasSoughtR
   first_refuted long given = record { refuted = given.3; shown = omega arith; least = none_before }
 
   -- nor for these
-  pub next_sought : (now : RivalSearch) → greatest edges + 90 ≤ most_of fed → now.alignments.limit ≡ greatest edges + 1 → HasSearched now.alignments fed.blue fed.green fed.red → IsKnownAfter now.own fed edges
+  pub next_sought : (now : RivalSearch) → greatest edges + 90 ≤ most_of fed → now.alignments.limit ≡ greatest edges + 1 → HasSearched now.alignments fed.blue fed.green fed.red → IsKnownAfter now.own now.doubt fed edges
       → HasSoughtRivals now fed
   next_sought now long at searched after = record {
     searched = whatever now.alignments fed (omega arith) searched;
@@ -106,13 +113,14 @@ module _ (was : RivalSearch) (fed : Fed) (edges : List ℕ) (sought : HasSoughtR
                     (subst (λ i. IsLetGo fed p q r d i (slice_index edges 2)) s.1 (subst (λ i. IsLetGo fed p q r d e i) s.2 is)),
               ))
         ];
+    doubt = subst (λ n. KnowsDoubt now.doubt fed n) (sym at) after.doubt;
     decided = inr (omega arith);
   }
 
 -- there is no further alignment before a limit
 pub none_sought : (was now : RivalSearch) (fed : Fed) (limit : ℕ) → HasSoughtRivals was fed → HasNoAlignment fed.blue fed.green fed.red was.alignments.past limit → HasSearched now.alignments fed.blue fed.green fed.red
-    → now.alignments.limit ≡ limit → now.alignments.past ≡ was.alignments.past → was.alignments.limit ≤ limit → now.own ≡ was.own → limit + 89 ≤ most_of fed → HasSoughtRivals now fed
-none_sought was now fed limit sought none searched at past more own long = record {
+    → now.alignments.limit ≡ limit → now.alignments.past ≡ was.alignments.past → was.alignments.limit ≤ limit → now.own ≡ was.own → now.doubt ≡ was.doubt → limit + 89 ≤ most_of fed → HasSoughtRivals now fed
+none_sought was now fed limit sought none searched at past more own doubt long = record {
   searched = whatever now.alignments fed (omega arith) searched;
   own = subst (λ (o : Own). KnowsOwn o (now.alignments.past ≡ 0) fed) (sym own)
       (knows_by was.own (was.alignments.past ≡ 0) (now.alignments.past ≡ 0) fed (λ e. past ∙ e) sought.own);
@@ -122,6 +130,8 @@ none_sought was now fed limit sought none searched at past more own long = recor
       let triple = (later_of fed p q r d e f is).triple in
       let h = none d e f triple (omega arith) in
       omega arith;
+  doubt = subst (λ n. KnowsDoubt now.doubt fed n) (sym at) (subst (λ (o : Option (List ℕ)). KnowsDoubt o fed limit) (sym doubt)
+      (doubt_until fed was.alignments.limit limit was.alignments.past none more (searched_here was fed sought).within was.doubt sought.doubt));
   decided = inr (omega arith);
 }
 

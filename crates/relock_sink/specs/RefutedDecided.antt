@@ -1,5 +1,5 @@
 -- Whether an alignment is let go for what bits that have arrived show, and for which edges first.
-use Rattle.std.proofs.Common.{◌≡◌, ◌⊎◌, ℕ, suc, ◌+◌, ◌-◌, ◌*◌, ◌%◌, ◌<◌, ◌≤◌, max, Bool, true, false, List, Option, Some, None, refl, subst, arith, inl, inr}
+use Rattle.std.proofs.Common.{◌≡◌, ◌⊎◌, ℕ, suc, ◌+◌, ◌-◌, ◌%◌, ◌<◌, ◌≤◌, max, Bool, true, false, List, Option, Some, None, refl, subst, arith, inl, inr}
 use mathlib.Core.Logic.Dec.{and as both}
 use native.Mathlib.Decide.{map_dec, ℕ_discrete, dec_le}
 use Rattle.std.proofs.Math.Decide.{dec_lt}
@@ -11,21 +11,19 @@ use Rattle.tmds_word.specs.Taps.{AreNear}
 use Rattle.terc4.specs.Tables.{is_control}
 use Rattle.terc4.specs.Columns.{is_control_column}
 use Rattle.period_grammar.specs.Heard.{Kind, video, island, neither, opened}
-use Rattle.lane_align.specs.Lanes.{HasControl, IsLock, IsEdge}
+use Rattle.lane_align.specs.Lanes.{IsLock, IsEdge}
 use Rattle.lane_align.proofs.Controls.{one_lock}
-use Rattle.lane_edges.specs.Begins.{IsBegin, IsBeginOf}
 use Rattle.lane_deskew.specs.Triples.{IsTriple}
-use Rattle.alignment_search.specs.Begins.{BeginsSo}
 use Rattle.lane_deskew.specs.Aligned.{aligned_column}
 use Rattle.lane_deskew.proofs.First.{one_first}
 use Rattle.link_sink.specs.Sinks.{Fed}
 use Rattle.link_sink.proofs.Decided.{IsLeast, least_or_none, lock_of_run}
 use Rattle.track_sink.specs.Epochs.{most_of}
-use Rattle.track_sink.specs.Ends.{control_decided, run_decided}
+use Rattle.track_sink.specs.Ends.{run_decided}
 use Rattle.relock_sink.specs.Bands.{OfThree, AreEnding, AreUnopened}
 use Rattle.relock_sink.specs.Ends.{so_decided, first_so_decided}
 use Rattle.relock_sink.specs.Rivals.{is_guard_band, columns_before, HaveSameSkew, IsConfirmed, IsLaterBand, IsRival}
-use Rattle.relock_sink.specs.Doubts.{IsContender, IsDoubted, IsLetGo}
+use Rattle.relock_sink.specs.Doubts.{IsContender, IsUpheld, AreInRow, IsDoubted, IsLetGo}
 use Rattle.relock_sink.specs.Refuting.{refuted_at}
 
 -- one below a bound, or none
@@ -68,6 +66,20 @@ three_below P n decided =
     some_below (λ e. (f : ℕ) × (f < n) × P d e f) n (λ e.
     some_below (λ f. P d e f) n (λ f. decided d e f))))
 
+-- of those of a kind none has its greatest past a place and before another
+abbrev HasNoneBetween : (ℕ → ℕ → ℕ → Type 0) → ℕ → ℕ → Type 0
+HasNoneBetween P from to = (i j k : ℕ) → P i j k → max i (max j k) < to → max i (max j k) ≤ from
+
+none_between : (P : ℕ → ℕ → ℕ → Type 0) (from to : ℕ) → ((i j k : ℕ) → Dec (P i j k)) → Dec (HasNoneBetween P from to)
+none_between P from to decided =
+    map_dec
+    (λ none i j k here less. elim (cases_lt from (max i (max j k))) [
+      | inl past ↦ absurd (none (record { d = i; e = j; f = k; within = less; here = (here, past) }))
+      | inr not ↦ not
+    ])
+    (λ none some. let past = some.here.1 in let not = none some.d some.e some.f some.here.0 some.within in omega arith)
+    (not_so (three_below (λ i j k. P i j k × (from < max i (max j k))) to (λ i j k. both (decided i j k) (dec_lt from (max i (max j k))))))
+
 -- Edges of lanes.
 
 -- a whole window that is no control word
@@ -107,48 +119,6 @@ near_decided d e = both (dec_le d (e + 70)) (dec_le e (d + 70))
 
 triple_decided : (xs ys zs : List Bool) (d e f : ℕ) → Dec (IsTriple xs ys zs d e f)
 triple_decided xs ys zs d e f = grind (arith, edge_decided, near_decided)
-
--- Where control periods begin.
-
-begin_decided : (xs : List Bool) (lock q : ℕ) → IsLock xs lock → Dec (IsBegin xs q)
-begin_decided xs lock q is_lock =
-    map_dec
-    (λ h. record {
-      lock = lock;
-      is_lock = is_lock;
-      past = h.0;
-      aligned = h.1.0;
-      control = h.1.1.0;
-      others = λ k lt has. h.1.1.1 (k, lt, has);
-    })
-    (λ h. let same = one_lock xs h.lock lock h.is_lock is_lock in (
-      subst (λ p. p + 150 ≤ q) same h.past,
-      (subst (λ p. q % 10 ≡ p % 10) same h.aligned, (h.control, λ some. h.others some.0 some.1 some.2)),
-    ))
-    (both (dec_le (lock + 150) q) (both (ℕ_discrete (q % 10) (lock % 10)) (both (control_decided xs q)
-    (not_so (some_below (λ k. HasControl xs (q - 10 - 10 * k)) 3 (λ k. control_decided xs (q - 10 - 10 * k)))))))
-
-begin_of_decided : (xs : List Bool) (lock e q : ℕ) → IsLock xs lock → Dec (IsBeginOf xs e q)
-begin_of_decided xs lock e q is_lock =
-    map_dec
-    (λ h. record {
-      begins = h.0;
-      before = h.1.0;
-      last = λ r other lt. elim (cases_lt q r) [
-        | inl past ↦ absurd (h.1.1 (r, lt, (other, past)))
-        | inr not ↦ not
-      ];
-    })
-    (λ h. (h.begins, (h.before, λ some. let not = h.last some.0 some.2.0 some.1 in let past = some.2.1 in omega arith)))
-    (both (begin_decided xs lock q is_lock) (both (dec_lt q e) (not_so (some_below (λ r. IsBegin xs r × (q < r)) e (λ r. both (begin_decided xs lock r is_lock) (dec_lt q r))))))
-
-begins_decided : (xs ys zs : List Bool) (d e f : ℕ) → IsTriple xs ys zs d e f → Dec (BeginsSo xs ys zs d e f)
-begins_decided xs ys zs d e f t =
-    map_dec (λ h. record { bits = h.0; blue = h.2.0; green = h.2.1.0; red = h.2.1.1 })
-    (λ h. let past = h.blue.begins.past in let before = h.blue.before in (h.bits, omega arith, (h.blue, (h.green, h.red))))
-    (some_below (λ n. IsBeginOf xs d (d - n) × (IsBeginOf ys e (e - n) × IsBeginOf zs f (f - n))) d (λ n.
-    both (begin_of_decided xs t.blue.lock d (d - n) t.blue.is_lock)
-    (both (begin_of_decided ys t.green.lock e (e - n) t.green.is_lock) (begin_of_decided zs t.red.lock f (f - n) t.red.is_lock))))
 
 -- Columns.
 
@@ -198,11 +168,32 @@ module _ (fed : Fed) (p q r : ℕ) (own : IsConfirmed fed p q r) where
   contender_decided : (d e f : ℕ) → Dec (IsContender fed p q r d e f)
   contender_decided d e f = rival_decided AreEnding ending_decided d e f
 
+  upheld_decided : (d e f : ℕ) → Dec (IsUpheld fed p q r d e f)
+  upheld_decided d e f =
+      map_dec (λ h. record { later = h.0; own_skew = h.1 }) (λ h. (h.later, h.own_skew)) (both (later_decided d e f) (skew_decided p q r d e f))
+
+  row_decided : (from to : ℕ) → Dec (AreInRow fed p q r from to)
+  row_decided from to =
+      map_dec (λ h. record { before = h.0; unopposed = h.1.0; unupheld = h.1.1 }) (λ h. (h.before, (h.unopposed, h.unupheld)))
+      (both (dec_lt from to)
+      (both (none_between (λ i j k. IsContender fed p q r i j k) from to contender_decided) (none_between (λ i j k. IsUpheld fed p q r i j k) from to upheld_decided)))
+
   doubted_decided : (d e f : ℕ) → Dec (IsDoubted fed p q r d e f)
-  doubted_decided d e f = elim (contender_decided d e f) [
-    | no none ↦ no (λ h. none h.contender)
-    | yes contender ↦ map_dec (λ h. record { contender = contender; begins = h }) (λ h. h.begins) (begins_decided fed.blue fed.green fed.red d e f contender.later.triple)
-  ]
+  doubted_decided d e f =
+      map_dec
+      (λ h. record {
+        contender = h.0;
+        blue = h.1.d;
+        green = h.1.e;
+        red = h.1.f;
+        earlier = h.1.here.0;
+        row = h.1.here.1.0;
+        same_skew = h.1.here.1.1;
+      })
+      (λ h. (h.contender, record { d = h.blue; e = h.green; f = h.red; within = h.row.before; here = (h.earlier, (h.row, h.same_skew)) }))
+      (both (contender_decided d e f)
+      (three_below (λ i j k. IsContender fed p q r i j k × (AreInRow fed p q r (max i (max j k)) (max d (max e f)) × HaveSameSkew i j k d e f)) (max d (max e f)) (λ i j k.
+      both (contender_decided i j k) (both (row_decided (max i (max j k)) (max d (max e f))) (skew_decided i j k d e f)))))
 
   pub let_go_decided : (d e f : ℕ) → Dec (IsLetGo fed p q r d e f)
   let_go_decided d e f = either (rival_decided AreUnopened unopened_decided d e f) (doubted_decided d e f)

@@ -2,16 +2,14 @@
 use Rattle.std.proofs.Common.{◌⊎◌, ℕ, ◌+◌, ◌-◌, ◌*◌, ◌/◌, ◌<◌, ◌≤◌, max, true, arith, inl, inr}
 use Rattle.std.proofs.lemmas.Bool.{cases_lt}
 use Rattle.tmds_word.specs.Taps.{AreNear}
-use Rattle.lane_align.proofs.Edges.{edge_within}
 use Rattle.lane_deskew.specs.Triples.{IsTriple}
-use Rattle.alignment_search.proofs.Beginning.{begins_stay, begins_were}
 use Rattle.link_sink.specs.Sinks.{Fed}
 use Rattle.track_sink.specs.Epochs.{most_of}
 use Rattle.track_sink.specs.Tracks.{Grows}
 use Rattle.relock_sink.specs.Bands.{OfThree, AreEnding, AreUnopened, IsKept, ending_kept, unopened_kept}
 use Rattle.relock_sink.specs.Growing.{triple_stays, triple_was, edges_stay, edges_were, columns_stay, columns_were, first_so_stays, first_so_was}
 use Rattle.relock_sink.specs.Rivals.{is_guard_band, IsLaterBand, IsRival, middle, columns_before}
-use Rattle.relock_sink.specs.Doubts.{IsContender, IsDoubted, IsLetGo}
+use Rattle.relock_sink.specs.Doubts.{IsContender, IsUpheld, AreInRow, IsDoubted, IsLetGo}
 use Rattle.relock_sink.specs.Refuting.{refuted_at}
 
 -- Where the columns are that an alignment has at later edges.
@@ -106,26 +104,53 @@ module _ (before now : Fed) (grows : Grows before now) (p q r d e f : ℕ) where
   pub contender_was : refuted_at d e f ≤ most_of before → IsContender now p q r d e f → IsContender before p q r d e f
   contender_was shown is = rival_was AreEnding ending_kept shown is
 
+  -- edges that uphold it
+  pub upheld_stays : IsUpheld before p q r d e f → IsUpheld now p q r d e f
+  upheld_stays was = record { later = later_stays was.later; own_skew = was.own_skew }
+
+  pub upheld_was : max d (max e f) + 20 ≤ most_of before → IsUpheld now p q r d e f → IsUpheld before p q r d e f
+  upheld_was shown is = record { later = later_was shown is.later; own_skew = is.own_skew }
+
+-- What lies between two contenders.
+
+module _ (before now : Fed) (grows : Grows before now) (p q r from to : ℕ) where
+  pub row_stays : to + 89 ≤ most_of before → AreInRow before p q r from to → AreInRow now p q r from to
+  row_stays shown row = record {
+    before = row.before;
+    unopposed = λ i j k is less. row.unopposed i j k (contender_was before now grows p q r i j k (omega arith) is) less;
+    unupheld = λ i j k is less. row.unupheld i j k (upheld_was before now grows p q r i j k (omega arith) is) less;
+  }
+
+  row_was : AreInRow now p q r from to → AreInRow before p q r from to
+  row_was row = record {
+    before = row.before;
+    unopposed = λ i j k was less. row.unopposed i j k (contender_stays before now grows p q r i j k was) less;
+    unupheld = λ i j k was less. row.unupheld i j k (upheld_stays before now grows p q r i j k was) less;
+  }
+
 module _ (before now : Fed) (grows : Grows before now) (p q r d e f : ℕ) (shown : refuted_at d e f ≤ most_of before) where
   doubted_stays : IsDoubted before p q r d e f → IsDoubted now p q r d e f
-  doubted_stays was =
-      let t = was.contender.later.triple in
-      record {
-        contender = contender_stays before now grows p q r d e f was.contender;
-        begins = begins_stay before.blue before.green before.red now.blue now.green now.red (grows 0 (omega arith)).0 (grows 1 (omega arith)).0 (grows 2 (omega arith)).0
-            (grows 0 (omega arith)).1 (grows 1 (omega arith)).1 (grows 2 (omega arith)).1 d e f
-            (edge_within before.blue d t.blue) (edge_within before.green e t.green) (edge_within before.red f t.red) was.begins;
-      }
+  doubted_stays was = record {
+    contender = contender_stays before now grows p q r d e f was.contender;
+    blue = was.blue;
+    green = was.green;
+    red = was.red;
+    earlier = contender_stays before now grows p q r was.blue was.green was.red was.earlier;
+    row = row_stays before now grows p q r (max was.blue (max was.green was.red)) (max d (max e f)) (omega arith) was.row;
+    same_skew = was.same_skew;
+  }
 
   doubted_was : IsDoubted now p q r d e f → IsDoubted before p q r d e f
   doubted_was is =
-      let contender = contender_was before now grows p q r d e f shown is.contender in
-      let t = contender.later.triple in
+      let less = is.row.before in
       record {
-        contender = contender;
-        begins = begins_were before.blue before.green before.red now.blue now.green now.red (grows 0 (omega arith)).0 (grows 1 (omega arith)).0 (grows 2 (omega arith)).0
-            (grows 0 (omega arith)).1 (grows 1 (omega arith)).1 (grows 2 (omega arith)).1 d e f
-            (edge_within before.blue d t.blue) (edge_within before.green e t.green) (edge_within before.red f t.red) is.begins;
+        contender = contender_was before now grows p q r d e f shown is.contender;
+        blue = is.blue;
+        green = is.green;
+        red = is.red;
+        earlier = contender_was before now grows p q r is.blue is.green is.red (omega arith) is.earlier;
+        row = row_was before now grows p q r (max is.blue (max is.green is.red)) (max d (max e f)) is.row;
+        same_skew = is.same_skew;
       }
 
   -- an alignment that is let go for what bits that have arrived show is so whatever follows

@@ -1,4 +1,4 @@
--- The end of an epoch whose alignment is let go where it is refuted or doubted: it has one or none, and what arrives
+-- The end of an epoch whose alignment is let go where it is refuted or doubted twice in a row: it has one or none, and what arrives
 -- later changes none.
 use Rattle.std.proofs.Common.{◌≡◌, ◌⊎◌, ℕ, ◌+◌, ◌-◌, ◌<◌, ◌≤◌, max, min, refl, arith, inl, inr}
 use Rattle.std.proofs.lemmas.Bool.{cases_lt}

@@ -1,4 +1,4 @@
-//! Bits that are borrowed on.
+//! Bits that are lent on.
 ghost use Rattle.std.specs.Prelude.{◌≡◌, ◌≤◌, ◌+◌, ◌^◌, ◌<◌, ◌-◌, ℕ, Bool, List, take};
 ghost use Rattle.link_sink.specs.Sinks.{Fed};
 ghost use Rattle.alignment_search.specs.Parts.{HasRoom as HasPartRoom, HaveRoom as HavePartRoom, IsPartOf, ArePartsOf};
@@ -23,7 +23,7 @@ pub(crate) fn front(lanes: LentLanes<'_>, until: u64) -> LentLanes<'_>
     }
 }
 
-/// This many bits of a lane, or all where there are fewer.
+/// So many bits of a lane, or all where there are fewer.
 fn front_of_lane(lane: LentBits<'_>, bits: u64) -> LentBits<'_>
     ensures { (xs : List Bool) (base : ℕ) → IsLent lane.entry base xs → IsLent result base (take (base + bits) xs) }
 {

@@ -19,5 +19,5 @@ pub use refuter::Refuter;
 pub use relock::Relock;
 use track_sink::EpochSink;
 
-/// Receives three lanes that may lose bits, and begins again where one lost some, or where their alignment is not confirmed.
+/// Hears three lanes that may lose bits, and begins anew where one lost some, or where their alignment is not confirmed.
 pub type RelockSink = EpochSink<Relock>;

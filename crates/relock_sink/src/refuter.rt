@@ -1,5 +1,5 @@
-//! The reasons for which an epoch ends: a stray of a lane, an alignment that is not confirmed, or one that is refuted or
-//! doubted.
+//! The reasons for which an epoch ends: a stray of a lane, an alignment that is not confirmed, or one that is refuted or doubted twice
+//! in a row.
 ghost use Rattle.std.specs.Prelude.{◌≡◌, ◌≤◌, ◌+◌, ◌-◌, ◌<◌, ◌^◌, None, MatchOption, IfSome};
 ghost use Rattle.link_sink.specs.Sinks.{Fed};
 ghost use Rattle.track_sink.specs.Epochs.{most_of};
@@ -26,7 +26,7 @@ const AHEAD: u64 = RUN_BITS as u64 - SHOWN;
 /// From the place at which a refuted alignment is left to the end of the bits that show it, at most.
 const BACK: u64 = 280;
 
-/// Looks for the first stray of three lanes, whether their first alignment is confirmed, and for edges for which it is dropped.
+/// Looks for the first stray of three lanes, whether their first alignment is confirmed, and for edges for which it is let go.
 #[derive(Clone, Copy)]
 pub struct Refuter {
     relock: Relock,
@@ -102,7 +102,7 @@ impl Refuter {
     }
 }
 
-/// Before which place edges are looked for, for which an alignment is dropped, once the bits before one were looked through for
+/// Before which place edges are looked for, for which an alignment is let go, once the bits before one were looked through for
 /// another end.
 fn limit_of(end: Option<End>, shown: u64) -> u64
     requires { IfSome end (λ found. found.place < 2 ^ 63) }

@@ -30,10 +30,12 @@ const TWO_WORDS: u64 = 20;
 /// What later edges say of the alignment in use.
 #[derive(Clone, Copy)]
 pub(crate) enum Verdict {
-    /// They have the alignment's skew, no guard band is received whole at them, or no control period ends there by the alignment.
+    /// No guard band is received whole at them, or no control period ends there by the alignment.
     Nothing,
-    /// A guard band is received whole at another skew, where a control period ends by the alignment too.
-    Contended,
+    /// One is, and they have the alignment's skew.
+    Upheld,
+    /// One is at another skew, where a control period ends by the alignment too.
+    Doubted,
     /// And no period opens after it.
     Refuted,
 }
@@ -74,8 +76,11 @@ pub(crate) fn verdict_at(lanes: LentLanes<'_>, own: [u64; 3], edges: [u64; 3]) -
     requires small { greatest edges < 2 ^ 60 }
     ensures { (fed : Fed) → AreLent lanes.entry fed → IsOwn fed own → AreEdges fed edges → Says result fed own edges }
 {
-    if !are_later(own, edges) || have_one_skew(own, edges) || !is_band(lanes, edges) {
+    if !are_later(own, edges) || !is_band(lanes, edges) {
         return Verdict::Nothing;
+    }
+    if have_one_skew(own, edges) {
+        return Verdict::Upheld;
     }
     let places = last_before(own, edges);
     if !is_ending(lanes, places) {
@@ -83,7 +88,7 @@ pub(crate) fn verdict_at(lanes: LentLanes<'_>, own: [u64; 3], edges: [u64; 3]) -
     } else if is_unopened(lanes, places) {
         Verdict::Refuted
     } else {
-        Verdict::Contended
+        Verdict::Doubted
     }
 }
 
@@ -95,7 +100,7 @@ fn are_later(own: [u64; 3], edges: [u64; 3]) -> bool
 }
 
 /// Whether between any two lanes the edges of two alignments are as far apart.
-fn have_one_skew(own: [u64; 3], edges: [u64; 3]) -> bool
+pub(crate) fn have_one_skew(own: [u64; 3], edges: [u64; 3]) -> bool
     requires small { greatest own < 2 ^ 60 }
     requires also_small { greatest edges < 2 ^ 60 }
     ensures { MatchBool result (HaveOneSkew own edges) (HaveOneSkew own edges → ⊥) }

@@ -16,7 +16,7 @@ use frame_build::laws::word_faults_change_nothing;
 use island_pack::PacketRef;
 use period_grammar::{EventRef, Fault};
 
-/// The counts of what was reported, without the other fault lines. Each count stops at
+/// All that is counted of what was reported, but for the other fault lines. Each count stands still at
 /// the greatest u64.
 #[derive(Drop)]
 pub(crate) struct Counter {
@@ -56,7 +56,7 @@ impl Counter {
         self.pictures.differ()
     }
 
-    /// Receives an event.
+    /// Hears an event.
     pub(crate) fn hear(&mut self, event: &EventRef<'_>)
         requires { IsSized (lent_event event.now) }
         ensures { (before : List Event) → Counted self.old before → Counted self.new (before ++ lent_event event.now ∷ []) }
@@ -135,7 +135,7 @@ fn sample_count(packet: PacketRef<'_>) -> u64
     }
 }
 
-/// A fault of one word does not separate lines of pixels; any other event does.
+/// A fault of one word parts no lines of pixels; any other event does.
 fn hear_fault(heard: &mut Frames, fault: Fault)
     ensures { (reported : List FrameEvent) → FramesRepresent heard.old reported → FramesRepresent heard.new (reported ++ frame_event_of (fault_event fault) ∷ []) }
 {

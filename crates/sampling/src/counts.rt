@@ -13,7 +13,7 @@ use outside_io::{Failed, Sink, write_all};
 /// Room for ten lines of a name of at most eight letters, a space, at most twenty digits and a line feed.
 type Text = ArrayVec<u8, 512>;
 
-/// What is counted of a content that was sent, damaged and recovered. Each count but `columns` stops at the
+/// What is counted of a content that was sent, damaged and recovered. Each count but `columns` stands still at the
 /// greatest u64.
 #[derive(Clone, Copy)]
 pub struct Counts {

@@ -46,7 +46,7 @@ fn columns_of(item: &Item) -> u32
     }
 }
 
-/// Appends the hits of an item that begins at a column, of a tap of this many columns.
+/// Appends the hits of an item that begins at a column, of a tap of so many columns.
 fn push_item(
     hits: &mut Vec<Hit>,
     item: &Item,
@@ -65,7 +65,7 @@ fn push_item(
     }
 }
 
-/// Appends the hits of this many packets of a data island that begins at a column.
+/// Appends the hits of so many packets of a data island that begins at a column.
 fn push_packets(
     hits: &mut Vec<Hit>,
     packets: u32,
@@ -96,7 +96,7 @@ fn push_hit(hits: &mut Vec<Hit>, hit: Option<Hit>) -> Result<(), NoMemory>
     Ok(())
 }
 
-/// The hit of a character that stands in place of that of a lane in a column, where a tap of this many columns takes its
+/// The hit of a character that stands in place of that of a lane in a column, where a tap of so many columns takes its
 /// ten bits.
 fn hit_at(lane: u8, column: u32, value: Word, tap: &Tap, columns: u32) -> Option<Hit>
     requires lane { lane < 3 }
@@ -117,7 +117,7 @@ fn hit_at(lane: u8, column: u32, value: Word, tap: &Tap, columns: u32) -> Option
     }
 }
 
-/// How many bits a tap of this many columns takes of a lane.
+/// How many bits a tap of so many columns takes of a lane.
 fn bits_of(lane: u8, tap: &Tap, columns: u32) -> u32
     requires lane { lane < 3 }
     requires few { columns ≤ COLUMN_LIMIT }

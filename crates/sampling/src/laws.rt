@@ -1,4 +1,4 @@
-//! Laws about the counts of the generator's content. The functions have no code: their contracts are the laws.
+//! What the counts say of the generator's content. The functions do nothing: what they ensure are the laws.
 ghost use Rattle.sampling.specs.CountLaws.{GeneratedInOrder, ReportedAfterFirst, ReportedBesideContent};
 
 /// The bytes of reported frames that are not the generator's are those that differ from the frames of its content after
@@ -7,8 +7,8 @@ pub fn reported_beside_content()
     ensures { ReportedBesideContent }
 {}
 
-/// Of what is reported of a raster from a column after the sync lines of its first frame on, the frames reported are those
-/// after the first, in order, where their sync lines are received: wherever sparse damage lies.
+/// Of what is heard of a raster from a column after the sync lines of its first frame on, the frames reported are those
+/// after the first, in order, where their sync lines are heard: wherever sparse damage lies.
 pub fn reported_after_first()
     ensures { ReportedAfterFirst }
 {}

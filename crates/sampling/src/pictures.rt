@@ -7,8 +7,8 @@ ghost use Rattle.listing_writer.specs.Listed.{Listed, row, frame};
 ghost use Rattle.sampling.specs.Counts.{unlike};
 ghost use Rattle.sampling.specs.Tallies.{Shows};
 
-/// How many bytes differ from the generator's, if the first frame that is reported is its frame 1. Both counts stop at
-/// the greatest u64. The generator's bytes repeat after 256 frames and after 256 rows.
+/// How many bytes differ from the generator's, where the first frame that is reported is its frame 1. Both counts stand
+/// still at the greatest u64. The generator's bytes repeat after 256 frames and after 256 rows.
 #[derive(Drop)]
 pub(crate) struct Pictures {
     /// In rows of reported frames.

@@ -31,7 +31,7 @@ impl<'a> Tally<'a> {
         }
     }
 
-    /// The counts, for this many columns.
+    /// The counts, for so many columns.
     pub fn counts(&self, columns: u64) -> Counts
         ensures { (reported : List Event) → Stands self.now reported → result ≡ counts_of columns reported }
     {
@@ -50,7 +50,7 @@ impl<'a> Tally<'a> {
         }
     }
 
-    /// The fault lines without a separate count.
+    /// The fault lines that have no count of their own.
     fn other(&self) -> u64
         ensures { result ≡ self.now.lister.faults - (self.now.counter.symbols + self.now.counter.mended + self.now.counter.code) }
     {
@@ -68,7 +68,7 @@ impl<'a> Ear for Tally<'a> {
 
     ghost faults = { λ _. 0 };
 
-    // The relation to all that was reported before extends to these events.
+    // What stood for all that was reported before stands for the events too.
     ghost took = { λ x y events. (reported : List Event) → Stands x reported → Stands y (reported ++ events) };
 
     // The columns of events are made nothing of.

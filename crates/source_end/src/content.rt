@@ -121,7 +121,7 @@ impl Content {
         Ok(())
     }
 
-    /// Appends a packet to the last frame, which exists; its sync values do not matter. After a
+    /// Appends a packet to the last frame, of which there is one; its sync values do not matter. After a
     /// refusal the content is as before.
     pub fn packet(&mut self, packet: Packet) -> Result<(), NoMemory>
         requires { 1 ≤ length self.old }
@@ -135,7 +135,7 @@ impl Content {
         }
     }
 
-    /// Appends a row to the last frame, which exists: red, green and blue of each pixel. After a
+    /// Appends a row to the last frame, of which there is one: red, green and blue of each pixel. After a
     /// refusal the content is as before.
     pub fn row(&mut self, bytes: &[u8]) -> Result<(), NoMemory>
         requires { 1 ≤ length self.old }

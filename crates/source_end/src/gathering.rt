@@ -164,7 +164,7 @@ impl Gathering {
         Ok(())
     }
 
-    /// Takes out the items that no later part can change. The control period that goes on stays.
+    /// Takes out the items, to whose periods no later part adds. The control period that goes on stays.
     pub fn take_items(&mut self) -> Vec<Item>
         ensures parted { (parts : List Part) → Has self.old parts → Parted (map period_of result.items) self.new parts }
         ensures all { result.items ≡ self.old.items.items }

@@ -1,4 +1,4 @@
-//! The content of the generator: frames of video format 1 with pictures and sound that follow from their place.
+//! The content of the generator: frames of video format 1 whose pictures and sound are determined by their place.
 ghost use Rattle.std.specs.Prelude.{◌≡◌, ◌+◌, ◌*◌, ◌<◌, ◌≤◌, ◌∷◌, [], length, replicate, OnOk, IfOk};
 ghost use Rattle.infoframe.specs.Written.{IsWritten};
 ghost use Rattle.source_end.specs.Generator.{row_byte, row_bytes, first_rows, sound_sample, sound_packet, first_sounds, picture_info, sound_info, clock_packet, IsGenerated, Adds};
@@ -13,7 +13,7 @@ use std::alloc::Global;
 /// How many packets of four samples a frame has.
 const SOUNDS: u32 = 200;
 
-/// A content of this many frames of video format 1, of at most 20: the byte of lane c (0 is blue) in pixel
+/// A content of so many frames of video format 1, of at most 20: the byte of lane c (0 is blue) in pixel
 /// x of row y of frame f is 31f + 7y + 3x + 85c modulo 256; each frame has an AVI InfoFrame, a clock
 /// packet, an audio InfoFrame and 200 packets of four samples, of which sample k, counted over all frames,
 /// has 256k on the left and k on the right and starts a block where 192 divides k.

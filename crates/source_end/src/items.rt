@@ -24,7 +24,7 @@ pub enum ItemFault {
     /// period.
     #[error("control and other periods do not take turns")]
     Order,
-    /// A control period of fewer than twelve columns precedes another period or the end.
+    /// A control period of fewer than twelve columns stands before another period or at the end.
     #[error("a control period has fewer than twelve columns")]
     Control,
     /// The last eight columns before a video data period or a data island are not its preamble.

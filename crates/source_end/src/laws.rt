@@ -1,4 +1,4 @@
-//! Laws of streams, over their definitions only.
+//! Laws of streams, over their definitions alone.
 ghost use Rattle.source_end.specs.Laws.{SpelledAsMany, DviSpelledAsMany};
 ghost use Rattle.source_end.specs.RasterLaws.{RasterConforms, RasterColumns, GeneratedHasRaster};
 

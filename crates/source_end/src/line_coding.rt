@@ -60,7 +60,7 @@ pub(crate) fn pixels<C: ColumnSink>(bytes: &[u8], out: &mut C) -> Result<(), NoM
 }
 
 /// Gives the columns of groups of four pixels, at most 256 pixels, and the coders after them. The characters of each lane are packed in
-/// a separate buffer.
+/// room of its own.
 fn block<C: ColumnSink>(
     bytes: &[u8],
     coders: Coders,

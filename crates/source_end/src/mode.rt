@@ -3,7 +3,7 @@ ghost use Rattle.std.specs.Prelude.{◌≡◌, ◌+◌, ◌*◌, ◌<◌, ◌≤
 ghost use Rattle.terc4.specs.Columns.{one_if};
 ghost use Rattle.source_end.specs.Raster.{active, front, sync, back, total};
 
-/// A video mode. For a raster each of its numbers has to be 1 to 4,096, and the horizontal back porch
+/// A video mode. A raster wants each of its numbers to be 1 to 4,096, and the back porch across to be
 /// at least 14.
 #[derive(Clone, Copy)]
 pub struct Mode {
@@ -11,7 +11,7 @@ pub struct Mode {
     pub across: [u16; 4],
     /// Lines of a frame: active, front porch, sync, back porch.
     pub down: [u16; 4],
-    /// Whether HSYNC and VSYNC are active at level 1; otherwise they are active at level 0.
+    /// Whether HSYNC and VSYNC are 1 at their active levels, else 0.
     pub positive: bool,
 }
 

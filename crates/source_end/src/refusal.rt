@@ -74,7 +74,7 @@ pub(crate) fn raster_fault(mode: &Mode, content: &Content) -> Option<RasterFault
     None
 }
 
-/// How many columns the raster of this many frames has, at most the greatest u64.
+/// How many columns the raster of so many frames has, at most the greatest u64.
 pub(crate) fn raster_columns(mode: &Mode, frames: usize) -> u64
     ensures { result ≡ min (frames * (total mode.now.across * total mode.now.down) + 32) (2 ^ 64 - 1) }
 {
@@ -162,8 +162,8 @@ fn room_fault(mode: &Mode, frames: &[FrameContent]) -> Option<RasterFault>
     None
 }
 
-/// The first fault of a content with one frame more, of all its rows and this many packets, from the first fault of the
-/// `count` frames before. So a content that is read frame by frame is judged without storing its frames.
+/// The first fault of a content with one frame more, of all its rows and so many packets, by the first fault of the
+/// `count` frames before. So a content that is read frame by frame is judged without its frames.
 #[tactic(auto, unfolding(crate::specs::FrameFaults::next_fault))]
 pub fn next_fault(
     mode: &Mode,

@@ -232,8 +232,8 @@ fn packets<C: ColumnSink>(packets: &[Packet], out: &mut C) -> Result<(), NoMemor
     Ok(())
 }
 
-/// Gives the columns of at most eight packets. The first one may be an island's first. The bits of each lane go to a
-/// separate buffer.
+/// Gives the columns of at most eight packets, of which the first is an island's first or not. The bits of each lane are laid in room of
+/// its own.
 fn few_packets<C: ColumnSink>(
     packets: &[Packet],
     first: bool,
@@ -260,7 +260,7 @@ fn few_packets<C: ColumnSink>(
     out.packed(&blue[..size], &green[..size], &red[..size])
 }
 
-/// Lays packets into the bits of three lanes. The first packet may be an island's first.
+/// Lays packets into the bits of three lanes, of which the first is an island's first or not.
 fn lay_each(packets: &[Packet], first: bool, blue: &mut [u8], green: &mut [u8], red: &mut [u8])
     requires range { IsTrue (list_all is_packet packets.now) }
     requires blue { length blue.old ≡ 40 * length packets.now }

@@ -127,7 +127,7 @@ fn have(columns: &[[Word; 3]], spelling: &[(u32, [u16; 3])]) -> bool {
     left.next().is_none()
 }
 
-/// Whether a stream's columns are this many and are spelled so.
+/// Whether a stream's columns are so many and are spelled so.
 fn spells(alloc: Global, stream: &Stream, spelling: &[(u32, [u16; 3])]) -> bool {
     let mut columns = no_columns(alloc);
     stream.spell(&mut columns).is_ok()
@@ -180,7 +180,7 @@ fn long_line(rt: HostRuntime) -> Result<(), Fail> {
     Ok(())
 }
 
-/// Whether runs have this many columns, and announce these periods.
+/// Whether runs have so many columns, and announce these periods.
 fn are_runs(runs: &Runs, columns: u32, video: bool, island: bool) -> bool {
     runs.columns() == columns
         && runs.announces_video() == video

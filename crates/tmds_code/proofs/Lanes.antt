@@ -1,4 +1,4 @@
--- Characters more in a lane.
+-- One character more in a lane.
 use Rattle.std.proofs.Common.{◌≡◌, ℕ, ◌+◌, List, [], ◌∷◌, ◌++◌, length, take, get_or, ap, ap₂, ◌∙◌, sym, arith, inl, inr, length-append}
 use Rattle.std.specs.Prelude.{◌+ℤ◌}
 use Rattle.std.proofs.Math.IntN.{+ℤ_assoc, +ℤ_idl, +ℤ_idr}
@@ -15,12 +15,6 @@ unfolding disparity_of
 disparity_of-more [] w = +ℤ_idr (balance (word_bits w)) ∙ sym (+ℤ_idl (balance (word_bits w)))
 disparity_of-more (v ∷ ws) w =
     ap (λ z. balance (word_bits v) +ℤ z) (disparity_of-more ws w) ∙ sym (+ℤ_assoc (balance (word_bits v)) (disparity_of ws) (balance (word_bits w)))
-
-pub disparity_of-append : (ws vs : List ℕ) → disparity_of (ws ++ vs) ≡ disparity_of ws +ℤ disparity_of vs
-unfolding disparity_of
-disparity_of-append [] vs = sym (+ℤ_idl (disparity_of vs))
-disparity_of-append (w ∷ ws) vs =
-    ap (λ z. balance (word_bits w) +ℤ z) (disparity_of-append ws vs) ∙ sym (+ℤ_assoc (balance (word_bits w)) (disparity_of ws) (disparity_of vs))
 
 pub lane_more : (bytes words : List ℕ) (b w : ℕ) → IsLane bytes words → Coded (disparity_of words) b w → IsLane (bytes ++ b ∷ []) (words ++ w ∷ [])
 lane_more bytes words b w lane coded = record {

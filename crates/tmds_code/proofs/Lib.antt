@@ -2,10 +2,5 @@ pub mod TableWords
 pub mod Steps
 pub mod Lanes
 pub mod Example
-pub mod Vectors
-pub mod Parts
-pub mod Sums
-pub mod Decoded
-pub mod Signs
-pub mod Wrongs
-pub mod Following
+pub mod StepTable
+pub mod Followed

@@ -88,7 +88,3 @@ decoded_bits _ = []
 -- the byte of a character, for each of the 1,024
 unfoldable pub decoded_byte : ℕ → ℕ
 decoded_byte w = number (decoded_bits (word_bits w))
-
--- whether a character is the one that codes its own byte at a disparity
-unfoldable pub is_coded : ℤ → ℕ → Bool
-is_coded disparity w = w == coded_word disparity (decoded_byte w)

@@ -3,5 +3,4 @@ pub mod Lanes
 pub mod Places
 pub mod Pasts
 pub mod Laws
-pub mod Vectors
-pub mod Sixteen
+pub mod Balances

@@ -1,20 +1,20 @@
 //! The judge of one lane of a video period.
-ghost use Rattle.std.specs.Prelude.{◌≡◌, ℕ, ◌+◌, ◌*◌, ◌<◌, ◌≤◌, ◌↔◌, ◌++◌, ◌∷◌, [], List, length, IsTrue, pos, neg_ℤ, ◌-ℤ◌, ◌≤ℤ◌};
+ghost use Rattle.std.specs.Prelude.{◌≡◌, ℕ, ◌+◌, ◌*◌, ◌<◌, ◌≤◌, ◌↔◌, ◌++◌, ◌∷◌, [], List, length, IsTrue, IfSome, is_some, true, pos, neg_ℤ, ◌-ℤ◌, ◌≤ℤ◌};
 ghost use Rattle.tmds_word.specs.Bits.{word_bits, balance};
 ghost use Rattle.tmds_code.specs.Coding.{Coded, decoded_byte};
 ghost use Rattle.tmds_code.specs.Pasts.{IsJudgeAfter};
-ghost use Rattle.tmds_code.specs.Lanes.{disparity_of};
-ghost use Rattle.tmds_code.specs.Sixteen.{at_step};
+ghost use Rattle.tmds_code.specs.Balances.{disparity_at, followed_all};
 
+use crate::balance::Balance;
 use crate::coding::{decode, is_coded};
 use std::marker::Model;
 use tmds_word::Word;
 
-/// Receives the characters of one lane in order, from a video period's first pixel on, and says of each
+/// Hears the characters of one lane in order, from a video period's first pixel on, and says of each
 /// whether it is rightly coded.
 #[derive(Clone, Copy)]
 pub struct CodeJudge {
-    /// How many characters were received, at most 4,097.
+    /// How many characters were heard, at most 4,097.
     count: u16,
     /// Their ones minus their zeros.
     disparity: i32,
@@ -60,26 +60,24 @@ impl CodeJudge {
         (byte, right)
     }
 
-    /// The step of the disparity: half of it, counted from -4, and cut to 0 and 8. A lane that is rightly coded so far has
-    /// a disparity from -8 to 8.
-    #[inline(always)]
-    pub fn step(&self) -> u8
-        ensures within { result ≤ 8 }
-        ensures step { (k : ℕ) → k ≤ 8 → self.now.disparity ≡ at_step k → result ≡ k }
+    /// The balance after the characters heard before: not right exactly where no rightly coded lane has their
+    /// disparity, which is even and from -8 to 8.
+    pub fn balance(&self) -> Balance
+        ensures value { IfSome (disparity_at result) (λ d. d ≡ self.now.disparity) }
+        ensures step { (k : ℕ) → k ≤ 8 → self.now.disparity ≡ pos (2 * k) -ℤ pos 8 → result ≡ k }
     {
-        (self.disparity + 8).clamp(0, 16) as u8 / 2
+        Balance::at(self.disparity)
     }
 
-    /// Receives characters at once whose ones were counted.
-    #[inline(always)]
-    pub fn hear_counted(&mut self, count: u16, ones: u16)
+    /// Hears characters at once that were followed from the balance before them to one that is right.
+    pub fn hear_right(&mut self, count: u16, balance: Balance)
         requires few { self.old.count + count ≤ 4097 }
-        requires ones { ones ≤ 10 * count }
+        requires right { is_some (disparity_at balance) ≡ true }
         ensures count { self.new.count ≡ self.old.count + count }
-        ensures stands { (words more : List ℕ) → IsJudgeAfter self.old words → length more ≡ count → disparity_of more ≡ pos (2 * ones) -ℤ pos (10 * count) → IsJudgeAfter self.new (words ++ more) }
+        ensures stands { (words more : List ℕ) → IsJudgeAfter self.old words → length more ≡ count → followed_all (Some self.old.disparity) more ≡ disparity_at balance → IsJudgeAfter self.new (words ++ more) }
     {
         self.count += count;
-        self.disparity += balance_by_ones(count, ones);
+        self.disparity = balance.disparity();
     }
 }
 
@@ -90,14 +88,4 @@ fn balance_of(word: Word) -> i32
     ensures high { result ≤ℤ pos 10 }
 {
     2 * word.value().count_ones() as i32 - 10
-}
-
-/// The ones minus the zeros of characters of which the ones are counted.
-#[inline(always)]
-fn balance_by_ones(count: u16, ones: u16) -> i32
-    requires count { count ≤ 4097 }
-    requires ones { ones ≤ 10 * count }
-    ensures { result ≡ pos (2 * ones) -ℤ pos (10 * count) }
-{
-    2 * i32::from(ones) - 10 * i32::from(count)
 }

@@ -1,5 +1,9 @@
-//! The characters of all bytes, and the bytes of all characters.
+//! The characters of all bytes, the bytes of all characters, and the steps of a disparity.
 ghost use Rattle.std.specs.Prelude.{◌≡◌, ◌+◌, ◌*◌, ◌<◌, slice_index};
+
+mod following;
+
+pub(crate) use following::followed;
 
 /// The character of each byte where the disparity is negative, then where it is 0, then where it is
 /// positive.

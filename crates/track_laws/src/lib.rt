@@ -48,7 +48,7 @@ pub fn first_reported()
     ensures { FirstReported }
 {}
 
-/// The lanes of a tap whose damage lies only in pixels and packets have one epoch.
+/// The lanes of a tap whose damage lies in pixels and packets alone have one epoch.
 pub fn payload_has_no_end()
     ensures { PayloadHasNoEnd }
 {}

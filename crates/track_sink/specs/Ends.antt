@@ -35,7 +35,7 @@ one_end fed l m p q a b =
       ]
     ]
 
-pub control_decided : (xs : List Bool) (p : ℕ) → Dec (HasControl xs p)
+control_decided : (xs : List Bool) (p : ℕ) → Dec (HasControl xs p)
 control_decided xs p = by (window xs p) refl
   where
     by : (w : Option ℕ) → window xs p ≡ w → Dec (HasControl xs p)

@@ -1,4 +1,4 @@
-//! Feeds a link: by workers if there are many bits, otherwise by the caller's own thread.
+//! How a link is fed: by workers where the bits are many, or by the caller's own thread.
 ghost use Rattle.std.specs.Prelude.{◌≡◌, List, true, OnOk, OnErr};
 ghost use Rattle.outside_io.specs.Causes.{HasCause};
 ghost use Rattle.period_grammar.specs.Events.{Event, EventAt};

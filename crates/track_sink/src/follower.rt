@@ -16,7 +16,7 @@ use outside_io::{Failed, NoMemory};
 use std::alloc::Global;
 use tmds_word::LaneBits;
 
-/// Receives three lanes epoch after epoch, with what looks for the ends of epochs.
+/// Hears three lanes epoch after epoch, with what looks for the ends of epochs.
 #[derive(Drop)]
 pub(crate) struct Follower<W: Watch> {
     pub(crate) tracker: Tracker,
@@ -122,7 +122,7 @@ impl<W: Watch> Follower<W> {
         Ok(())
     }
 
-    /// Ends the epoch after all its bits were handed on, and begins the next one.
+    /// Ends the epoch, all bits of which are handed on, and begins the next one.
     fn turn<E: TrackEar>(&mut self, end: End, ear: &mut E) -> Result<(), Failed>
         requires turn { (fed : Fed) × CanTurn W.rule self.old.tracker fed end }
         ensures carries { (fed : Fed) → CanTurn W.rule self.old.tracker fed end → OnOk result (Carries self.new.tracker fed × HasLooked W.looked W.passed self.new.tracker self.new.watch fed) }

@@ -16,7 +16,7 @@ pub(crate) struct Held {
     bytes: Vec<u8>,
     /// The first bit that is held.
     start: u32,
-    /// How many bits are held. The bits after them have no meaning.
+    /// How many bits are held; what stands after them is of no account.
     count: u32,
     /// The byte with which the bits begin that were released last.
     border: u32,

@@ -17,7 +17,7 @@ pub(crate) struct HeldLane {
 }
 
 impl HeldLane {
-    /// A lane before its first bit.
+    /// A lane to which no bit was fed.
     pub(crate) fn open(alloc: Global) -> Result<HeldLane, NoMemory>
         ensures held { IfOk result (λ lane. lane.held.bits ≡ []) }
         ensures fed { IfOk result (λ lane. lane.fed ≡ 0) }

@@ -21,7 +21,7 @@ pub(crate) struct HeldLanes {
 }
 
 impl HeldLanes {
-    /// Lanes before their first bits.
+    /// Lanes to which no bit was fed.
     pub(crate) fn open(alloc: Global) -> Result<HeldLanes, NoMemory>
         ensures { IfOk result AreFresh }
     {
@@ -52,7 +52,7 @@ impl HeldLanes {
         blue.max(green.max(red))
     }
 
-    /// Lends the bits that are held. The first one is at this place of the epoch.
+    /// Lends the bits that are held, the first of which is at a place of the epoch.
     pub(crate) fn lent(&self, base: u64) -> LentLanes<'_>
         ensures lent { (fed : Fed) → AreHeld self.now base fed → base ≤ most_of fed → most_of fed < MOST_BITS → AreLent result fed }
         ensures base { result.base ≡ base }

@@ -21,10 +21,10 @@ use std::marker::Model;
 use std::thread::Threads;
 use tmds_word::LaneBits;
 
-/// Receives three lanes that may lose bits, and begins again where one lost some.
+/// Hears three lanes that may lose bits, and begins anew where one lost some.
 pub type TrackSink = EpochSink<Strays>;
 
-/// Receives three lanes, feed after feed, begins again where an epoch ends, and reports to an ear what
+/// Hears three lanes whose bits arrive feed after feed, begins anew where an epoch of them ends, and reports to an ear what
 /// they say. It has taken all its memory when it is opened: a `LinkSink`, and a buffer of 4,224 bytes for each lane.
 #[derive(Drop)]
 pub struct EpochSink<W: Watch> {

@@ -76,7 +76,7 @@ impl Watch for Strays {
 
 impl Strays {
     /// Looks on at the epoch's places before `until`, and answers the least stray of any lane, of the least lane that has it.
-    /// If a lane has one, the next lanes are searched only up to its place.
+    /// Where a lane has one, the next are looked through up to its place alone.
     fn seek(&mut self, lanes: LentLanes<'_>, until: u64) -> Option<End>
         requires blue { HasRoom lanes.blue }
         requires green { HasRoom lanes.green }
@@ -98,8 +98,8 @@ impl Strays {
 }
 
 /// Looks at a lane's places from `from` on and before `until` that the bits decide, where bit `base` is the first that is
-/// lent, and answers the first stray; None where there is none before `until`. A run cannot begin at a later place of a lane
-/// that has ended.
+/// lent, and answers the first stray; None where there is none before `until`. Of a lane that has ended no later place can
+/// be a run's.
 fn seek_lane(scout: &mut Scout, lane: LentBits<'_>, base: u64, from: u64, until: u64) -> Option<u64>
     requires room { HasRoom lane }
     requires after { base ≤ from }

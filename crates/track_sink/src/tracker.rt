@@ -1,4 +1,4 @@
-//! Receives three lanes epoch after epoch.
+//! Hears three lanes epoch after epoch.
 ghost use Rattle.std.specs.Prelude.{ℕ, ◌≡◌, ◌<◌, ◌≤◌, ◌+◌, ◌*◌, ◌%◌, ◌^◌, ◌||◌, ◌++◌, true, false, List, [], IfOk, OnOk, OnErr};
 ghost use Rattle.outside_io.specs.Causes.{HasCause};
 ghost use Rattle.terc4.specs.Columns.{one_if};
@@ -20,10 +20,10 @@ use outside_io::{Failed, NoMemory};
 use std::alloc::Global;
 use tmds_word::LaneBits;
 
-/// The state of the machine: an epoch, and what was reported before it.
+/// Where the machine stands: an epoch, and what was reported before it.
 #[derive(Drop)]
 pub(crate) struct Tracker {
-    /// Receives the epoch.
+    /// Hears the epoch.
     link: LinkSink,
     pub(crate) lanes: HeldLanes,
     /// The place of the epoch's first bit.
@@ -96,7 +96,7 @@ impl Tracker {
         Ok(())
     }
 
-    /// Hands on the first bits of each lane as `hand_on` does, in two feeds where one may not take this many.
+    /// Hands on the first bits of each lane as `hand_on` does, in two feeds where one may not take so many.
     pub(crate) fn hand_all<F: FeedsLink, E: Ear>(
         &mut self,
         feeding: &F,

@@ -12,7 +12,7 @@ pub enum Cause {
     Slip(u8),
     /// The alignment was not confirmed.
     Unconfirmed,
-    /// The alignment was dropped, because a later one refuted it or two in a row doubted it.
+    /// The alignment was let go: a later one refuted it, or two in a row doubted it.
     Refuted,
 }
 
@@ -23,7 +23,7 @@ pub struct End {
     pub place: u64,
 }
 
-/// The bits of a lane that are held, after a few others of the first byte. Behind them is room for a load of eight
+/// The bits of a lane that are held: so many, after a few others of the first byte. Behind them is room for a load of eight
 /// bytes.
 #[derive(Clone, Copy)]
 pub struct LentBits<'a> {

@@ -28,14 +28,13 @@
 //!
 //! `vabgrot_recover`, `vabgrot_check`. There is an outcome of the program's command over the bytes of the capture (`Does`:
 //! `recover link`, `recover dvi`, `recover track` or `recover relock`; `check`). OK, FAULTY, NOCAPTURE, UNALIGNED: its status
-//! is 0, 1, 3, 7, the first `size` bytes of the buffer are its output, and the bytes behind them are as before. FULL: its output
-//! has `size` bytes, which do not fit, and the buffer has the first. MISUSE exactly if no reader has the number, and never from
-//! `vabgrot_check`. After MISUSE and NOMEM the buffer is as before, and `size` is 0. NOMEM has no cause in a clause.
+//! is 0, 1, 3, 7, and the first `size` bytes of the buffer are its output. FULL: its output has `size` bytes, which do not fit,
+//! and the buffer has the first. MISUSE exactly if no reader has the number, and never from `vabgrot_check`. NOMEM says nothing
+//! of the buffer.
 //!
 //! `vabgrot_make`. The same for `make link`, `make dvi` and `make content` with the options of the tap (`words_of`). NOLISTING:
-//! the status is 3, and the buffer begins with the note, of `size` bytes, or with as much of it as fits; the bytes behind it
-//! are as before. MISUSE exactly if no maker has the number or the command line takes no such options (`IsTaken`). No other
-//! status.
+//! the status is 3, and the buffer has the note, of `size` bytes, or as much of it as fits. MISUSE exactly if no maker has the
+//! number or the command line takes no such options (`IsTaken`). No other status.
 //!
 //! `vabgrot_encode_run`, `_video_guard`, `_pixels`, `_island_guard`, `_packet`. OK: `columns` is how many columns the part has,
 //! they are in the first places of the rows, and the rest of each row is unchanged (`Lays`). They are control columns of the
@@ -220,7 +219,7 @@ pub extern "C" fn vabgrot_recover(
     listing: &mut [u8],
     size: &mut usize,
 ) -> i32
-    ensures { (status : ListingStatus) × (result ≡ listing_code status) × Recovers number capture.now status size.new listing.old listing.new }
+    ensures { (status : ListingStatus) × (result ≡ listing_code status) × Recovers number capture.now status size.new listing.new }
 {
     let listed = recover(alloc, number, capture, listing);
     *size = listed.size;
@@ -235,7 +234,7 @@ pub extern "C" fn vabgrot_check(
     listing: &mut [u8],
     size: &mut usize,
 ) -> i32
-    ensures { (status : ListingStatus) × (result ≡ listing_code status) × Lists Check capture.now status size.new listing.old listing.new }
+    ensures { (status : ListingStatus) × (result ≡ listing_code status) × Lists Check capture.now status size.new listing.new }
 {
     let listed = check(alloc, capture, listing);
     *size = listed.size;
@@ -253,7 +252,7 @@ pub extern "C" fn vabgrot_make(
     capture: &mut [u8],
     size: &mut usize,
 ) -> i32
-    ensures { (status : ListingStatus) × (result ≡ listing_code status) × Makes number tap.now listing.now status size.new capture.old capture.new }
+    ensures { (status : ListingStatus) × (result ≡ listing_code status) × Makes number tap.now listing.now status size.new capture.new }
 {
     let made = make(alloc, number, tap, listing, capture);
     *size = made.size;

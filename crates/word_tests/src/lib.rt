@@ -1,5 +1,5 @@
 //! Tests of the crates of bytes, characters and blocks: `outside_io`, `tmds_word`, `tmds_code`, `terc4`, `bch_block` and `frame_build`.
-//! They are a separate crate so that none of these is proved again with its tests.
+//! They are a crate of their own so that none of these is proved again with its tests.
 #![tactic(auto)]
 
 #[cfg(test)]

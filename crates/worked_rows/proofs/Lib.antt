@@ -3,11 +3,3 @@ pub mod Captured
 pub mod Spelled
 pub mod Heard
 pub mod Made
-pub mod Codes
-pub mod Carrying
-pub mod Fields
-pub mod IslandRead
-pub mod IslandSpelled
-pub mod IslandHeard
-pub mod Content
-pub mod Taps

@@ -12,18 +12,18 @@ at_zero : (byte word : ℕ) → word ≡ coded_at null byte → Coded (disparity
 unfolding disparity_of
 at_zero byte word is = is
 
-pub lane : (byte word : ℕ) → word ≡ coded_at null byte → IsLane (byte ∷ []) (word ∷ [])
+lane : (byte word : ℕ) → word ≡ coded_at null byte → IsLane (byte ∷ []) (word ∷ [])
 lane byte word is = record { same_length = refl; coded = by }
   where
     by : (j : ℕ) → j < 1 → Coded (disparity_of (take j (word ∷ []))) (slice_index (byte ∷ []) j) (slice_index (word ∷ []) j)
     by zero lt = at_zero byte word is
     by (suc j) lt = absurd (omega arith)
 
-pub zero_word : 256 ≡ coded_at null 0
+zero_word : 256 ≡ coded_at null 0
 unfolding coded_at coded_bits takes_xnor minimised balanced number bits_of ones
 zero_word = refl
 
-pub full_word : 512 ≡ coded_at null 255
+full_word : 512 ≡ coded_at null 255
 unfolding coded_at coded_bits takes_xnor minimised balanced number bits_of ones
 full_word = refl
 

@@ -1,22 +1,11 @@
-//! Rows that were worked out by hand, checked against the definitions alone.
+//! A row that was worked out by hand, checked against the definitions alone.
 //!
 //! Each law is proved by evaluating the definitions (`refl`), so no program comes between the formats and the definitions. The
-//! functions have no code: their contracts are the laws. The rows are:
-//!
-//! - a line of one red pixel: its listing, its columns, its capture, and what `make link` makes of the listing;
-//! - the characters of black and of white pixels, and the block of a packet's header;
-//! - a Null packet, an AVI InfoFrame, clock numbers and a sample, each written and read;
-//! - a data island and a line: the listing, the columns, and what they report with a mended and with a lost block;
-//! - a tap with an offset and skews, damaged pixels, a capture that ends within an island, and noise: what their columns report;
-//! - two frames: the content listing, the periods of their raster, and the content listing of what the columns report.
+//! row is a line of one red pixel: what its listing reads as, the columns that spell it, the bytes of its capture, what
+//! `make link` makes of the listing, and what is heard of the columns. The functions do nothing: their contracts are the laws.
 #![tactic(auto)]
 
-ghost use Rattle.worked_rows.specs.Codes.{IsBlackRow, IsHeaderBlock, IsWhiteRow};
-ghost use Rattle.worked_rows.specs.Content.{ContentIsHeard, ContentIsRaster, ContentIsRead};
-ghost use Rattle.worked_rows.specs.Fields.{IsAvi, IsClock, IsNull, IsSampleRow};
-ghost use Rattle.worked_rows.specs.Island.{IslandIsHeard, IslandIsLost, IslandIsMended, IslandIsRead, IslandIsSpelled};
 ghost use Rattle.worked_rows.specs.Row.{IsRead, IsCaptured, IsSpelled, IsHeard, IsMade};
-ghost use Rattle.worked_rows.specs.Taps.{CutIsHeard, NoiseIsHeard, PixelIsHeard, SkewedIsHeard};
 
 /// The listing of one red pixel reads as its periods.
 pub fn is_read()
@@ -38,102 +27,7 @@ pub fn is_made()
     ensures { IsMade }
 {}
 
-/// What is reported of the columns has the listing.
+/// What is heard of the columns has the listing.
 pub fn is_heard()
     ensures { IsHeard }
-{}
-
-/// Three black bytes have these characters, and the disparity after each.
-pub fn black_row()
-    ensures { IsBlackRow }
-{}
-
-/// Two white bytes have these characters, and the disparity after each.
-pub fn white_row()
-    ensures { IsWhiteRow }
-{}
-
-/// The block of a header has this parity byte. One wrong bit of it is mended, and by two it is lost.
-pub fn header_block()
-    ensures { IsHeaderBlock }
-{}
-
-/// These columns carry a Null packet, and it is taken of them with no fault.
-pub fn null_row()
-    ensures { IsNull }
-{}
-
-/// An AVI InfoFrame has these bytes. It is read with its fields, and with a wrong checksum it is refused.
-pub fn avi_row()
-    ensures { IsAvi }
-{}
-
-/// Clock numbers have these bytes. They are read, and bodies that are not alike are refused.
-pub fn clock_row()
-    ensures { IsClock }
-{}
-
-/// A sample has these bytes. It is read with both sides even, and with a wrong parity bit one is not.
-pub fn sample_row()
-    ensures { IsSampleRow }
-{}
-
-/// The listing of an island and a line reads as its periods.
-pub fn island_read()
-    ensures { IslandIsRead }
-{}
-
-/// Its columns spell its periods.
-pub fn island_spelled()
-    ensures { IslandIsSpelled }
-{}
-
-/// What is reported of the columns has the listing.
-pub fn island_heard()
-    ensures { IslandIsHeard }
-{}
-
-/// With one damaged character in the packet, a block is mended.
-pub fn island_mended()
-    ensures { IslandIsMended }
-{}
-
-/// With two damaged characters in one column of the packet, a block is lost.
-pub fn island_lost()
-    ensures { IslandIsLost }
-{}
-
-/// The content listing of two frames reads as their mode and their rows.
-pub fn content_read()
-    ensures { ContentIsRead }
-{}
-
-/// They have a raster, which has these periods.
-pub fn content_raster()
-    ensures { ContentIsRaster }
-{}
-
-/// What is reported of the raster's columns has the rows of the second frame, and the frame.
-pub fn content_heard()
-    ensures { ContentIsHeard }
-{}
-
-/// What is reported of a tap with an offset and skews begins with the first control period that all lanes have.
-pub fn skewed_row()
-    ensures { SkewedIsHeard }
-{}
-
-/// A damaged character of a pixel is listed as it was received, with a fault if it is no character that a source sends there.
-pub fn pixel_row()
-    ensures { PixelIsHeard }
-{}
-
-/// What is reported of a capture that ends within a packet ends with `cut`, which is no fault.
-pub fn cut_row()
-    ensures { CutIsHeard }
-{}
-
-/// A column of three characters 0 between control columns is noise.
-pub fn noise_row()
-    ensures { NoiseIsHeard }
 {}

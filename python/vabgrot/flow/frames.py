@@ -9,16 +9,57 @@ from typing import NamedTuple
 
 import numpy as np
 
-from vabgrot.content import Packets, Vsync
-from vabgrot.events import ENDS, Kind, Octets
-from vabgrot.flow.parts import Part
+from vabgrot.flow.parts import FAULT_WORDS, LINE, RUN, WORD, Ints, Octets, Part
+from vabgrot.formats.characters import VSYNC
 from vabgrot.formats.faults import OF_PICTURE
-from vabgrot.formats.layouts import Type
-from vabgrot.video.signals import Signals
 from vabgrot.video.weaving import lines_down
 
+CERTAIN = 3  # neighbouring columns of one level, from which on VSYNC has it
 MOST_ROWS = 1 << 13  # of a frame: more than any format has
-HURTS = np.array([kind.word in OF_PICTURE for kind in Kind])
+HURTS = np.array([FAULT_WORDS.get(kind) in OF_PICTURE for kind in range(max(FAULT_WORDS) + 1)])
+
+
+class Change(NamedTuple):
+    """VSYNC changed: the place of the run among which it is certain, and the column of the first one with the new level."""
+
+    place: int
+    column: int
+
+
+@dataclass
+class Vsync:
+    """VSYNC has a level once three neighbouring columns had it, with nothing but a damaged control character between them."""
+
+    heard: int | None = None
+    level: int | None = None
+    streak: int = 0
+
+    def changes(self, part: Part, begin: int, stop: int) -> list[Change]:
+        """Where it changed among the events from one place up to another, which are of one epoch."""
+        kind = part.kind[begin:stop]
+        runs = np.flatnonzero(kind == RUN)
+        parted = np.append(0, np.cumsum((kind != RUN) & (kind != WORD)))[np.append(runs, len(kind))]
+        if not len(runs):
+            self.streak = 0 if parted[-1] else self.streak
+            return []
+        its = runs + begin
+        levels, counts = part.value[its] & VSYNC, part.width[its]
+        starts = np.append(0, 1 + np.flatnonzero((levels[1:] != levels[:-1]) | (parted[1:-1] != parted[:-2])))
+        sums = np.add.reduceat(counts, starts)
+        before = self.streak if levels[0] == self.level and not parted[0] else 0
+        sums[0] += before
+        found = []
+        for group in np.flatnonzero(sums >= CERTAIN).tolist():
+            first = int(starts[group])
+            if (level := int(levels[first])) != self.heard:
+                is_first, self.heard = self.heard is None, level
+                early = before if group == 0 else 0
+                last = first + int(np.searchsorted(np.cumsum(counts[first:]), CERTAIN - early))
+                if not is_first:
+                    found.append(Change(int(its[last]), int(part.at[its[first]]) - early))
+        self.level = int(levels[-1])
+        self.streak = int(sums[-1]) if parted[-1] == parted[-2] else 0
+        return found
 
 
 @dataclass(eq=False)
@@ -72,11 +113,6 @@ class Stretch(NamedTuple):
     stop: int
     frame: Frame | None = None
 
-    @property
-    def packets(self) -> Packets:
-        """The packets among them."""
-        return self.part.among(self.begin, self.stop)
-
 
 class Framer:
     """Divides parts into stretches by where frames end. A slip ends a frame, which then is not whole."""
@@ -89,34 +125,32 @@ class Framer:
 
     def take(self, part: Part) -> Iterator[Stretch]:
         """The stretches of the next part."""
-        begin, ends = 0, (part.events.of(*ENDS) + 1).tolist()
-        for stop in dict.fromkeys([*ends, len(part)]):
-            first = begin
-            for place, streak in self.vsync.changes(part.events[begin:stop]):
-                place += first
-                column = int(part.at[place] + part.events.width[place]) - streak
-                self.add(part, begin, place)
-                yield Stretch(part, begin, place, self.ended(column))
-                self.frame, self.last, begin = Frame(self.last, column), column, place
+        begin = 0
+        for stop in [*(part.ends + 1).tolist(), len(part)]:
+            for change in self.vsync.changes(part, begin, stop):
+                self.add(part, begin, change.place)
+                yield Stretch(part, begin, change.place, self.ended(change.column))
+                self.frame, self.last, begin = Frame(self.last, change.column), change.column, change.place
             self.add(part, begin, stop)
-            yield Stretch(part, begin, stop)
-            if stop in ends:
+            if stop > begin:
+                yield Stretch(part, begin, stop)
+            if stop < len(part) or len(part.ends) and part.ends[-1] == len(part) - 1:
                 self.finish()
             begin = stop
 
     def add(self, part: Part, begin: int, stop: int) -> None:
         """Adds the rows of some events to the frame."""
-        frame, its = self.frame, part.events
-        lines = begin + np.flatnonzero(its.kind[begin:stop] == Kind.LINE)
+        frame = self.frame
+        lines = begin + np.flatnonzero(part.kind[begin:stop] == LINE)
         if frame is None:
             self.left += len(lines)
             return
         if len(frame.firsts) < 2:
-            ends, pixels = (part.at + its.width)[lines[:2]], its.value[lines[:2]]
+            ends, pixels = (part.at + part.width)[lines[:2]], part.value[lines[:2]]
             frame.firsts = [*frame.firsts, *(ends - pixels).tolist()][:2]
         from_row = begin if frame.rows else int(lines[0]) if len(lines) else stop
-        frame.faults += int(HURTS[its.kind[from_row:stop]].sum())
-        frame.rows += [its.row(place).reshape(-1) for place in lines.tolist()]
+        frame.faults += int(HURTS[part.kind[from_row:stop]].sum())
+        frame.rows += rows_of(part, lines)
         if len(frame.rows) > MOST_ROWS:
             self.left += len(frame.rows)
             self.frame = None
@@ -134,8 +168,7 @@ class Framer:
         self.vsync, self.frame, self.last = Vsync(), None, None
 
 
-def learn(signals: Signals, packets: Packets) -> None:
-    """Takes what packets say of how pixels are sent."""
-    known = packets.known
-    for packet in known[np.isin(known.kind, (Type.AVI, Type.CONTROL))]:
-        signals.take_packet(packet)
+def rows_of(part: Part, lines: Ints) -> list[Octets]:
+    """The bytes of some rows."""
+    data = part.data
+    return [data[at : at + size] for at, size in zip(part.offset[lines].tolist(), part.size[lines].tolist())]

@@ -12,13 +12,11 @@ from typing import NamedTuple
 import numpy as np
 
 from vabgrot import packets
-from vabgrot.content import Packets, blocks_of, packet_of
-from vabgrot.events import Ints, Kind, Octets
-from vabgrot.flow.frames import Framer, Stretch, learn
+from vabgrot.flow.frames import Framer, Stretch
 from vabgrot.flow.pace import Pace
-from vabgrot.flow.parts import Part
+from vabgrot.flow.parts import LOST, MENDED, PACKET, Ints, Octets, Part, packet_of
 from vabgrot.flow.sound import Sound
-from vabgrot.formats.layouts import CARRIED
+from vabgrot.formats.layouts import CARRIED, Type
 from vabgrot.formats.modes import CUSTOM_CLOCK
 from vabgrot.packets import Packet
 from vabgrot.video.signals import Signals
@@ -41,29 +39,41 @@ RECORD_HEAD = 16  # bytes of a record before its packet
 
 @dataclass(frozen=True, eq=False)
 class Islands:
-    """Packets, with the epoch of each, its column in it, the number of its frame, and which of its blocks are lost, a bit each (4 is the
-    header)."""
+    """Packets: the column of each over all epochs (`at`) and in its epoch, the number of its frame, its header and bodies; which of its
+    blocks are lost and mended, a bit each (4 is the header); and how many of its characters are none of TERC4."""
 
-    packets: Packets
+    at: Ints
     epoch: Ints
     first: Ints
     frame: Ints
+    octets: Octets
     lost: Octets
+    mended: Octets
+    damaged: Ints
 
     def __len__(self) -> int:
-        return len(self.packets)
-
-    @property
-    def octets(self) -> Octets:
-        """Their headers and bodies."""
-        return self.packets.octets[:, :CARRIED]
+        return len(self.at)
 
 
-def islands_of(stretch: Stretch, frame: int) -> Islands:
-    """The packets of a stretch, which come before the end of a frame."""
-    its, every, events = stretch.packets, stretch.part.packets.place, stretch.part.events
-    lost = blocks_of(events, every, Kind.LOST)[np.searchsorted(every, its.place)]
-    return Islands(its, events.epoch[its.place], events.first[its.place], np.full(len(its), frame, np.int64), lost)
+def islands_of(part: Part, begin: int, stop: int, frame: int) -> Islands:
+    """The packets among the events of a part from one place up to another, which come before the end of a frame."""
+    places = begin + np.flatnonzero(part.kind[begin:stop] == PACKET)
+    blocks = np.zeros((2, len(part.packets)), np.uint8)
+    for found, kind in zip(blocks, (LOST, MENDED)):
+        faults = part.of(kind)
+        which = np.searchsorted(part.packets, faults) - 1  # they follow their packet
+        np.bitwise_or.at(found, which, (1 << part.value[faults]).astype(np.uint8))
+    its = np.searchsorted(part.packets, places)
+    return Islands(
+        part.at[places],
+        part.epoch[places],
+        part.first[places],
+        np.full(len(places), frame, np.int64),
+        part.octets(places)[:, :CARRIED],
+        blocks[0, its],
+        blocks[1, its],
+        part.second[places],
+    )
 
 
 @dataclass
@@ -82,7 +92,7 @@ class Paced:
     def take(self, part: Part) -> Iterator[Islands]:
         """The packets of the next part, and those that waited."""
         for stretch in self.framer.take(part):
-            found = islands_of(stretch, self.frames)
+            found = islands_of(part, stretch.begin, stretch.stop, self.frames)
             if len(found):
                 self.held.append(found)
             if self.clock is None:
@@ -96,8 +106,11 @@ class Paced:
 
     def learn(self, stretch: Stretch) -> None:
         """What a stretch says of the columns a second."""
-        self.sound.take(stretch.packets)
-        learn(self.signals, stretch.packets)
+        part = stretch.part
+        self.sound.take(part, stretch.begin, stretch.stop)
+        places = part.known(stretch.begin, stretch.stop)
+        for octets in part.octets(places[np.isin(part.value[places], (Type.AVI, Type.CONTROL))]):
+            self.signals.take_packet(packet_of(octets[:CARRIED].tobytes()))
         if stretch.frame:
             signal = self.signals.reading(stretch.frame.width).signal
             vic = self.signals.avi["VIC"] if self.signals.avi else 0
@@ -125,7 +138,7 @@ class Said(NamedTuple):
 @lru_cache(MANY)
 def said(octets: bytes, is_lost: bool) -> Said:
     """What a packet says; nothing of one with a lost block."""
-    packet = packet_of(octets)
+    packet: Packet = packet_of(octets)
     if is_lost:
         return Said(packet.name, "", "")
     content = packets.content_of(packet)
@@ -150,8 +163,8 @@ class Kinds:
             which = np.flatnonzero(types == kind)
             self.counts[kind] += len(which)
             self.lost[kind] += int((its.lost[which] != 0).sum())
-            self.mended[kind] += int((its.packets.mended[which] != 0).sum())
-            columns = its.packets.at[which]
+            self.mended[kind] += int((its.mended[which] != 0).sum())
+            columns = its.at[which]
             apart = np.diff(columns, prepend=self.last.get(kind, columns[0]))[0 if kind in self.last else 1 :]
             behind[which[len(which) - len(apart) :]] = apart
             self.last[kind] = int(columns[-1])
@@ -178,10 +191,10 @@ def pcap_head() -> bytes:
 def pcap_records(its: Islands, clock: Fraction) -> bytes:
     """The records of packets. Each has a head of 20 bytes and then the 31 bytes of the packet (docs/guide/TOOLS.md)."""
     found = np.zeros(len(its), RECORD)
-    whole, rest = np.divmod(its.packets.at * clock.denominator, clock.numerator)
+    whole, rest = np.divmod(its.at * clock.denominator, clock.numerator)
     found["seconds"], found["nanoseconds"] = whole, rest.astype(np.float64) * (GIGA / clock.numerator)
     found["taken"] = found["length"] = RECORD.itemsize - RECORD_HEAD
     found["column"], found["epoch"], found["frame"] = its.first, its.epoch, its.frame
-    found["lost"], found["mended"], found["damaged"] = its.lost, its.packets.mended, its.packets.wrong
+    found["lost"], found["mended"], found["damaged"] = its.lost, its.mended, its.damaged
     found["octets"] = its.octets
     return found.tobytes()

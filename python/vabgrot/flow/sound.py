@@ -9,13 +9,11 @@ import numpy as np
 import numpy.typing as npt
 
 from vabgrot import packets
-from vabgrot.content import Packets, bodies_of
-from vabgrot.events import Ints, Octets
+from vabgrot.flow.parts import PACKET, Ints, Octets, Part, packet_of
 from vabgrot.formats import speakers
 from vabgrot.formats.audio import BLOCK, CODED, RATES
-from vabgrot.formats.layouts import BODIES, LAYOUTS, Type
+from vabgrot.formats.layouts import BODIES, BODY, HEADER, LAYOUTS, Type
 from vabgrot.formats.names import FREQUENCIES
-from vabgrot.packets import Packet
 
 FIELDS = LAYOUTS["samples"].fields
 FULL = 1 << FIELDS["left"].bits - 1
@@ -85,20 +83,23 @@ class Sound:
         order, mask = speakers.places([names[at] if names else "" for at in used])
         return tuple(used[at] for at in order), mask
 
-    def take(self, found: Packets) -> Samples:
-        """The samples of the next packets."""
-        lost = int(found.lost.sum())
+    def take(self, part: Part, begin: int, stop: int) -> Samples:
+        """The samples of the events from one place up to another."""
+        places = part.known(begin, stop)
+        lost = int((part.kind[begin:stop] == PACKET).sum()) - len(places)
         if lost:
             self.lost += lost
             self.status.lose()
+        types = part.value[places]
         for kind in (Type.CLOCK, Type.AUDIO):
-            its = found.of(kind)
+            its = places[types == kind]
             if len(its):
-                self.infoframe(its.packet(-1))
-        return self.samples(found.of(Type.SAMPLES))
+                self.infoframe(part.octets(its[-1:])[0].tobytes())
+        return self.samples(part, places[types == Type.SAMPLES])
 
-    def infoframe(self, packet: Packet) -> None:
+    def infoframe(self, octets: bytes) -> None:
         """A packet that says a rate, if it is right."""
+        packet = packet_of(octets)
         if packets.content_of(packet).faults:
             return
         if packet.kind == Type.CLOCK:
@@ -107,11 +108,12 @@ class Sound:
         else:
             self.frequency, self.allocation = FREQUENCIES[packet.number("SF")] or 0, packet.number("CA")
 
-    def samples(self, found: Packets) -> Samples:
+    def samples(self, part: Part, places: Ints) -> Samples:
         """The samples of packets of them: of layout 0 one a body that is present, of layout 1 one of all pairs."""
-        heads, bodies, at = found.octets, bodies_of(found.octets), found.at
+        octets, at = part.octets(places), part.at[places]
+        heads, bodies = octets[:, :HEADER], octets[:, HEADER : HEADER + BODIES * BODY].reshape(-1, BODIES, BODY)
         wide, present = FIELDS["layout"].numbers(heads).astype(bool), FIELDS["sample_present"].flags(heads)
-        if len(found):
+        if len(places):
             self.is_wide = bool(wide[-1])
         its = wide == self.is_wide  # the layout changes seldom, and then what is of the other one is left out
         at, bodies, present, starts = at[its], bodies[its], present[its], FIELDS["B"].flags(heads)[its]

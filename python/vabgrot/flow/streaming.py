@@ -11,10 +11,11 @@ import numpy as np
 
 from vabgrot import pcm
 from vabgrot.flow.forms import Form, Sink, fitted
-from vabgrot.flow.frames import Frame, Framer, Stretch, learn
+from vabgrot.flow.frames import Frame, Framer, Stretch
 from vabgrot.flow.pace import Pace
-from vabgrot.flow.parts import Part
+from vabgrot.flow.parts import Part, packet_of
 from vabgrot.flow.sound import Samples, Sound, Values
+from vabgrot.formats.layouts import CARRIED, Type
 from vabgrot.video import images, quick
 from vabgrot.video.colours import Signal
 from vabgrot.video.images import Colours
@@ -108,8 +109,11 @@ class Streamer:
 
     def packets(self, stretch: Stretch) -> None:
         """The packets of a stretch: how pixels are sent, and sound."""
-        learn(self.signals, stretch.packets)
-        found = self.heard.take(stretch.packets)
+        part, begin, stop = stretch.part, stretch.begin, stretch.stop
+        places = part.known(begin, stop)
+        for octets in part.octets(places[np.isin(part.value[places], (Type.AVI, Type.CONTROL))]):
+            self.signals.take_packet(packet_of(octets[:CARRIED].tobytes()))
+        found = self.heard.take(part, begin, stop)
         if len(found.at):
             self.waiting.append(found)
 

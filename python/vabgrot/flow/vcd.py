@@ -9,8 +9,7 @@ from typing import NamedTuple
 
 import numpy as np
 
-from vabgrot.events import ENDS, GUARDS, WORDS, Ints, Kind
-from vabgrot.flow.parts import Part
+from vabgrot.flow.parts import CLOSE, FAULT_WORDS, GUARDS, LINE, OPEN, PACKET, RELOCK, RUN, SLIP, WORD, Ints, Part
 from vabgrot.formats.characters import HSYNC, TEN, VSYNC
 from vabgrot.formats.layouts import CARRIED
 from vabgrot.packets import Packet
@@ -69,21 +68,21 @@ class Trace:
 
     def take(self, part: Part) -> None:
         """The next part."""
-        its, syncs = part.events, part.packets.octets[:, CARRIED:]
-        numbers = np.stack([its.kind, its.first, its.width, its.value, its.second], axis=1).tolist()
+        syncs = part.octets(part.packets)[:, CARRIED:]
+        numbers = np.stack([part.kind, part.first, part.width, part.value, part.second], axis=1).tolist()
         packet = 0
         for kind, first, width, value, second in numbers:
-            if kind in ENDS:
-                self.faults.setdefault(first, []).append(WORDS[kind])
+            if kind >= SLIP:
+                self.faults.setdefault(first, []).append(FAULT_WORDS[kind])
                 self.start, self.searched, self.end = None, first, 0
                 continue
             if self.start is None:
                 self.start = self.starts(self.searched)
-            if kind >= Kind.WORD:
-                self.faults.setdefault(self.bit(first), []).append(WORDS[kind])
+            if kind >= WORD:
+                self.faults.setdefault(self.bit(first), []).append(FAULT_WORDS[kind])
             elif width:
                 self.cover(first, width)
-                if kind == Kind.PACKET:
+                if kind == PACKET:
                     self.packet(first, value, syncs[packet])
                     packet += 1
                 else:
@@ -115,22 +114,22 @@ class Trace:
     def period(self, kind: int, first: int, width: int, value: int, second: int) -> None:
         """What is no packet."""
         self.put(PACKET_NAME, first, NOTHING)
-        if kind == Kind.RUN:
+        if kind == RUN:
             control = value >> 2
             self.put(PERIOD, first, "control" if self.is_dvi else PREAMBLES.get(control, "control"))
             self.put(CTL, first, control)
             self.syncs(first, value)
-        elif kind == Kind.LINE:
+        elif kind == LINE:
             guards = width - value
             if guards:
                 self.put(PERIOD, first, "video guard")
             self.put(PERIOD, first + guards, "pixels")
             self.put(PIXELS, first + guards, 1)
-        elif kind in (Kind.OPEN, Kind.CLOSE):
+        elif kind in (OPEN, CLOSE):
             self.put(PERIOD, first, "island guard")
             for at, sync in zip(range(GUARDS), (value, second)):
                 self.syncs(first + at, sync)
-        if kind != Kind.LINE:
+        if kind != LINE:
             self.put(PIXELS, first, 0)
 
     def packet(self, first: int, kind: int, syncs: Iterable[int]) -> None:
@@ -252,3 +251,6 @@ def beside(trace: Trace, times: Times, path: str | Path, known: Iterable[str]) -
 def column_times(stretches: Iterable[tuple[int, int, int]]) -> Ints:
     """The times of columns: of stretches of them by the times of the first and the last, and how many they are."""
     return np.concatenate([np.zeros(0, np.int64), *(np.linspace(*one).round().astype(np.int64) for one in stretches)])
+
+
+__all__ = ["FAULT", "RELOCK", "Trace", "alone", "beside", "column_times", "unit_of"]

@@ -1,4 +1,4 @@
-"""The tool `packets`: the packets of a link: each with its time and what it says, as text, as a table, and as a pcap file for Wireshark."""
+"""The packets of a link: each with its time and what it says, as text, as a table, and as a pcap file for Wireshark."""
 
 from __future__ import annotations
 
@@ -14,11 +14,10 @@ import numpy as np
 
 from vabgrot import command
 from vabgrot.errors import Refused
-from vabgrot.events import Ints
 from vabgrot.flow.dissector import lua
 from vabgrot.flow.islands import Islands, Kinds, Paced, pcap_head, pcap_records, said
 from vabgrot.flow.pace import Pace
-from vabgrot.flow.parts import opened
+from vabgrot.flow.parts import Ints, opened
 from vabgrot.replacing import naming
 from vabgrot.tools.timing import positive
 
@@ -42,12 +41,11 @@ Taker = Callable[[Islands, Ints, Fraction], None]
 
 
 def parser() -> argparse.ArgumentParser:
-    """The parser of the tool's words."""
+    """The words."""
     found = command.parser("packets", TEXT, FAULTY, EXAMPLES)
-    found.add_argument("capture", metavar="CAPTURE", nargs="?", default="-", help="a file or a FIFO (default: standard input)")
-    found.add_argument("--follow", action="store_true", help="at the end of the file, wait for more until the capture is whole")
-    text = "read raw blocks without a header and without an end: 4,096 bytes of each lane in turn"
-    found.add_argument("--raw", action="store_true", help=text)
+    found.add_argument("capture", metavar="CAPTURE", nargs="?", default="-", help="a file or a FIFO; if left out, standard input")
+    found.add_argument("--follow", action="store_true", help="wait for more at the end of the file, until the capture is whole")
+    found.add_argument("--raw", action="store_true", help="the input is raw blocks: three lanes of 4,096 bytes in turn")
     found.add_argument("--csv", metavar="FILE.csv", help="write a table of all packets; - is standard output")
     found.add_argument("--pcap", metavar="FILE.pcap", help="write all packets for Wireshark; - is standard output")
     found.add_argument("--clock", type=positive, metavar="HZ", help="the pixel clock of the link")
@@ -63,8 +61,7 @@ def seconds(column: int, clock: Fraction) -> str:
 
 def rows_of(its: Islands, behind: Ints, clock: Fraction) -> Iterator[tuple[Any, ...]]:
     """The rows of packets, by HEADS."""
-    found = its.packets
-    numbers = np.stack([found.at, its.epoch, its.first, its.frame, its.lost, found.mended, found.wrong, behind], axis=1).tolist()
+    numbers = np.stack([its.at, its.epoch, its.first, its.frame, its.lost, its.mended, its.damaged, behind], axis=1).tolist()
     for (at, epoch, column, frame, lost, mended, damaged, apart), row in zip(numbers, its.octets):
         octets = row.tobytes()
         name, says, fields = said(octets, bool(lost))

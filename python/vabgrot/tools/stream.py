@@ -1,4 +1,4 @@
-"""The tool `stream`: pictures and sound of a link as a stream for other programs."""
+"""Pictures and sound of a link as a stream for other programs."""
 
 from __future__ import annotations
 
@@ -30,13 +30,12 @@ tools/lanes blocks bars.tmc --bits 54000 --repeat 9 | tools/stream --raw --y4m -
 
 
 def parser() -> argparse.ArgumentParser:
-    """The parser of the tool's words."""
+    """The words."""
     found = command.parser("stream", TEXT, FAULTY, EXAMPLES)
-    found.add_argument("capture", metavar="CAPTURE", nargs="?", default="-", help="a file or a FIFO (default: standard input)")
-    found.add_argument("--follow", action="store_true", help="at the end of the file, wait for more until the capture is whole")
-    command.add_dvi(found)
-    text = "read raw blocks without a header and without an end: 4,096 bytes of each lane in turn"
-    found.add_argument("--raw", action="store_true", help=text)
+    found.add_argument("capture", metavar="CAPTURE", nargs="?", default="-", help="a file or a FIFO; if left out, standard input")
+    found.add_argument("--follow", action="store_true", help="wait for more at the end of the file, until the capture is whole")
+    found.add_argument("--dvi", action="store_true", help="the source is one of DVI, without guard bands and packets")
+    found.add_argument("--raw", action="store_true", help="the input is raw blocks: three lanes of 4,096 bytes in turn")
     text = "write NUT into a file; later segments have their number before the suffix. Without it, to standard output"
     found.add_argument("-o", "--output", metavar="FILE.nut", help=text)
     text = "write pictures as YUV4MPEG2 (4:4:4, eight bits, limited range); - is standard output"

@@ -1,4 +1,4 @@
-"""The tool `waves`: what a capture carried as waves over time, for GTKWave."""
+"""What a capture carried as waves over time, for GTKWave."""
 
 from __future__ import annotations
 
@@ -15,13 +15,11 @@ import numpy as np
 
 from vabgrot import command
 from vabgrot.errors import Refused
-from vabgrot.events import Ints
 from vabgrot.flow.islands import Paced
 from vabgrot.flow.pace import Pace
-from vabgrot.flow.parts import Link, opened
+from vabgrot.flow.parts import Ints, Link, alignment, opened
 from vabgrot.flow.vcd import Times, Trace, alone, beside, column_times, unit_of
 from vabgrot.formats.characters import TEN
-from vabgrot.lanes.columns import alignment_of
 from vabgrot.replacing import replacing
 from vabgrot.waves import dump, sampling
 
@@ -40,10 +38,10 @@ PICO = 1_000_000_000_000
 
 
 def parser() -> argparse.ArgumentParser:
-    """The parser of the tool's words."""
+    """The words."""
     found = command.parser("waves", TEXT, examples=EXAMPLES)
-    command.add_capture(found)
-    command.add_dvi(found)
+    found.add_argument("capture", metavar="CAPTURE", help="the file of a capture")
+    found.add_argument("--dvi", action="store_true", help="the source is one of DVI, without guard bands and packets")
     found.add_argument("-o", "--output", metavar="FILE", help="write into a file, as FST if it ends in .fst (needs gtkwave's vcd2fst)")
     found.add_argument("--dump", metavar="FILE", help="the dump of the simulation (.vcd, .fst)")
     found.add_argument("--words", metavar="Q0,Q1,Q2", help="with --dump: the variables of lanes 0, 1 and 2")
@@ -109,7 +107,7 @@ def traced(link: Link, path: Path, pace: Pace) -> tuple[Trace, Paced]:
     """What a link carried, and how many columns a second it has."""
 
     def start(searched: int) -> int:
-        found = alignment_of(path, searched, link.kind == "relock")
+        found = alignment(path, searched, link.kind)
         return max(found) if found else searched
 
     trace, paced = Trace(start, link.is_dvi), Paced(pace)
@@ -150,10 +148,10 @@ def work(argv: Sequence[str] | None) -> int:
     found = parser()
     args = found.parse_args(argv)
     pace = Pace(check_words(found, args))
-    path = args.capture
+    path = Path(args.capture)
     if not path.is_file():
         raise Refused(f"{path}: a file is needed, since it is read twice")
-    with opened(str(path), args.dvi) as link:
+    with opened(args.capture, args.dvi) as link:
         trace, paced = traced(link, path, pace)
     if args.dump:
         times, source = times_of(args)

@@ -33,10 +33,14 @@ class Watched(Collector):
                 faults.add_metric([kind, "" if lane is None else LANES[lane]], times[kind, lane])
         yield faults
         yield CounterMetricFamily("vabgrot_columns", "Columns that events tell.", value=count.before + count.columns)
-        yield CounterMetricFamily("vabgrot_frames", "Whole frames.", value=count.frames)
+        yield CounterMetricFamily("vabgrot_frames", "Whole frames.", value=count.syncs.frames)
         yield CounterMetricFamily("vabgrot_received_bytes", "Bytes of the capture.", value=state.feed.bytes)
         yield CounterMetricFamily("vabgrot_frames_looked_at", "Whole frames that the view looked at.", value=state.looks.looked)
-        yield GaugeMetricFamily("vabgrot_aligned", "1 where the lanes are aligned.", value=int(count.is_aligned))
+        yield GaugeMetricFamily("vabgrot_aligned", "1 where the lanes are aligned.", value=int(state.is_aligned))
+        happened = CounterMetricFamily("vabgrot_events", "What happened on the link, with --events.", labels=["kind"])
+        for name, happenings in state.happenings.counts.items() if state.happenings else ():
+            happened.add_metric([name], happenings)
+        yield happened
         yield GaugeMetricFamily("vabgrot_columns_per_second", "Columns of the last second.", value=state.columns)
         clock = state.clock or 0
         yield GaugeMetricFamily("vabgrot_link_columns_per_second", "Those of the format; 0 where that is not known.", value=clock)

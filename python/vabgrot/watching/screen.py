@@ -62,7 +62,7 @@ def bar(percent: int) -> str:
 def head_of(state: State) -> Table:
     """The state of the link, line by line."""
     table = Table.grid(padding=(0, 1))
-    style = GOOD if state.count.is_aligned else BAD
+    style = GOOD if state.is_aligned else BAD
     table.add_row(Text("link", QUIET), Text(state.aligned(), style))
     table.add_row(Text("rate", QUIET), Text(state.rate()))
     table.add_row(Text("format", QUIET), Text(state.format()))

@@ -4,17 +4,19 @@ from __future__ import annotations
 
 import time
 from collections import Counter, deque
-from dataclasses import dataclass, field, replace
+from dataclasses import dataclass, field
 from typing import NamedTuple
 
-from vabgrot.events import Event, Ints, Kind
 from vabgrot.formats.characters import LANES, TEN
-from vabgrot.verdict import Link, Word
+from vabgrot.formats.faults import ANEW
 from vabgrot.video.matching import counted
 from vabgrot.video.timings import DEPTH
-from vabgrot.watching.counting import Count, Key, counter_of
+from vabgrot.watching.counting import Count, Fault, Ints, Key, counter_of
 from vabgrot.watching.feeding import Feed
+from vabgrot.watching.happenings import KINDS as EVENTS
+from vabgrot.watching.happenings import Happenings
 from vabgrot.watching.looking import Looks
+from vabgrot.watching.notices import Fit
 
 SECOND, STEP = 1.0, 0.1  # what "the last second" is, and how far its samples are apart
 UNITS = ((1e9, "G"), (1e6, "M"), (1e3, "k"))
@@ -41,14 +43,14 @@ def lane_of(key: Key) -> str:
     return "" if key[1] is None else LANES[key[1]]
 
 
-def place_of(fault: Event) -> str:
+def place_of(fault: Fault) -> str:
     """A fault in words: where it is, and its numbers."""
     lane = f", {LANES[fault.lane]}" if fault.lane is not None else ""
     more = f", {' '.join(map(str, fault.more))}" if fault.more else ""
-    if fault.kind == Kind.SLIP:
-        return f"slip: bit {fault.first:,}{lane}"
+    if fault.kind in ANEW:
+        return f"{fault.kind}: bit {fault.column:,}{lane}"
     behind = f" behind slip {fault.epoch}" if fault.epoch else ""
-    return f"{fault.kind.word}: column {fault.first:,}{behind}{lane}{more}"
+    return f"{fault.kind}: column {fault.column:,}{behind}{lane}{more}"
 
 
 @dataclass
@@ -58,6 +60,8 @@ class State:
     feed: Feed
     count: Count
     looks: Looks
+    fit: Fit | None = None  # of a live link: whether openings fit
+    happenings: Happenings | None = None
     began: float = field(default_factory=time.monotonic)
     samples: deque[Sample] = field(default_factory=deque)
     is_ended: bool = False
@@ -109,11 +113,18 @@ class State:
         clock = timing.clock or (timing.matched.wanted.clock if timing.matched.equal and timing.matched.wanted else None)
         return clock and clock * timing.raster.bits / DEPTH
 
+    @property
+    def is_aligned(self) -> bool:
+        """Whether the lanes are aligned, as far as openings tell."""
+        return self.count.is_aligned and (self.fit is None or self.fit.may_fit)
+
     def aligned(self) -> str:
         """Whether the lanes are aligned, and since when."""
         count = self.count
         slip, slips = count.slip, counted(count.epoch, "slip")
-        behind = f" behind the slip at bit {slip.first:,} ({slips})" if slip else ""
+        behind = f" behind the {slip.kind} at bit {slip.column:,} ({slips})" if slip else ""
+        if count.is_aligned and not self.is_aligned:
+            return f"not aligned{behind}: rows and islands do not open as they should"
         if count.is_aligned:
             return f"aligned for {count.columns:,} columns{behind}"
         return f"not aligned{behind}: {counted(self.bits, 'bit')} a lane came"
@@ -141,7 +152,7 @@ class State:
 
     def frames(self) -> str:
         """How many frames came, and whether all of them were looked at."""
-        words = counted(self.count.frames, "whole frame")
+        words = counted(self.count.syncs.frames, "whole frame")
         if self.looks.is_behind:
             words += f", {self.looks.looked:,} looked at: the view cannot follow, all faults and columns are counted"
         return words
@@ -150,29 +161,16 @@ class State:
         """How many faults came."""
         return f"{counted(self.count.total, 'fault')}, {sum(self.recent.values()):,} in the last second"
 
-    @property
-    def word(self) -> Word:
-        """The word of the verdict on all that came: of the link by all events, of the source by what was looked at."""
-        seen = self.looks.verdict
-        slips = (place_of(self.count.slip),) if self.count.slip else ()
-        link = Link(self.count.was_aligned, self.count.faults, slips, seen is not None and seen.link.is_source)
-        if seen is not None:
-            return replace(seen, link=link).word
-        return Word.UNALIGNED if not link.is_aligned else Word.NOTHING if link.is_clean else Word.LINK
-
-    def judged(self) -> str:
-        """The verdict in words."""
-        seen = self.looks.verdict
-        return f"verdict: {self.word}" + (f"; what was looked at last: {seen.headline}" if seen else "")
-
     def line(self) -> str:
         """All of it in one line."""
         return f"{self.seconds:.0f} s: {self.aligned()}; {self.rate()}; {self.frames()}; {self.faults()}"
 
     def summary(self) -> list[str]:
         """What is said at the end."""
-        lines = [f"watched for {self.seconds:.1f} s: {self.aligned()}", f"{self.rate()}", self.format(), self.frames(), self.judged()]
+        lines = [f"watched for {self.seconds:.1f} s: {self.aligned()}", f"{self.rate()}", self.format(), self.frames()]
         lines += [f"{times:,} {kind}{f', {lane_of((kind, lane))}' if lane is not None else ''}" for (kind, lane), times in self.table()]
+        if self.happenings:
+            lines += [f"{times:,} times: {kind}" for kind, times in sorted(self.happenings.counts.items()) if kind in EVENTS]
         return lines + ([] if self.count.total else ["no fault"])
 
     def table(self) -> list[tuple[Key, int]]:

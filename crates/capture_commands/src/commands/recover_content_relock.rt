@@ -14,7 +14,7 @@ use relock_sink::Refuter;
 use std::alloc::Global;
 
 /// Writes the pictures and the sound of a capture whose lanes may lose bits, while it is read: of the events that `recover relock`
-/// lists, as one stream, and a line for each slip and each alignment that is dropped.
+/// lists, as one stream, and a line for each slip and each alignment that is let go.
 pub fn recover_content_relock<F: Feeds, S: Source, K: Sink>(
     feeding: &F,
     alloc: Global,

@@ -14,7 +14,7 @@ use relock_sink::Refuter;
 use std::alloc::Global;
 
 /// Writes the link listing of a capture whose lanes may lose bits, and whose alignment is used only where a period opens at its
-/// edges and until it is refuted or doubted, while it is read: else the lanes are searched again.
+/// edges and until it is refuted or doubted twice in a row, while it is read: else the lanes are searched anew.
 pub fn recover_relock<F: Feeds, S: Source, K: Sink>(
     feeding: &F,
     alloc: Global,

@@ -14,7 +14,7 @@ use std::alloc::Global;
 use track_sink::Strays;
 
 /// Writes the link listing of a capture whose lanes may lose bits, while it is read: where a lane's characters begin
-/// elsewhere, the lanes are searched again.
+/// elsewhere, the lanes are searched anew.
 pub fn recover_track<F: Feeds, S: Source, K: Sink>(
     feeding: &F,
     alloc: Global,

@@ -26,7 +26,7 @@ use sampling::{Counts, Tally, hits_of, write_counts};
 use source_end::{Mode, RasterFault, Stream, generate, raster};
 use std::alloc::Global;
 
-/// Writes the counts of a sample of this many frames.
+/// Writes the counts of a sample of so many frames.
 pub fn count_sample<F: Feeds, K: Sink>(
     feeding: &F,
     alloc: Global,
@@ -186,7 +186,7 @@ fn tap() -> Tap
     }
 }
 
-/// How many bytes the capture of this many columns has.
+/// How many bytes the capture of so many columns has.
 fn capture_size(columns: u32) -> usize
     requires { columns ≤ COLUMN_LIMIT }
     ensures { result ≡ 8 + 3 * ((tap_count sample_tap columns 0 + 7) / 8) }
@@ -199,7 +199,7 @@ fn capture_size(columns: u32) -> usize
     8 + 3 * bits.div_ceil(8) as usize
 }
 
-/// A sink in memory that holds nothing, and has room for this many bytes.
+/// A sink in memory that holds nothing, and has room for so many bytes.
 fn memory(alloc: Global, room: usize) -> Result<MemSink, NoMemory>
     ensures { IfOk result (λ sink. sink.held ≡ []) }
 {

@@ -1,6 +1,6 @@
 //! Captures and columns that rows name, in hexadecimal digits, as they were computed apart from `capture_file`.
 
-/// The capture of a line with one red pixel. Its columns are `PIXEL`.
+/// The capture of a line with one red pixel, whose columns are `PIXEL`.
 pub(crate) static RED: &str =
     "544d43310000010e54534d35d554534d35d554534d35d5cc320b10d554534d35d554534d35d554534d3554534d35d5abacb2ca2aabacb2ca2a33cd0410d554534d35d554534d35d554534d3554534d35d554534d35d554534d35d5cc320b20d554534d35d554534d35d554534d35";
 
@@ -16,7 +16,7 @@ pub(crate) static LINES: &str =
 pub(crate) static SLIPPED: &str =
     "544d43320000038e0000038e0000038b54534d35d554534d35d554534d35d5cc320bd0ff00fd0fd0ff00fd0f1040ff03f43f40ff03f43f4000fd0fd0ff00fd0fd0ff0001f43f4054534d35d554534d35d554534d35d554534d35d554534d35d554534d35d554534d35d554534d35d5cc320b10d554534d35d554534d35d554534d3554534d35d5abacb2ca2aabacb2ca2a33cd04d0ff00fd0fd0ff00fd0f1040ff03f43f40ff03f43f4000fd0fd0ff00fd0fd0ff0001f43f4054534d35d554534d35d554534d35d554534d35d554534d35d554534d35d5abacb2ca2aabacb2ca2a33cd0410d554534d35d554534d35d554534d3554534d35d554534d35d554534d35d5cc320bd0ff00fd0fd0ff00fd0f1040ff03f43f40ff03f40708a0ff01fa1fa0ff01fa1f2080fe07886aaaa9a69a6aaaa9a69a6aaaa9a69a6aaaa9a69a6aaaa9a69a6aaaa9a69a6aaaa9a69a6aaaa9a69a596601a49a6aaaa9a69a6aaaa9a69a6aaaa906";
 
-/// Columns of different characters. Each is two bytes, the high one first.
+/// Columns of unlike characters, each of which is two bytes, the high one first.
 pub(crate) static SIX: &str =
     "035400ab03ff029c011e000102cc027102000133015502aa0000035402ab00b3031c01e1";
 

@@ -2,7 +2,7 @@
 //! Fields: the devices, where they are not the usual ones; a call; the bytes that it reads; what it answers; the bytes that it
 //! writes.
 
-/// Taps. `tap COUNT VERSION OFFSET SKEW SKEW SKEW [BITS]` writes the capture of this many columns, those of the input again and
+/// Taps. `tap COUNT VERSION OFFSET SKEW SKEW SKEW [BITS]` writes the capture of so many columns, those of the input again and
 /// again; `fold ..` answers how many bytes that capture has, and these folded into one number; `packed` takes five bytes a lane.
 pub(crate) static TAPS: &str = "\
 4000 99999 200 5 99999|tap 6 1 0 0 0 0|six|ok|TMC1 0000003c5473caec4c00cc02ab7814675554730cff0700a0aaab8607
@@ -262,7 +262,7 @@ pub(crate) static DAMAGES: &str = "\
 |damage 0:99:02cc|TMC2 0000006e000000000000000054af42d5aa9c7ac46c9c33fd1f00|ok|TMC2 0000006e000000000000000054af42d5aa9c7ac46c9c33fd6716
 |damage 0:100:03fe|TMC2 0000006e000000000000000054af42d5aa9c7ac46c9c33fd1f00|ok|TMC2 0000006e000000000000000054af42d5aa9c7ac46c9c33fdef3f";
 
-/// Captures with a lane that lost some bits at a place.
+/// Captures of which a lane, from a place on, is without some bits.
 pub(crate) static SLIPS: &str = "\
 |slip 0 0 1|TMC1 000000184518214c843f7c6a3e|ok|TMC2 000000170000001800000018228c104c843f7c6a3e
 |slip 0 23 1|TMC1 000000184518214c843f7c6a3e|ok|TMC2 0000001700000018000000184518214c843f7c6a3e

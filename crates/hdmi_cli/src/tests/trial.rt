@@ -137,7 +137,7 @@ fn bytes_of(alloc: Global, field: &str, last: &mut Vec<u8>) -> Result<Vec<u8>, F
     Ok(last.to_vec(alloc)?)
 }
 
-/// Runs the case of each row of a table in turn, where a read gives this many bytes at most unless the row names devices.
+/// Runs the case of each row of a table in turn, where a read gives so many bytes at most unless the row names devices.
 pub(super) fn judge(
     rt: &(impl Abort + Threads + AllocGlobal),
     rows: &[u8],

@@ -289,7 +289,7 @@ fn reads_clock(header: &[u8; 3], bodies: &[u64; 4], n: u32, cts: u32) -> bool {
     }
 }
 
-/// Whether the clock is refused if a block is lost, and if its bodies differ.
+/// Whether the clock is refused where a block is lost, and where its bodies are unlike.
 fn refuses_clock(block: u8, last: u8) -> bool {
     let mut packet = packet_of(&CLOCK.0, &CLOCK.1);
     packet.bodies[24] = last;

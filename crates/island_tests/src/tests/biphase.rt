@@ -103,7 +103,7 @@ fn is_none_with_a_turn(bytes: u64) -> bool {
     true
 }
 
-/// A sample of a stream. The fourth, the sixth, the 198th and the 301st start a block.
+/// A sample of a stream of which the fourth, the sixth, the 198th and the 301st start a block.
 fn sample_at(number: u32) -> Sample
     requires { number < 400 }
     ensures left { result.left ≡ 1000 * number }
@@ -132,7 +132,7 @@ fn begins(encoder: &mut Encoder, number: u32) -> bool
     }
 }
 
-/// Whether exactly one block is full, with these bits of channel status.
+/// Whether one block alone is full, with these bits of channel status.
 fn fills(blocks: &mut Blocks, number: u32) -> bool
     requires { number < 400 }
 {

@@ -118,20 +118,20 @@ fn rest_of<'a>(hearing: &Hearing, column: u32, text: &'a str) -> Option<&'a str>
     Some(rest)
 }
 
-/// Receives columns one after another, and compares what is reported with a text.
+/// Hears columns one after another, and compares what is reported with a text.
 #[derive(Drop)]
 struct Listener<'a> {
     hearing: Hearing,
-    /// How many columns were received.
+    /// How many columns were heard.
     columns: u32,
-    /// What is still to be reported: a column, an event and `;`, again and again. None after any other report.
+    /// What is still to be reported: a column, an event and `;`, again and again. None where something else was reported.
     wanted: Option<&'a str>,
     ghost heard: { hearing.columns ≤ columns },
     ghost open: { hearing.finished ≡ false },
 }
 
 impl<'a> Listener<'a> {
-    /// A listener that has received nothing.
+    /// A listener that has heard nothing.
     fn new(wanted: &'a str) -> Listener<'a> {
         let mut hearing = Hearing::open();
         hearing.restart();
@@ -142,7 +142,7 @@ impl<'a> Listener<'a> {
         }
     }
 
-    /// Receives a column.
+    /// Hears a column.
     fn hear(&mut self, words: &[Word; 3]) {
         let column = self.columns;
         if column >= 1_000_000 {
@@ -157,7 +157,7 @@ impl<'a> Listener<'a> {
         };
     }
 
-    /// Receives the columns of a text: pieces with `_` between them, each as often as the number before its `*` says.
+    /// Hears the columns of a text: pieces with `_` between them, each as often as the number before its `*` says.
     fn hear_all(&mut self, columns: &str) {
         for piece in columns.split('_') {
             let (times, words) = piece.split_once('*').unwrap_or(("1", piece));
@@ -169,7 +169,7 @@ impl<'a> Listener<'a> {
         }
     }
 
-    /// Whether the pixels of a line are received at once.
+    /// Whether the pixels of a line are heard at once.
     fn hears_line(&mut self, pixels: Columns<'_>) -> bool
         requires { length (columns_in pixels) ≡ 20 }
     {
@@ -209,7 +209,7 @@ fn is_reported(row: &str) -> bool {
     listener.ends()
 }
 
-/// Whether columns are received as long as a run goes on.
+/// Whether columns are heard as long as a run goes on.
 fn hears_while_a_run_goes_on() -> bool {
     let mut hearing = Hearing::open();
     hearing.hear(&[word(0x354); 3]);
@@ -226,7 +226,7 @@ fn hears_while_a_run_goes_on() -> bool {
     two && run && hearing.tells() == 0 && hearing.hear_while(columns) == 0
 }
 
-/// Twenty black pixels on a lane. One character may be coded for a wrong disparity.
+/// Twenty black pixels on a lane, of which one character may be coded for another disparity than its own.
 fn black(wrong: Option<usize>) -> [u16; 20]
     ensures { All (λ w. w < 1024) result }
 {
@@ -254,7 +254,7 @@ fn black(wrong: Option<usize>) -> [u16; 20]
     ]
 }
 
-/// Columns that open a line, which are received as the first ones of a row of `LINES`.
+/// Columns that open a line, which are heard as the first ones of a row of `LINES`.
 static BEFORE: &str = "4*354354354_8*3540ab354_2*2cc1332cc";
 
 /// The wrong characters of the lanes, and what is reported of `BEFORE` and of the line.
@@ -278,7 +278,7 @@ static WRONG: [([Option<usize>; 3], &str); 5] = [
     ),
 ];
 
-/// Whether these are reported with a control column after 20 pixels that are received at once.
+/// Whether these are reported with a control column after 20 pixels that are heard at once.
 fn is_line_reported(wrong: &[Option<usize>; 3], wanted: &str) -> bool {
     let blue = black(wrong[0]);
     let green = black(wrong[1]);

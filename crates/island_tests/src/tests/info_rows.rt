@@ -3,7 +3,7 @@
 //! InfoFrame its fields but for the bars, of an audio InfoFrame its fields, of a source product description the kind of source, of raw
 //! bytes their type, version and length, of a wrong sum the sum; its digits: the bars, the vendor and the product, or the payload.
 
-/// An AVI InfoFrame with R 8 and VIC 1, each field at its greatest value, different bars, and all fields at their greatest values.
+/// An AVI InfoFrame with R 8 and VIC 1, each field at its greatest value, unlike bars, and all fields at their greatest values.
 pub(crate) static AVI: &str = "\
 82020d|66000800010000000000000000000000000000000000000000000000|avi|0 0 0 0 8 0 0 0 0 0 0 1 0|0000000000000000
 82020d|6c030000000000000000000000000000000000000000000000000000|avi|3 0 0 0 0 0 0 0 0 0 0 0 0|0000000000000000

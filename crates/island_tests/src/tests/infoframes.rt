@@ -229,7 +229,7 @@ fn has_parity_bytes() -> bool {
         && parity64(&first) == 0x35
 }
 
-/// Whether the parts of a frame are borrowed.
+/// Whether the parts of a frame are lent.
 fn lends_parts() -> bool {
     let mut packet = packet_of(&[0x81, 3, 0x62], &[9; 28]);
     packet.bodies[0] = 0x08;
@@ -273,7 +273,7 @@ fn reports_lost(header: &[u8; 3], blocks: &[Verdict; 5], want: u8) -> bool {
     )
 }
 
-/// A type, a version and a length, and whether raw bytes with a sixth byte of 1 fit it.
+/// A type, a version and a length, and whether raw bytes fit it of which the sixth is 1.
 static FITTING: [(u8, u8, u8, bool); 9] = [
     (0x7f, 1, 6, false),
     (0x80, 1, 6, true),
@@ -286,7 +286,7 @@ static FITTING: [(u8, u8, u8, bool); 9] = [
     (0xff, 255, 28, false),
 ];
 
-/// Whether raw bytes with a sixth byte of 1 fit.
+/// Whether raw bytes of which the sixth is 1 fit.
 fn fits(kind: u8, version: u8, length: u8) -> bool {
     let mut bytes = [0; 27];
     bytes[5] = 1;

@@ -205,7 +205,7 @@ fn lays_null_packet() -> bool {
     true
 }
 
-/// Whether the columns of the worked packet have the words of its parity bytes.
+/// Whether the words of the parity bytes of the worked packet stand in its columns.
 fn lays_parity_bytes() -> bool {
     let packet = packet_of(WORKED);
     let mut columns = blank();
@@ -217,11 +217,11 @@ fn lays_parity_bytes() -> bool {
     columns == laid && columns != blank()
 }
 
-/// A packet that is borrowed.
+/// A packet that is lent.
 static LENT: &str =
     "010203 0102030405060708000000000000090000000000000a000000000000 32100000000000000000000000000000";
 
-/// Whether a packet is borrowed with its verdicts.
+/// Whether a packet is lent with its verdicts.
 fn lends() -> bool {
     let packet = packet_of(LENT);
     let verdicts = PacketVerdicts {

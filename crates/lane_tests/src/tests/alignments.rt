@@ -67,7 +67,7 @@ fn expect_before(
     next
 }
 
-/// That the lanes of a case have its alignments, and no more, where this many bits are looked at at a time.
+/// That the lanes of a case have its alignments, and no more, where so many bits are looked at at a time.
 fn expect(rt: &impl Abort, case: &Case, step: u64) {
     let parts = parts_of(rt, case);
     let all = u64::from(parts.blue.count.max(parts.green.count.max(parts.red.count)));

@@ -68,7 +68,7 @@ fn has_control(row: &BitRow, p: u32) -> bool
     }
 }
 
-/// The place of the first word that can be in a run before an edge at or after `from`: the least
+/// The place of the first word that can stand in a run before an edge at or after `from`: the least
 /// place from the lock on, a multiple of ten bits past it, that is not more than 120 before `from`.
 fn first_word(lock: u32, from: u32) -> u32
     requires { lock + 120 < 2 ^ 32 }

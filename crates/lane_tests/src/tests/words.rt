@@ -72,7 +72,7 @@ fn locks_and_edges(rt: HostRuntime) -> Result<(), Fail> {
     Ok(())
 }
 
-/// The bits of a case after zeros, this many bytes of them.
+/// The bits of a case after zeros, so many bytes of them.
 fn late_bytes(alloc: Global, case: &Case, zeros: usize) -> Result<Vec<u8>, Fail> {
     let mut bytes = vec![in alloc; 0; zeros]?;
     bytes.extend_from_slice(case.bytes.as_slice())?;

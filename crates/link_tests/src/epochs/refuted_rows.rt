@@ -1,4 +1,4 @@
-//! Three lanes, and their epochs where a refuted alignment is dropped, as a program finds them that looks at each place.
+//! Three lanes, and their epochs where a refuted alignment is let go, as a program finds them that looks at each place.
 
 use super::Doubted;
 
@@ -17,7 +17,7 @@ pub(crate) static ROWS: [Doubted; 13] = [
         slips: 0,
         refuted: 1,
     },
-    // a lane gains one: a period opens by the old alignment too, but the control period began by the new one
+    // a lane gains one: a period opens by the old alignment too
     Doubted {
         bits: [420, 420, 420],
         digits: [
@@ -25,10 +25,10 @@ pub(crate) static ROWS: [Doubted; 13] = [
             "54534d35d554534d35d554534d35d533cd041f7cf0c14735d554534d35d554534d35d554533dd34cf0c1071f7cf0c1071f7cf0c107",
             "54534d35d554534d35d554534d35d5cc321b4f3cf1c4130fd554534d35d554534d35d554534d35b3ccc6134f3cf1c4134f3cf1c403",
         ],
-        epochs: 2,
-        aligned: 2,
+        epochs: 1,
+        aligned: 1,
         slips: 0,
-        refuted: 1,
+        refuted: 0,
     },
     // no lane gains any
     Doubted {

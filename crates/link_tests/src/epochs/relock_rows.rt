@@ -108,7 +108,7 @@ pub(crate) static ROWS: [Doubted; 9] = [
         slips: 0,
         refuted: 0,
     },
-    // a stray after an alignment that is kept, and an unconfirmed one
+    // a stray after an alignment that stands, and an unconfirmed one
     Doubted {
         bits: [457, 460, 460],
         digits: [

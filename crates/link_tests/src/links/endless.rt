@@ -127,8 +127,8 @@ fn block_of(period: &[u8; 40]) -> [u8; 4000] {
     block
 }
 
-// Column 0 is the ninth character: a period's runs are reported at its columns 4 and 12, its line at column 24. The end
-// reports that the line of the last period is cut: its first pixel would be column 14 of the period.
+// Column 0 is the ninth character: a period's runs are reported at its columns 4 and 12, its line at column 24. Of the last
+// period the end reports that its line is cut: its first pixel would be column 14 of it.
 #[test]
 fn lanes_without_end(rt: HostRuntime) -> Result<(), Fail> {
     let [blue, green, red] = &PERIOD;

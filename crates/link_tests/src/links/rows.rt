@@ -11,7 +11,7 @@ static LANES: [Characters; 3] = [
     &[(32, 0x354), (2, 0x2cc), (1, 0x1f0), (12, 0x354)],
 ];
 
-/// These lanes, each this many bits late, with this many control columns before them and 20 after them, up to this many bits of each.
+/// These lanes, each so many bits late, with so many control columns before them and 20 after them, up to so many bits of each.
 pub(crate) fn lanes_of(skews: [u32; 3], lead: u32, bits: u32) -> Lanes {
     let mut lanes = Lanes::new();
     for lane in 0..3usize {
@@ -89,7 +89,7 @@ pub(crate) const CUT: [(usize, u32, u64, &[Tell]); 3] = [
 /// How many bits late each lane is, and how many bits each has, where the lanes are not aligned.
 pub(crate) const FAR: [([u32; 3], u32); 2] = [([0, 71, 0], 540), ([0, 0, 0], 0)];
 
-/// The events at which an ear fails, one after another.
+/// The events in each of which an ear fails.
 pub(crate) static FAILING: [Tell; 4] = [Run(0, 4), Run(4, 8), Line(3, 0x10ff00), Run(0, 12)];
 
 /// Control columns 00 and 14, an island with an AVI InfoFrame, control columns 00 and 04, a line of one pixel, control columns 00.

@@ -254,11 +254,11 @@ pub(crate) static CONTENTS: [(Option<Refusal>, &[u8]); 93] = [
     (Some((1, Unended)), b""),
 ];
 
-/// A listing of which the fourth read, of 50 bytes, fails.
+/// A listing whose fourth read of 50 bytes fails.
 pub(crate) const CUT_OFF: &[u8] =
     b"mode 2 1 2 14 2 1 1 1 0\nrow 112233445566\nrow 000000ffffff\nframe 2 2\nrow 112233445566\nrow 000000ffffff\nframe 2 2\nend\n";
 
-/// Why listings are refused of a frame with this many packet lines and samples, and of lines after 100 frames, which have too many
+/// Why listings are refused of a frame with so many packet lines and samples, and of lines after 100 frames, which have too many
 /// columns.
 pub(crate) static LONG_CONTENTS: [(Option<Refusal>, &[Part]); 14] = [
     (

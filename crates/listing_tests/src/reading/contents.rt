@@ -69,7 +69,7 @@ fn rasters(rt: HostRuntime) -> Result<(), Fail> {
     Ok(())
 }
 
-/// Whether the raster of a content listing has this many columns, or this fault.
+/// Whether the raster of a content listing has so many columns, or this fault.
 fn makes(alloc: Global, source: &mut MemSource, wanted: Result<u32, RasterFault>) -> bool {
     let made = match read_content(alloc, source) {
         Ok(Ok((mode, content))) => raster(alloc, &mode, &content),

@@ -121,7 +121,7 @@ fn items(rt: HostRuntime) -> Result<(), Fail> {
     Ok(())
 }
 
-/// Whether a listing without guard bands describes this many columns, or is refused for this.
+/// Whether a listing without guard bands describes so many columns, or is refused for this.
 fn reads_dvi(alloc: Global, source: &mut MemSource, wanted: Result<u32, Refusal>) -> bool {
     match (read_dvi(alloc, source), wanted) {
         (Ok(stream), Ok(columns)) => stream.columns() == columns,

@@ -13,7 +13,7 @@ pub(crate) enum Seen {
 
 use Seen::{Bytes, Size};
 
-/// The most bytes that a read gives, the reads that fail, a text, and what this many calls give.
+/// The most bytes that a read gives, the reads that fail, a text, and what so many calls give.
 pub(crate) type LineRow = (
     usize,
     &'static [u64],

@@ -7,9 +7,9 @@ use std::test::Fail;
 /// A part of a text.
 pub(crate) enum Part {
     Text(&'static [u8]),
-    /// A text this many times.
+    /// A text so many times.
     Times(usize, &'static [u8]),
-    /// The line of a packet this many times.
+    /// The line of a packet so many times.
     Packets(usize),
 }
 
@@ -30,7 +30,7 @@ pub(crate) fn is_refused(error: ListError, wanted: Option<Refusal>) -> bool {
 const PACKET: &[u8] =
     b"p 82020d 66000800010000 0708090a0b0c0d 0e0f1011121314 f5f6f7f8f9fafb 01230000111122223333321033333331\n";
 
-/// A source of a text in parts. A read gives at most this many bytes, and some reads fail.
+/// A source of a text in parts, a read of which gives at most so many bytes, and some of which fail.
 pub(crate) fn source_of(
     alloc: Global,
     most: usize,

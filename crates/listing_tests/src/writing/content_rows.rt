@@ -222,7 +222,7 @@ pub(crate) static PACKETS: [PacketRow; 30] = [
     ),
 ];
 
-/// A packet. The fourth write, of seven bytes, fails, so the line of parity is not counted.
+/// A packet of which the fourth write of seven bytes fails: the line of parity is not counted.
 pub(crate) static CUT_OFF: PacketRow = ([0x02, 0x01, 0x00], &[0x01], 0, "s 000001 000000 0 0 0");
 
 /// Events, and the lines of each.
@@ -257,7 +257,7 @@ pub(crate) static GROUPS: [(Step, &str); 22] = [
     (Cut(77), "cut 77\n"),
 ];
 
-/// The island of one packet with a mended bit.
+/// The island of one packet, in which a bit was mended.
 pub(crate) static ISLAND: [(Step, &str); 7] = [
     (Run(20, 12), ""),
     (Open(1, 2), ""),

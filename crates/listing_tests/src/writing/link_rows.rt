@@ -208,7 +208,7 @@ pub(crate) static LINKS: [Row; 28] = [
     ),
 ];
 
-/// Checks. A cut is no fault; runs, lines, guards and packets have no line, and need no write. A fault counts if its line is
+/// Checks. A cut alone is no fault; runs, lines, guards and packets have no line, and need no write. A fault counts where its line is
 /// written whole.
 pub(crate) static CHECKS: [Row; 23] = [
     (ROOMY, &[Wrong(WORD), End], &[], 1, "! word 2 10\nfaulty\n"),

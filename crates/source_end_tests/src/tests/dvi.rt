@@ -48,7 +48,7 @@ fn stream_of(alloc: Global, list: &[Part]) -> Result<DviStream, ItemFault> {
     items.close()
 }
 
-/// Whether a stream's columns are this many and are spelled so.
+/// Whether a stream's columns are so many and are spelled so.
 fn spells(alloc: Global, stream: &DviStream, spelling: &[(u32, [u16; 3])]) -> bool {
     let mut columns = no_columns(alloc);
     stream.spell(&mut columns).is_ok()

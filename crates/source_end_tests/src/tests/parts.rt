@@ -13,14 +13,14 @@ pub(crate) enum Part {
     Runs(&'static [(u8, u32)]),
     /// A video data period: red, green and blue of each pixel.
     Pixels(&'static [[u8; 3]]),
-    /// A video data period of this many black pixels.
+    /// A video data period of so many black pixels.
     Black(u32),
     /// A video data period of 263 pixels.
     LongLine,
     /// A data island of Null packets: the sync values of its opening guard columns, of each packet, and of its closing guard
     /// columns.
     Island([u8; 2], &'static [u8], [u8; 2]),
-    /// A data island of this many Null packets, each sync value 0.
+    /// A data island of so many Null packets, each sync value 0.
     Nulls(u32),
 }
 
@@ -49,7 +49,7 @@ fn video(alloc: Global, pixels: &[[u8; 3]]) -> Result<Item, ItemFault>
     Ok(Item::Video(list))
 }
 
-/// A video data period of this many black pixels.
+/// A video data period of so many black pixels.
 fn black(alloc: Global, count: u32) -> Result<Item, ItemFault>
     ensures { IfOk result (λ item. is_island (period_of item) ≡ false) }
 {
@@ -110,7 +110,7 @@ fn null_island(
     Ok(Item::Island(island))
 }
 
-/// A data island of this many Null packets, each sync value 0.
+/// A data island of so many Null packets, each sync value 0.
 fn nulls(alloc: Global, count: u32) -> Result<Item, ItemFault> {
     let mut island = Island::new(alloc, [0; 2], [0; 2]);
     for _ in 0..count {

@@ -149,7 +149,7 @@ fn two_frames(rt: HostRuntime) -> Result<(), Fail> {
     Ok(())
 }
 
-/// A frame of a format, with this many packets.
+/// A frame of a format, with so many packets.
 fn format_content(alloc: Global, mode: &Mode, packets: u8) -> Result<Content, Fail> {
     let mut content = Content::new(alloc);
     add_frame(&mut content)?;

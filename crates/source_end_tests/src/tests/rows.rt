@@ -278,7 +278,7 @@ pub(crate) static DVI_SPELLED: [(Spelling, &[Part]); 2] = [
     ),
 ];
 
-/// A run, its value and this many columns, and what a list of runs is with it: its columns, and whether it announces a video data
+/// A run, its value and so many columns, and what a list of runs is with it: its columns, and whether it announces a video data
 /// period or a data island.
 pub(crate) static RUNS: [((u8, u32), (u32, bool, bool)); 8] = [
     ((4, 7), (7, false, false)),

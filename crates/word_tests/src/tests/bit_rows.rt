@@ -11,7 +11,7 @@ static ROW: [u16; 11] = [
     0x354, 0x0ab, 0x154, 0x2ab, 0x29c, 0x11e, 0x2cc, 0x271, 0x133, 0x3ff, 0x001,
 ];
 
-/// The bits of that row in their sending order.
+/// The bits of that row in the order in which they are sent.
 static SENT: &[u8] =
     b"00101010111101010100001010101011010101010011100101011110001000110011011000111001110011001011111111111000000000";
 
@@ -44,7 +44,7 @@ fn row(alloc: Global) -> Result<BitRow, NoMemory> {
     Ok(row)
 }
 
-/// Whether a row is the bits of `SENT` after this many others.
+/// Whether a row is the bits of `SENT` after so many others.
 fn has_bits(row: &BitRow, before: u32) -> bool {
     if before > 8 || row.len() != before + 110 {
         return false;
@@ -65,7 +65,7 @@ fn is_window(row: &BitRow, place: u32, number: u16) -> bool {
     }
 }
 
-/// Whether the windows after this many bits of a row are those of `ROW`, from one of them up to another.
+/// Whether the windows after so many bits of a row are those of `ROW`, from one of them up to another.
 fn has_windows(row: &BitRow, before: u32, from: u32, to: u32) -> bool
     requires { before < 2000 }
 {
@@ -148,7 +148,7 @@ fn has_windows_at_the_end(alloc: Global) -> bool {
     true
 }
 
-/// Whether a row has this many bits, the first of `SENT`.
+/// Whether a row has so many bits, the first of `SENT`.
 fn is_cut(row: &BitRow, keep: u32) -> bool
     requires above { 0 < keep }
     requires below { keep ≤ 30 }
@@ -171,7 +171,7 @@ fn has_cuts(alloc: Global) -> bool {
     true
 }
 
-/// Whether a row is these bytes after this many bits.
+/// Whether a row is these bytes after so many bits.
 fn has_bytes(row: &BitRow, before: u32, bytes: &[u8; 355]) -> bool {
     if before > 8 || row.len() != before + 2840 {
         return false;

@@ -148,7 +148,7 @@ impl Read for Unsteady {
     }
 }
 
-/// Whether this many bytes are read to the front of four, which then are these.
+/// Whether so many bytes are read to the front of four, which then are these.
 fn fills<S: Source>(source: &mut S, into: &mut [u8; 4], count: usize, after: &[u8; 4]) -> bool {
     read_full(source, into).ok() == Some(count) && *into == *after
 }

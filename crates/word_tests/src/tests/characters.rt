@@ -21,12 +21,12 @@ static WORDS: [(u16, u8, i8); 14] = [
     (0x133, 5, 0),
 ];
 
-/// The bits of 354 in their sending order.
+/// The bits of 354 in the order in which they are sent.
 static SENT: [bool; 10] = [
     false, false, true, false, true, false, true, false, true, true,
 ];
 
-/// Whether a number is that of a character with this many transitions and such a balance.
+/// Whether a number is that of a character with so many transitions and such a balance.
 fn is_character(value: u16, turns: u8, balance: i8) -> bool {
     match Word::new(value) {
         Some(word) => word.value() == value && word.turns() == turns && word.balance() == balance,

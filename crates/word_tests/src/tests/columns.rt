@@ -106,7 +106,7 @@ fn are_two(two: Columns<'_>) -> bool {
         && two.red() == [0x202, 0x203].as_slice()
 }
 
-/// Whether parts of columns are borrowed.
+/// Whether parts of columns are lent.
 fn lends_columns() -> bool {
     let columns = Columns::new(
         &[0x001, 0x002, 0x003, 0x004],

@@ -1,4 +1,4 @@
-//! Lists of reported events, with answers that a model in another language computed.
+//! Lists of reported events, whose answers were computed by a model in another language.
 
 use super::frame_lists::LISTS;
 use frame_build::{FrameNote, Frames};

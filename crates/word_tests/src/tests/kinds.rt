@@ -30,7 +30,7 @@ static NIBBLES: [(u16, u8); 16] = [
     (0x2e4, 2),
 ];
 
-/// Columns with two or three control words.
+/// Columns of which two or three words are control words.
 static CONTROL_COLUMNS: [[u16; 3]; 5] = [
     [0x354, 0x0ab, 0x154],
     [0x2ab, 0x2ab, 0x2ab],
@@ -113,7 +113,7 @@ fn has_terc_word(value: u8, word: u16) -> bool {
     value < 16 && terc(value).value() == word
 }
 
-/// Whether a column has this many guard words of each kind.
+/// Whether a column has so many guard words of each kind.
 fn has_guard_words(column: &[Word; 3], counts: &[u8; 3]) -> bool {
     video_guard_words(column) == counts[0]
         && island_guard_words(column) == counts[1]

@@ -22,9 +22,9 @@ use Rattle.hdmi_cli.proofs.TrackHeadline.{stays_aligns, tracks_as_link, relocks_
 use Rattle.hdmi_cli.proofs.TrackLocal.{tracked_locally}
 use Rattle.hdmi_cli.proofs.TrackSlip.{tracked_across, relocked_across, content_relocked_across}
 use Rattle.hdmi_cli.proofs.TrackPasses.{tracked_as_one, relocked_as_one, content_relocked_as_one}
-use Rattle.hdmi_cli.proofs.RelockWhole.{listed_at_whole}
+use Rattle.hdmi_cli.proofs.RelockAgain.{relocked_again, content_relocked_again}
+use Rattle.hdmi_cli.proofs.RelockSecond.{listed_at_second}
 use Rattle.hdmi_cli.proofs.RelockLocal.{clear_is_uncontended, relocked_locally, content_relocked_locally}
-use Rattle.hdmi_cli.proofs.Fields.{fielded}
 use Rattle.hdmi_cli.proofs.Pictures.{packeted, pictured}
 use Rattle.hdmi_cli.proofs.Sounds.{sounded}
 use Rattle.relay.proofs.Accounting.{relayed_account}
@@ -70,7 +70,6 @@ returns g c =
         content_headline = recovered Aligns (λ t aligns. aligns) content_listing RecoverContent (λ t tapped aligns o does. does) words ending before after status ends known;
         pictures = pictured Aligns (λ t aligns. aligns) RecoverContent (λ t tapped aligns o does. does) words ending before after status ends known;
         packets = packeted Aligns (λ t aligns. aligns) RecoverContent (λ t tapped aligns o does. does) words ending before after status ends known;
-        fields = fielded Aligns (λ t aligns. aligns) RecoverContent (λ t tapped aligns o does. does) words ending before after status ends known;
         content_local = headlined_locally content_listing after_content last_link content_is_text RecoverContent (λ bytes o does. does) words ending before after status ends known;
         check_local = headlined_locally check_listing after_check last_check check_is_text Check (λ bytes o does. does) words ending before after status ends known;
         pictures_local = pictured_locally words ending before after status ends known;
@@ -89,16 +88,17 @@ returns g c =
         relock_local = λ named t until tapped aligns clear.
             relocked_locally words ending before after status ends known named t until tapped aligns (clear_is_uncontended t until tapped aligns clear);
         relock_uncontended = relocked_locally words ending before after status ends known;
-        relock_at_whole = listed_at_whole words ending before after status ends known;
+        relock_again = relocked_again words ending before after status ends known;
+        relock_at_second = listed_at_second words ending before after status ends known;
         content_relock_headline = recovered StaysAligned stays_aligns content_listing RecoverContentRelock relocks_as_content words ending before after status ends known;
         content_relock_pictures = pictured StaysAligned stays_aligns RecoverContentRelock relocks_as_content words ending before after status ends known;
         content_relock_packets = packeted StaysAligned stays_aligns RecoverContentRelock relocks_as_content words ending before after status ends known;
-        content_relock_fields = fielded StaysAligned stays_aligns RecoverContentRelock relocks_as_content words ending before after status ends known;
         content_relock_local = λ named t until tapped aligns clear.
             content_relocked_locally words ending before after status ends known named t until tapped aligns (clear_is_uncontended t until tapped aligns clear);
         content_relock_uncontended = content_relocked_locally words ending before after status ends known;
         content_relock_slip = content_relocked_across words ending before after status ends known;
         content_relock_slip_passes = content_relocked_as_one words ending before after status ends known;
+        content_relock_again = content_relocked_again words ending before after status ends known;
         relay_headline = relay_headlined (relayed_account facts) words ending before after status ends known;
         relay_local = relayed_locally (line_relayed facts) (island_relayed facts) words ending before after status ends known;
         relay_clean = relay_passes (whole_relayed facts) words ending before after status ends known;

@@ -1,4 +1,4 @@
-use Rattle.std.proofs.Common.{◌-◌, ◌*◌, sym, subst, arith, inl, inr, ℕ}
+use Rattle.std.proofs.Common.{◌≡◌, ◌-◌, ◌*◌, sym, subst, arith, inl, inr, ℕ}
 use Rattle.std.proofs.lemmas.Bool.{cases_lt}
 use Rattle.lane_align.specs.Lanes.{HasControl}
 use Rattle.lane_edges.proofs.laws.one_run.Goals as goal

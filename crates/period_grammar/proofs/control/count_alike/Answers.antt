@@ -1,18 +1,17 @@
-use Rattle.std.proofs.Common.{◌≤◌, length, take, drop, ap, ◌∙◌, arith, length-drop}
+use Rattle.std.proofs.Common.{◌≤◌, length, sym, ◌∙◌, arith}
 use Rattle.tmds_word.specs.Column.{column_of}
 use Rattle.tmds_word.specs.Lent.{columns_in}
 use Rattle.period_grammar.specs.GoesOn.{is_alike}
-use Rattle.period_grammar.proofs.Eights.{eight_more}
+use Rattle.period_grammar.proofs.Pixels.{step_yes, step_no, step_end}
 use Rattle.period_grammar.proofs.control.count_alike.Goals as goal
 
-pub loop-at-preserved : goal.loop-at-preserved
-loop-at-preserved c =
-    let cols = columns_in c.args.columns in
-    let at = c.loop-at.at in
-    let within = c.alike_of_eight-count.ensures.within in
-    let long = length-drop at cols in
-    let room : 8 ≤ length (drop at cols) = omega (arith, long, c.loop-at-test.true, c.len.ensures) in
-    record {
-      in_range = omega (arith, within, room, long, c.loop-at.invariant.in_range);
-      alike = eight_more (is_alike (column_of c.args.other.now)) cols _ _ at c.alike_of_eight-count.result (c.first.ensures ∙ ap (take 8) c.from.ensures) room c.alike_of_eight-count.ensures.count (omega (arith, within, c.if-count-lt-EIGHT.false)) c.loop-at.invariant.alike;
-    }
+pub loop-i-preserved : goal.loop-i-preserved
+loop-i-preserved c = step_yes (is_alike (column_of c.args.other.now)) _ c.loop-i.i _ _ c.get.ensures (sym c.same_words.ensures ∙ c.if-not-same_words.false) c.loop-i.invariant
+
+pub returns-then-not-same_words-clause-count : goal.returns-then-not-same_words-clause-count
+returns-then-not-same_words-clause-count c = step_no (is_alike (column_of c.args.other.now)) _ c.loop-i.i _ _ c.get.ensures (sym c.same_words.ensures ∙ c.if-not-same_words.true) c.loop-i.invariant
+
+pub returns-clause-count : goal.returns-clause-count
+returns-clause-count c =
+    let most : length (columns_in c.args.columns) ≤ c.loop-i.i = omega arith in
+    omega (arith, step_end (is_alike (column_of c.args.other.now)) (columns_in c.args.columns) c.loop-i.i _ most c.loop-i.invariant, most)

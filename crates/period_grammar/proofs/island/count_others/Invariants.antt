@@ -1,6 +1,6 @@
 use Rattle.std.proofs.Common.{◌≡◌, true, take, All}
 use Rattle.tmds_word.specs.Lent.{columns_in}
-use Rattle.period_grammar.specs.Pixels.{is_pixel}
+use Rattle.period_grammar.specs.Balanced.{is_pixel}
 use Rattle.period_grammar.proofs.island.count_others.Given as goal
 
 abbrev pub invariant-loop-i : goal.invariant-loop-i

@@ -2,7 +2,7 @@ use Rattle.std.proofs.Common.{◌≡◌, true, List, All, subst, sym, arith}
 use Rattle.std.proofs.lemmas.List.{take_all}
 use Rattle.tmds_word.specs.Column.{Column}
 use Rattle.tmds_word.specs.Lent.{columns_in}
-use Rattle.period_grammar.specs.Pixels.{is_pixel}
+use Rattle.period_grammar.specs.Balanced.{is_pixel}
 use Rattle.period_grammar.proofs.InPacket.{put_front}
 use Rattle.period_grammar.proofs.NoControls.{pixels_kept}
 use Rattle.period_grammar.proofs.island.put_columns.Goals as goal

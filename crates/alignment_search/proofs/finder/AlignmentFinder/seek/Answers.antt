@@ -3,7 +3,6 @@ use Rattle.alignment_search.specs.Alignments.{greatest, least}
 use Rattle.alignment_search.specs.Reached.{CanReach}
 use Rattle.alignment_search.specs.Searches.{HaveReached}
 use Rattle.alignment_search.proofs.Searching.{HasNoneBefore, at_limit, bounds_at, begins, from_within, none_before, goes_past, is_next, goes_on, is_searched}
-use Rattle.alignment_search.proofs.Beginning.{have_begun}
 use Rattle.alignment_search.proofs.finder.AlignmentFinder.seek.Goals as goal
 
 pub edges_from-edges-requires-clause-order : goal.edges_from-edges-requires-clause-order
@@ -120,13 +119,6 @@ returns-then-greatest-limit-clause-searched c = λ xs ys zs parts searched.
     let one_past : c.greatest-then-greatest-limit.result + 1 ≡ greatest c.apart.edges + 1 = omega (arith, c.greatest-then-greatest-limit.ensures) in
     goes_on xs ys zs _ c.apart.from c.args.limit c.apart.edges (record { blue = r.0.blue; green = r.0.green; red = r.0.red }) r.1 inv.within.after near before
     (omega (arith, c.least.ensures)) one_past one_past
-
-pub returns-then-greatest-limit-clause-begun : goal.returns-then-greatest-limit-clause-begun
-returns-then-greatest-limit-clause-begun c = λ xs ys zs parts searched.
-    let inv = c.apart.invariant in
-    let r = inv.reached xs ys zs parts searched in
-    let before : greatest c.apart.edges < c.args.limit = let h = c.if-greatest-limit.true in omega (arith, c.greatest.ensures) in
-    have_begun _ xs ys zs c.apart.from c.args.limit c.apart.edges (record { blue = r.0.blue; green = r.0.green; red = r.0.red }) r.1 inv.within before
 
 pub returns-then-greatest-limit-clause-found : goal.returns-then-greatest-limit-clause-found
 returns-then-greatest-limit-clause-found c = λ xs ys zs parts searched.

@@ -28,7 +28,7 @@ characters-preserved c =
           let here = c.characters.invariant.none xs lock count from holds long was no_edge in
           let is = read_control (bytes_bits c.args.bytes.now) xs c.args.skip c.args.base count finder.next c.word_at.result control holds after (omega arith) c.word_at.ensures c.is_control_word-control.ensures in
           c.pass-in-characters.ensures.passed xs lock count from holds long
-          (scanned_more xs lock finder _ control here.0 (record { at = refl; run = c.counted-self.ensures; others = c.counted_others-self.ensures; begins = c.begun_at-self.ensures.begins; goes_on = c.begun_at-self.ensures.goes_on }) (long_enough xs _ c.args.base count finder.next holds (omega arith)) is)
+          (scanned_more xs lock finder _ control here.0 refl c.counted-self.ensures (long_enough xs _ c.args.base count finder.next holds (omega arith)) is)
           (none_more xs lock from finder control here.0 is other here.1);
     }
 
@@ -46,7 +46,7 @@ returns-then-run-ge-ENOUGH-clause-found c = λ xs lock count holds long was.
     let is = read_control (bytes_bits c.args.bytes.now) xs c.args.skip c.args.base count finder.next c.word_at.result control holds after (omega arith) c.word_at.ensures c.is_control_word-control.ensures in
     let whole = long_enough xs _ c.args.base count finder.next holds (omega arith) in
     let not : HasControl xs finder.next → ⊥ = λ has. let e = is.1 has in let none = c.if-not-control.true in cc in (
-      scanned_more xs lock finder _ control here.0 (record { at = refl; run = c.counted-self.ensures; others = c.counted_others-self.ensures; begins = c.begun_at-self.ensures.begins; goes_on = c.begun_at-self.ensures.goes_on }) whole is,
+      scanned_more xs lock finder _ control here.0 refl c.counted-self.ensures whole is,
       (edge_here xs lock from finder here.0 whole c.if-run-ge-ENOUGH.true not (omega arith) here.1, test, refl),
     )
 

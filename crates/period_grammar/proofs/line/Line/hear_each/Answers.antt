@@ -2,7 +2,7 @@ use Rattle.std.proofs.Common.{rules, ◌++◌, List, take, not, ap, sym, subst, 
 use Rattle.std.proofs.lemmas.Grind.{common_steps}
 use Rattle.tmds_word.specs.Column.{Column}
 use Rattle.tmds_word.specs.Lent.{columns_in}
-use Rattle.period_grammar.specs.Pixels.{is_pixel}
+use Rattle.period_grammar.specs.Balanced.{is_pixel}
 use Rattle.period_grammar.specs.Lines.{IsLineAfter}
 use Rattle.period_grammar.proofs.Pixels.{next_take, step_yes, step_no, step_end}
 use Rattle.period_grammar.proofs.line.Line.hear_each.Goals as goal

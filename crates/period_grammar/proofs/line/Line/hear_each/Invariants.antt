@@ -2,7 +2,7 @@ use Rattle.std.proofs.Common.{◌≡◌, ◌+◌, ◌++◌, List, take, drop}
 use Rattle.std.specs.List.{prefix_len}
 use Rattle.tmds_word.specs.Column.{Column}
 use Rattle.tmds_word.specs.Lent.{columns_in}
-use Rattle.period_grammar.specs.Pixels.{is_pixel}
+use Rattle.period_grammar.specs.Balanced.{is_pixel}
 use Rattle.period_grammar.specs.Lines.{IsLineAfter}
 use Rattle.period_grammar.proofs.line.Line.hear_each.Given as goal
 

@@ -22,7 +22,7 @@ judge-requires-clause-found c =
     let before = c.in-Some.ensures.within.1 in
     let long = l.3 in
     let late = c.in-Some.ensures.within.0 in
-    (l.0, l.1, known_at c.alignments.self l.0 c.in-Some.edges was next c.seek.new.self (c.in-Some.ensures.begun l.0.blue l.0.green l.0.red (c.parts_of.ensures.parts l.0 l.1) (searched_here c.alignments.self l.0 was)) (omega arith))
+    (l.0, l.1, known_at c.alignments.self l.0 c.in-Some.edges was next (omega arith) (omega arith))
 
 pub judge-requires-clause-base : goal.judge-requires-clause-base
 judge-requires-clause-base c =
@@ -49,8 +49,8 @@ returns-then-judge c = record {
       let next = c.in-Some.ensures.found fed.blue fed.green fed.red (c.parts_of.ensures.parts fed lent) (searched_here c.alignments.self fed was) in
       let before = c.in-Some.ensures.within.1 in
       let late = c.in-Some.ensures.within.0 in
-      let given = MatchBool-at_true (LetGoFor fed c.in-Some.edges) (IsKnownAfter c.judge.new.self.own fed c.in-Some.edges) c.if-judge.true
-      (c.judge.ensures.judged fed lent (known_at c.alignments.self fed c.in-Some.edges was next c.seek.new.self (c.in-Some.ensures.begun fed.blue fed.green fed.red (c.parts_of.ensures.parts fed lent) (searched_here c.alignments.self fed was)) (omega arith))) in
+      let given = MatchBool-at_true (LetGoFor fed c.in-Some.edges) (IsKnownAfter c.judge.new.self.own c.judge.new.self.doubt fed c.in-Some.edges) c.if-judge.true
+      (c.judge.ensures.judged fed lent (known_at c.alignments.self fed c.in-Some.edges was next (omega arith) (omega arith))) in
       let near = near_edges fed c.in-Some.edges next.triple in
       refuted_before fed c.in-Some.edges c.args.limit (c.min-then-judge.result - 120) given (first_refuted c.alignments.self fed c.in-Some.edges was next (omega arith) given) before
       (omega (arith, near.1, c.min.ensures, c.min-then-judge.ensures));
@@ -68,8 +68,8 @@ alignments-preserved c =
           let was = c.alignments.invariant.sought fed lent sought long in
           let here = searched_here c.alignments.self fed was in
           let next = c.in-Some.ensures.found fed.blue fed.green fed.red (c.parts_of.ensures.parts fed lent) here in
-          let after = MatchBool-at_false (LetGoFor fed c.in-Some.edges) (IsKnownAfter c.judge.new.self.own fed c.in-Some.edges) c.if-judge.false
-          (c.judge.ensures.judged fed lent (known_at c.alignments.self fed c.in-Some.edges was next c.seek.new.self (c.in-Some.ensures.begun fed.blue fed.green fed.red (c.parts_of.ensures.parts fed lent) (searched_here c.alignments.self fed was)) (omega arith))) in
+          let after = MatchBool-at_false (LetGoFor fed c.in-Some.edges) (IsKnownAfter c.judge.new.self.own c.judge.new.self.doubt fed c.in-Some.edges) c.if-judge.false
+          (c.judge.ensures.judged fed lent (known_at c.alignments.self fed c.in-Some.edges was next (omega arith) (omega arith))) in
           next_sought c.alignments.self fed c.in-Some.edges was next c.judge.new.self (omega arith) at
           (subst (λ (f : AlignmentFinder). HasSearched f fed.blue fed.green fed.red) (sym c.judge.ensures.alignments) (c.seek.ensures.searched fed.blue fed.green fed.red (c.parts_of.ensures.parts fed lent) here))
           after;
@@ -78,12 +78,12 @@ alignments-preserved c =
 pub returns : goal.returns
 returns c = record {
   found = λ fed lent sought long.
-      let now : RivalSearch = record { alignments = c.seek.new.self; own = c.alignments.self.own } in
+      let now : RivalSearch = record { alignments = c.seek.new.self; own = c.alignments.self.own; doubt = c.alignments.self.doubt } in
       let was = c.alignments.invariant.sought fed lent sought long in
       let here = searched_here c.alignments.self fed was in
       let parts = c.parts_of.ensures.parts fed lent in (
         none_sought c.alignments.self now fed c.args.limit was (c.in_default.ensures.found fed.blue fed.green fed.red parts here) (c.seek.ensures.searched fed.blue fed.green fed.red parts here)
-            c.in_default.ensures.limit c.in_default.ensures.past c.alignments.invariant.within refl long,
+            c.in_default.ensures.limit c.in_default.ensures.past c.alignments.invariant.within refl refl long,
         c.in_default.ensures.limit,
       );
 }

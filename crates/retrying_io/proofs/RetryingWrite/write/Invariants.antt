@@ -1,6 +1,0 @@
--- An interrupted write appends nothing.
-use Rattle.std.specs.Io.KnownBytes.{Keeps}
-use Rattle.retrying_io.proofs.RetryingWrite.write.Given as goal
-
-abbrev pub invariant-loop : goal.invariant-loop
-invariant-loop g l = Keeps (g.W.Write.contents l.initial.self.device) (g.W.Write.contents l.self.device)

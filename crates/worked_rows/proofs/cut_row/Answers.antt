@@ -1,5 +1,0 @@
-use Rattle.worked_rows.proofs.Taps.{cut_row}
-use Rattle.worked_rows.proofs.cut_row.Goals as goal
-
-pub returns : goal.returns
-returns c = cut_row
