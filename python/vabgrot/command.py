@@ -7,6 +7,7 @@ import os
 import signal
 import sys
 import textwrap
+import threading
 from collections.abc import Callable, Iterator
 
 from vabgrot import place
@@ -62,12 +63,14 @@ def end_output() -> None:
 @contextlib.contextmanager
 def ended_by_pipes() -> Iterator[None]:
     """Lets a pipe whose reader goes away end the process, as it ends the program."""
-    before = signal.signal(signal.SIGPIPE, signal.SIG_DFL)
+    is_main = threading.current_thread() is threading.main_thread()  # no other thread may set what a signal does
+    before = signal.signal(signal.SIGPIPE, signal.SIG_DFL) if is_main else None
     try:
         yield
     finally:
         end_output()
-        signal.signal(signal.SIGPIPE, before)
+        if is_main:
+            signal.signal(signal.SIGPIPE, before)
 
 
 def run(name: str, work: Callable[[], int]) -> int:
