@@ -11,9 +11,13 @@ because it decides when the last crate can begin; the others give way to it. It 
 line in crates.txt, a crate below it or the kit has changed. Its results are in crates/NAME/out/built, apart from those of `rt`.
 If the kit has its parts in other places, `rt run` does everything.
 
-On a terminal, a line on standard error counts the crates. Status: 0 if the program is built; 1 if a crate is not proved or the
-program is not linked, with the prover's words on standard error; 2 if there is no kit."""
+Before a long build, a line on standard error says about how long it takes on this machine. Later lines count the crates and the minutes
+that are left: on a terminal one line that changes, otherwise one a minute. A build that is stopped goes on where it was. Status: 0 if the
+program is built; 1 if a crate is not proved or the program is not linked, with the prover's words on standard error; 2 if there is no
+kit; 130 if it was stopped."""
 
+import collections
+import concurrent.futures
 import contextlib
 import fcntl
 import functools
@@ -37,10 +41,16 @@ RECORD = BUILT.with_name("kit")  # says which kit built the program; `./vabgrot 
 TARGET = "x86_64-unknown-linux-gnu"
 CRATE = 90  # as many lines of code take as long as a check of a crate without any
 ASKED = 13  # and as one `?`, at which a function may end early
+ENDING = 5000  # and as what the crate of the program takes more than others of its size
+LONG = 8000  # lines whose checks take so long that it is said before
+TRIES = 24  # of the measure, which takes about as long as the check of a line
+GAIN = 2  # how much faster one check gets at most by its jobs
+EACH = 60  # seconds between two lines where there is no terminal
 MEMORY = 3_000_000_000  # the most that a check takes, in bytes
 MOST_JOBS = 4  # of one check: more hardly help
 NICEST = 19
 ENDS = (signal.SIGINT, signal.SIGTERM, signal.SIGHUP)  # that end a build
+STOPPED = 130  # the status then
 
 
 @dataclass(frozen=True)
@@ -193,6 +203,64 @@ def processors():
     return len(os.sched_getaffinity(0))
 
 
+def measure(_):
+    """Does what takes a processor about as long as the check of a line. Both spend their time in tables in memory."""
+    table = {}
+    for number in range(66_000):
+        key = (number * 7919 % 10007, str(number))
+        table[key] = table.get((number * 31 % 10007, str(number // 2)), 0) + 1
+    return len(sorted(table, key=lambda it: it[1]))
+
+
+def seconds_a_line():
+    """How long a processor takes for the check of a line while all of them work. Measuring it takes some seconds."""
+    began, tries = time.monotonic(), TRIES * processors()
+    with concurrent.futures.ProcessPoolExecutor(processors()) as pool:
+        collections.deque(pool.map(measure, range(tries), chunksize=TRIES // 4), maxlen=0)
+    return (time.monotonic() - began) / TRIES
+
+
+def in_words(seconds):
+    minutes = round(seconds / 60)
+    return "less than a minute" if minutes < 1 else f"about {minutes} minute{'s' * (minutes > 1)}"
+
+
+class Clock:
+    """Says how long a build takes: at first by a measure of the machine, later more and more by what is done."""
+
+    def __init__(self, ways, left):
+        self.began = self.said = time.monotonic()
+        self.lines = {it: it.work + ENDING * it.is_program for it in left}
+        self.total = sum(self.lines.values())
+        self.whole = None
+        if self.total > LONG:
+            longest = max(ways[it] for it in left) + sum(ENDING for it in left if it.is_program)
+            self.whole = max(self.total / processors(), longest / GAIN) * seconds_a_line()
+
+    def begin(self):
+        if self.whole:
+            says = f"vabgrot: proving {len(self.lines)} crates takes {in_words(self.whole)} on this machine."
+            print(f"{says} You can stop it: the next run continues.", file=sys.stderr, flush=True)
+
+    def left(self, undone):
+        """The seconds that are left, with these crates."""
+        passed = time.monotonic() - self.began
+        share = 1 - sum(self.lines[it] for it in undone) / self.total
+        by_now = passed / share if share else 0
+        return max(0.0, (1 - share) * self.whole + share * by_now - passed)
+
+    def show(self, count, undone):
+        """Says how many of the crates are proved, and how long the others take."""
+        if not self.whole:
+            return
+        line = f"vabgrot: {count - len(undone)} of {count} crates proved, {in_words(self.left(undone))} left"
+        if sys.stderr.isatty():
+            print(f"\r{line:<79}", end="", file=sys.stderr, flush=True)
+        elif time.monotonic() > self.said + EACH:
+            self.said = time.monotonic()
+            print(line, file=sys.stderr, flush=True)
+
+
 def most_at_once():
     """How many checks may run at a time: one more than there are processors, and no more than there is free memory for."""
     with open("/proc/meminfo", encoding="utf-8") as it:
@@ -204,11 +272,12 @@ class Building:
     """Which crates are proved, which are being proved, and which are left, those with the longest ways up first."""
 
     def __init__(self, crates):
-        self.count, self.began, self.most = len(crates), time.monotonic(), most_at_once()
+        self.count, self.most = len(crates), most_at_once()
         self.ways = ways_up(crates)
         self.done = {it for it in crates if it.is_current()}
         self.left = sorted((it for it in crates if it not in self.done), key=self.ways.get, reverse=True)
         self.running, self.failed = {}, None
+        self.clock = Clock(self.ways, self.left)
 
     def niceness(self, crate):
         """How nice its check is: the less work stands in its way up, the nicer."""
@@ -255,14 +324,9 @@ class Building:
         else:
             self.failed = self.failed or crate
 
-    def show(self):
-        if sys.stderr.isatty():
-            passed = int(time.monotonic() - self.began)
-            line = f"vabgrot: {len(self.done)} of {self.count} crates proved, {passed // 60}:{passed % 60:02} "
-            print(f"\r{line}", end="", file=sys.stderr, flush=True)
-
     def run(self):
         """Proves all, and returns the crate whose check failed, if one did; then the others' checks are ended."""
+        self.clock.begin()
         try:
             self.begin_ready()
             while self.running and not self.failed:
@@ -271,7 +335,7 @@ class Building:
                     self.end(crate, self.running[crate].returncode)
                 if not self.failed:
                     self.begin_ready()
-                self.show()
+                self.clock.show(self.count, [*self.left, *self.running])
         finally:
             for process in self.running.values():
                 with contextlib.suppress(ProcessLookupError):
@@ -311,6 +375,7 @@ def build_over_ci(kit):
 
 def build_by_rt():
     """Has `rt run` build the program. It runs it too, and the program without words only says how it is used."""
+    print("vabgrot: proving and building the program takes ten to twenty minutes on four cores.", file=sys.stderr, flush=True)
     ran = subprocess.run(["rt", "run"], cwd=TOP / "crates" / PROGRAM, stdin=subprocess.DEVNULL, capture_output=True, text=True)
     is_built = re.search(r"(?m)^rt: running ", ran.stdout + ran.stderr)
     if not is_built:
@@ -339,7 +404,7 @@ def main():
         print("build.py: the command rt is not on the PATH, or it fails. Install the Rattle kit and try `rt doc`.", file=sys.stderr)
         return 2
     for end in ENDS:
-        signal.signal(end, lambda *_: sys.exit(1))
+        signal.signal(end, lambda *_: sys.exit(STOPPED))
     began = time.time()
     if is_over_ci:
         return build_over_ci(kit)

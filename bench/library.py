@@ -24,8 +24,8 @@ and of the lines, the lines and packets, and the islands:
     faults   as feed, and looks for each event whether it is a fault
     views    Receiver.feed_views of the package, 4 MiB of each lane at a time
     watched  the same, and counts what tools/watch counts
-    arrays   Receiver.feed_arrays of the package
-    objects  Receiver.feed of the package, which makes an object for each event
+    arrays   Receiver.feed of the package
+    objects  the same, and makes an object for each event
 
 Each rate is also printed as a part of 340 million columns a second, the fastest link of HDMI 1.4. A fixed loop, SHA-256 of 4 MiB, takes
 turns with the runs. Columns for each byte of the loop compare runs on a processor whose clock changes. The load of the machine is printed
@@ -49,13 +49,12 @@ import inputs
 TOP = Path(__file__).resolve().parents[1]
 sys.path.insert(0, str(TOP / "python"))
 from vabgrot import Receiver, capture, library  # noqa: E402
-from vabgrot.events import Kind  # noqa: E402
+from vabgrot.events import RECORD, Kind  # noqa: E402
 from vabgrot.place import PROGRAM  # noqa: E402
-from vabgrot.receiving import BYTES, EVENTS, RECORD  # noqa: E402
-from vabgrot.watching import receiving  # noqa: E402
+from vabgrot.receiving import BYTES, EVENTS  # noqa: E402
+from vabgrot.watching import feeding  # noqa: E402
 from vabgrot.watching.blocks import LONGEST  # noqa: E402
 from vabgrot.watching.counting import Count  # noqa: E402
-from vabgrot.watching.records import Recorded  # noqa: E402
 
 PIECE = 1 << 16  # bytes of a lane
 FASTEST = 340.0  # million columns a second
@@ -107,13 +106,13 @@ class Viewed:
     piece = LONGEST
 
     def __init__(self, counts):
-        self.receiver, self.counts = Receiver("link", receiving.EVENTS, receiving.BYTES), counts
+        self.receiver, self.counts = Receiver("link", feeding.EVENTS, feeding.BYTES), counts
 
     def feed(self, lanes):
         count = Count()
-        for views in self.receiver.feed_views(*lanes):
+        for events in self.receiver.feed_views(*lanes):
             if self.counts:
-                count.take(Recorded(*views))
+                count.take(events)
 
     def finish(self):
         self.receiver.finish()
@@ -125,12 +124,13 @@ class Packaged:
 
     piece = PIECE
 
-    def __init__(self, name):
-        self.receiver = Receiver()
-        self.call = getattr(self.receiver, name)
+    def __init__(self, views):
+        self.receiver, self.views = Receiver(), views
 
     def feed(self, lanes):
-        self.call(*lanes)
+        events = self.receiver.feed(*lanes)
+        if self.views:
+            list(events)
 
     def finish(self):
         self.receiver.finish()
@@ -144,8 +144,8 @@ WAYS = {
     "faults": lambda: Fed(looks=True),
     "views": lambda: Viewed(False),
     "watched": lambda: Viewed(True),
-    "arrays": lambda: Packaged("feed_arrays"),
-    "objects": lambda: Packaged("feed"),
+    "arrays": lambda: Packaged(views=False),
+    "objects": lambda: Packaged(views=True),
 }
 
 

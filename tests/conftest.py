@@ -6,7 +6,9 @@ from collections import Counter
 import pytest
 
 from tests.support import TOP, built, ran
+from vabgrot import library as native
 
+os.environ["VABGROT_NO_BUILD"] = "1"  # a test that needs the program, the library or the page is skipped where it is missing
 COMPARISONS = "comparisons"  # the property of a test of many: how many passed, and how many failed
 
 
@@ -80,9 +82,34 @@ def executable():
     return str(path)
 
 
+def built_library(folder):
+    """Builds the shared and the static library into a folder. Answers why that is not possible, if it is not."""
+    made = ran([TOP / "library" / "build", folder], b"")
+    assert made.returncode in (0, 127), made.stderr.decode()
+    return made.stderr.decode().strip() if made.returncode else None
+
+
+@pytest.fixture(scope="session", autouse=True)
+def hearing(tmp_path_factory):
+    """Names the C library that the tools of all tests use: the one that is built or named, otherwise one that is built for the tests.
+    Answers why there is none, if there is none."""
+    try:
+        native.loaded(native.find())
+        os.environ["VABGROT_LIBRARY"] = native.find()
+        return None
+    except native.NoLibrary:
+        folder = tmp_path_factory.mktemp("hearing")
+        why = built_library(folder)
+        if not why:
+            os.environ["VABGROT_LIBRARY"] = str(folder / "libvabgrot.so.1")
+        return why
+
+
 @pytest.fixture
-def tool():
+def tool(hearing):
     """Runs a tool: its name, its words, its input, and the status that is wanted. A refusal is one line."""
+    if hearing:
+        pytest.skip(hearing)
 
     def run(name, *words, source=b"", status=0):
         came = ran([TOP / "tools" / name, *words], source)
@@ -113,10 +140,8 @@ def program(executable):
 def library(tmp_path_factory):
     """The folder of the shared and the static library. The tests are skipped where a compiler or the proved archive is missing."""
     folder = tmp_path_factory.mktemp("library")
-    made = ran([TOP / "library" / "build", folder], b"")
-    if made.returncode == 127:
-        pytest.skip(made.stderr.decode().strip())
-    assert made.returncode == 0, made.stderr.decode()
+    if why := built_library(folder):
+        pytest.skip(why)
     return folder
 
 

@@ -18,7 +18,7 @@ Exit status: 0; 1 if there was a fault or the lanes never aligned; 2 for wrong a
 
 import sys
 
-from vabgrot import Fault, Receiver
+from vabgrot import Receiver
 
 TEN = 10  # bits of a character
 
@@ -59,15 +59,15 @@ class Link:
     def hear(self, events):
         """Collects events up to the first fault, and raises LinkFault there."""
         for event in events:
-            if isinstance(event, Fault):
+            if event.is_fault:
                 raise LinkFault(f"{event} (of {self.count} clocks)")
             self.events.append(event)
 
     def finish(self):
         """Ends the lanes and returns the number of columns. Raises LinkFault if the lanes never aligned."""
         self.feed()
-        *events, end = self.receiver.finish()
-        self.hear(events)
+        rest, end = self.receiver.finish()
+        self.hear(rest)
         if not end.aligned:
             raise LinkFault(f"the lanes were not aligned in {self.count} clocks")
         return end.columns

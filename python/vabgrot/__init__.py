@@ -8,36 +8,26 @@ from typing import TYPE_CHECKING, Any
 if TYPE_CHECKING:
     from vabgrot.encoding import Control, Island, Video, encode
     from vabgrot.errors import Refused
-    from vabgrot.events import Closing, Cut, End, EpochsEnd, Event, Fault, Kind, Line, Opening, Packet, Relocked, Run, Slip
+    from vabgrot.events import End, Event, Events, Kind
     from vabgrot.library import Misuse, NoLibrary
-    from vabgrot.receiving import Arrays, Receiver, receive
-    from vabgrot.recovery import Recovered, recover
+    from vabgrot.receiving import Receiver, receive
+    from vabgrot.recovered import Recovered, recover
     from vabgrot.sending import BadListing, make
     from vabgrot.texts import Text, text_of
 
 __all__ = [
-    "Arrays",
     "BadListing",
-    "Closing",
     "Control",
-    "Cut",
     "End",
-    "EpochsEnd",
     "Event",
-    "Fault",
+    "Events",
     "Island",
     "Kind",
-    "Line",
     "Misuse",
     "NoLibrary",
-    "Opening",
-    "Packet",
     "Receiver",
     "Recovered",
     "Refused",
-    "Relocked",
-    "Run",
-    "Slip",
     "Text",
     "Video",
     "encode",
@@ -46,8 +36,8 @@ __all__ = [
     "recover",
     "text_of",
 ]
-_HOMES = {"Misuse": "library", "NoLibrary": "library", "Refused": "errors", "Recovered": "recovery", "recover": "recovery"}
-_HOMES |= dict.fromkeys(("Arrays", "Receiver", "receive"), "receiving") | dict.fromkeys(("Text", "text_of"), "texts")
+_HOMES = {"Misuse": "library", "NoLibrary": "library", "Refused": "errors", "Recovered": "recovered", "recover": "recovered"}
+_HOMES |= dict.fromkeys(("Receiver", "receive"), "receiving") | dict.fromkeys(("Text", "text_of"), "texts")
 _HOMES |= dict.fromkeys(("BadListing", "make"), "sending") | dict.fromkeys(("Control", "Island", "Video", "encode"), "encoding")
 
 

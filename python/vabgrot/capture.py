@@ -1,8 +1,14 @@
 """Captures, as docs/guide/FORMATS.md lays them out: the header, and three lanes in blocks of 4,096 bytes in turn."""
 
-from collections.abc import Sequence
-from typing import IO
+import shutil
+import tempfile
+from collections.abc import Iterator, Sequence
+from contextlib import contextmanager
+from io import BufferedReader
+from pathlib import Path
+from typing import IO, BinaryIO, cast
 
+from vabgrot import place
 from vabgrot.errors import Refused
 
 BLOCK = 4096
@@ -20,19 +26,29 @@ def write(out: IO[bytes], lanes: Sequence[IO[bytes]], counts: Sequence[int]) -> 
     out.flush()
 
 
+def check_magic(data: bytes) -> None:
+    """Raises Refused if the first bytes of a file, as far as they are there, begin no capture."""
+    if data[:3] != b"TMC"[: len(data)]:
+        made = place.named("Make one from raw bits with `tools/lanes pack`")
+        raise Refused(f"not a capture: it starts with {data[:3].hex(' ')}, not with TMC. {made}")
+    if data[3:4] not in (b"", b"1", b"2"):
+        raise Refused(f"the capture has the version {data[3:4]!r}. Only the versions 1 and 2 exist")
+
+
+def size_of_header(data: bytes) -> int:
+    """How many bytes a header has, by its first four."""
+    return 4 + 4 * (3 if data[3:4] == b"2" else 1)
+
+
 def header_of(data: bytes) -> tuple[list[int], int]:
     """How many bits each of the three lanes has, and the byte at which the lanes begin, by the first 16 bytes of a capture. Raises
-    Refused where they are no header."""
-    if data[:3] != b"TMC"[: len(data)]:
-        raise Refused("the input is no capture: it does not begin with TMC")
-    if data[3:4] not in (b"", b"1", b"2"):
-        raise Refused(f"the capture is of version {data[3:4]!r}, and 1 and 2 are known")
-    numbers = 3 if data[3:4] == b"2" else 1
-    start = 4 + 4 * numbers
+    Refused if they are no header."""
+    check_magic(data)
+    start = size_of_header(data)
     if len(data) < start:
-        raise Refused(f"the capture breaks off after {len(data)} bytes, in its header")
+        raise Refused(f"the capture ends after {len(data)} bytes, in its header. Record or copy it again")
     counts = [int.from_bytes(data[at : at + 4], "big") for at in range(4, start, 4)]
-    return counts * (3 // numbers), start
+    return counts * (3 // len(counts)), start
 
 
 def place_of(start: int, lengths: Sequence[int], lane: int, byte: int) -> int:
@@ -48,7 +64,7 @@ def lanes_of(data: bytes) -> tuple[list[bytearray], list[int]]:
     counts, at = header_of(data)
     lengths = [(count + 7) // 8 for count in counts]
     if len(data) != at + sum(lengths):
-        raise Refused(f"the capture has {len(data)} bytes, and its header says {at + sum(lengths)}")
+        raise Refused(f"the capture has {len(data)} bytes, but its header says {at + sum(lengths)}. Record or copy it again")
     lanes = [bytearray() for _ in range(3)]
     for _ in range(0, max(lengths), BLOCK):
         for lane, length in zip(lanes, lengths):
@@ -57,5 +73,21 @@ def lanes_of(data: bytes) -> tuple[list[bytearray], list[int]]:
             at += size
     for number, (lane, count) in enumerate(zip(lanes, counts)):
         if count % 8 and lane[-1] >> count % 8:
-            raise Refused(f"lane {number} has ones behind its last bit")
+            raise Refused(f"lane {number} has ones after its last bit. Pack the capture again")
     return lanes, counts
+
+
+@contextmanager
+def path_in(source: BinaryIO) -> Iterator[Path | None]:
+    """The path of the capture that a file has, such as standard input; None if it begins otherwise."""
+    if cast(BufferedReader, source).peek(1)[:1] != b"T":
+        yield None
+        return
+    path = Path(f"/proc/self/fd/{source.fileno()}")
+    if source.seekable() and source.tell() == 0 and path.is_file():
+        yield path
+        return
+    with tempfile.NamedTemporaryFile(suffix=".tmc") as file:
+        shutil.copyfileobj(source, file)
+        file.flush()
+        yield Path(file.name)

@@ -80,13 +80,13 @@ def read(path: str | os.PathLike[str], allocation: int | None = None) -> Wide:
             rate, kind, subtype, count = sound.samplerate, sound.format, sound.subtype, sound.channels
             values = sound.read(dtype="int32", always_2d=True) >> WHOLE
     except (soundfile.SoundFileError, RuntimeError) as why:
-        raise Refused(f"{path}: no WAV file of linear PCM ({why})") from None
+        raise Refused(f"{path}: not a WAV file of linear PCM ({why}). Convert it first") from None
     if kind not in WAVES or subtype not in USED_BITS:
-        raise Refused(f"{path}: no WAV file of linear PCM (it is {kind}, {subtype})")
+        raise Refused(f"{path}: not a WAV file of linear PCM, but {kind}, {subtype}. Convert it first")
     if count > MOST:
-        raise Refused(f"{path}: it has {count} channels, and one to eight are wanted")
+        raise Refused(f"{path}: it has {count} channels. Give a file with one to eight")
     if rate not in RATES:
-        raise Refused(f"{path}: its rate is {rate} Hz; a link carries {', '.join(map(str, RATES))}")
+        raise Refused(f"{path}: its rate is {rate} Hz, which no link carries. Convert it to one of {', '.join(map(str, RATES))} Hz")
     names = _names(str(path), count, mask_in(data) or USUAL_MASKS[count], allocation)
     order, _ = speakers.places([name for name in names if name != speakers.NONE])
     wide = np.zeros((len(values), len(names)), np.int32)
@@ -103,9 +103,10 @@ def _names(path: str, count: int, mask: int, allocation: int | None) -> tuple[st
     if count == 1 and allocation is None:
         return names[:1]
     if len(used) != count and allocation is None:
-        raise Refused(f"{path}: no allocation has the speakers of its channel mask {mask:x}: give --allocation CA")
+        raise Refused(f"{path}: no allocation has the speakers of its channel mask {mask:x}. Give one with --allocation CA")
     if len(used) != count:
-        raise Refused(f"{path}: it has {count} channels, and allocation {found} has {len(used)}: {speakers.words(found or 0)}")
+        its = f"{len(used)} ({speakers.words(found or 0)})"
+        raise Refused(f"{path}: it has {count} channels, but allocation {found} has {its}. Give another one")
     return names[: used[-1] + 1]
 
 

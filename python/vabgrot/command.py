@@ -9,12 +9,14 @@ import sys
 import textwrap
 import threading
 from collections.abc import Callable, Iterator
+from pathlib import Path
 
 from vabgrot import place
-from vabgrot.errors import Refused
+from vabgrot.errors import Refused, Unaligned, missing
 
 DONE, FAULTY, REFUSED = 0, 1, 3
-STATUSES = "Status: 0 done; {}2 the words are wrong; 3 the input is refused, or a file cannot be read or written."
+WRONG_WORDS, NOT_READ = "the options are wrong", "the input is refused, or a file cannot be read or written"
+WIDTH = 78  # of the list of statuses
 FULL = (errno.ENOSPC, errno.EDQUOT, errno.EFBIG)  # the errors of a write alone
 KEYBOARD = 130  # the status of a command that is ended by the keyboard
 
@@ -23,13 +25,20 @@ def numbers(text: str, most: int) -> list[int]:
     """The numbers of a word that has commas between them, each at most `most`. The type of an argument."""
     parts = text.split(",")
     if not all(part.isdecimal() and int(part) <= most for part in parts):
-        raise argparse.ArgumentTypeError(f"numbers of 0 to {most} are wanted")
+        raise argparse.ArgumentTypeError(f"{text}: write numbers from 0 to {most}, with commas between them")
     return [int(part) for part in parts]
 
 
+def statuses(done: str, faulty: str) -> str:
+    """The list of a tool's statuses, as the end of its help."""
+    said = {DONE: done, FAULTY: faulty, 2: WRONG_WORDS, REFUSED: NOT_READ}
+    lines = (textwrap.fill(f"  {status}  {text}", WIDTH, subsequent_indent=" " * 5) for status, text in said.items() if text)
+    return "Status:\n\n" + "\n".join(lines)
+
+
 class Help(argparse.HelpFormatter):
-    """Fills each paragraph of a text, but keeps the lines of those that are set in. Commands and files are named as where
-    the tools stand."""
+    """Fills each paragraph of a text, but keeps the lines of indented ones. Commands and files have the names that they have
+    where the tools are installed."""
 
     def _expand_help(self, action: argparse.Action) -> str:
         return place.named(super()._expand_help(action), has_files=True)
@@ -39,9 +48,9 @@ class Help(argparse.HelpFormatter):
         return "\n\n".join(it if it.startswith("  ") else super(Help, self)._fill_text(it, width, indent) for it in parts)
 
 
-def parser(name: str, text: str, faulty: str = "", examples: str = "") -> argparse.ArgumentParser:
-    """A reader of a tool's words; `faulty` says when its status is 1, and `examples` are lines of commands."""
-    epilog = STATUSES.format(f"1 {faulty}; " if faulty else "")
+def parser(name: str, text: str, faulty: str = "", examples: str = "", done: str = "done") -> argparse.ArgumentParser:
+    """The parser of a tool's words. `done` and `faulty` say when its status is 0 and 1, and `examples` are lines of commands."""
+    epilog = statuses(done, faulty)
     if examples:
         head = "Examples:" if place.IS_INSTALLED else "Examples, at the top of the repository:"
         epilog += f"\n\n{head}\n\n" + textwrap.indent(examples, "  ")
@@ -49,6 +58,27 @@ def parser(name: str, text: str, faulty: str = "", examples: str = "") -> argpar
     found = argparse.ArgumentParser(prog=name, description=text, epilog=epilog, formatter_class=Help)
     found.add_argument("--version", action=place.Version)
     return found
+
+
+def say(*lines: str) -> None:
+    """Writes lines to standard error: what a tool says beside what it writes."""
+    for line in lines:
+        print(line, file=sys.stderr)
+
+
+def add_capture(words: argparse.ArgumentParser) -> None:
+    """Adds the operand CAPTURE of a tool that reads one capture."""
+    words.add_argument("capture", metavar="CAPTURE", type=Path, help="the capture, as `make`, `damage` or `lanes pack` writes it")
+
+
+def add_dvi(words: argparse._ActionsContainer) -> None:
+    """Adds the option `--dvi`."""
+    words.add_argument("--dvi", action="store_true", help="read a DVI source, which has no guard bands and no data islands")
+
+
+def add_json(words: argparse.ArgumentParser) -> None:
+    """Adds the option `--json`."""
+    words.add_argument("--json", action="store_true", help="print JSON instead of text")
 
 
 def end_output() -> None:
@@ -74,7 +104,8 @@ def ended_by_pipes() -> Iterator[None]:
 
 
 def run(name: str, work: Callable[[], int]) -> int:
-    """The status that the work of a tool answers. A refusal is one line on standard error, and status 3."""
+    """The status that the work of a tool answers. A refusal or a missing package of Python is one line on standard error, and status 3.
+    If a capture is not aligned, the status is 1."""
     try:
         with ended_by_pipes():
             try:
@@ -85,11 +116,16 @@ def run(name: str, work: Callable[[], int]) -> int:
             sys.stdout.flush()
             return status
     except Refused as why:
-        said = f"{why}"
+        said, refused = f"{why}", FAULTY if isinstance(why, Unaligned) else REFUSED
     except OSError as why:
+        refused = REFUSED
         output = "standard output" if why.errno in FULL else None
         said = ": ".join(str(part) for part in (why.filename or output, why.strerror or str(why)) if part)
+    except ModuleNotFoundError as absent:
+        said = missing(absent) or ""
+        if not said:
+            raise
     except KeyboardInterrupt:
         return KEYBOARD
-    print(f"{name}: {said}", file=sys.stderr)
-    return REFUSED
+    say(f"{name}: {said}")
+    return refused

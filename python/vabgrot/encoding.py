@@ -99,14 +99,13 @@ def steps_of(part: Part) -> Iterator[Step]:
 @functools.cache
 def calls() -> ctypes.CDLL:
     """The library with the types of its calls that lay columns. Raises NoLibrary."""
-    path = library.find()
-    found = library.loaded(path)
+    found = library.needed()
     try:
         for name, words in TYPES.items():
             call = getattr(found, f"vabgrot_encode_{name}")
             call.argtypes, call.restype = (*words, *ROWS), c_int
     except AttributeError as why:
-        raise library.NoLibrary(f"the C library {path} lays no columns ({why})") from None
+        raise library.NoLibrary(f"the C library {library.find()} lays no columns ({why}). Install a later version") from None
     return found
 
 

@@ -1,5 +1,39 @@
-"""How what was given is refused."""
+"""How what was given is refused, and what is said of a package of Python that is missing."""
+
+import importlib.util
+
+NEEDED = ("PIL", "jinja2", "numpy", "png", "soundfile", "tqdm")  # the modules that every tool may use
+# Debian's packages, by their modules.
+PACKAGES = {
+    "PIL": "python3-pil",
+    "distributed": "python3-distributed",
+    "h5py": "python3-h5py",
+    "jinja2": "python3-jinja2",
+    "junitparser": "python3-junitparser",
+    "matplotlib": "python3-matplotlib",
+    "numpy": "python3-numpy",
+    "png": "python3-png",
+    "prometheus_client": "python3-prometheus-client",
+    "rich": "python3-rich",
+    "scipy": "python3-scipy",
+    "skimage": "python3-skimage",
+    "soundfile": "python3-soundfile",
+    "tqdm": "python3-tqdm",
+}
 
 
 class Refused(Exception):
     """What was given cannot be used; the text says why, in one line."""
+
+
+class Unaligned(Refused):
+    """The lanes of a capture are not aligned anywhere: it was read, and carries nothing."""
+
+
+def missing(why: ImportError) -> str | None:
+    """What is said of a missing package of Python, with the command that installs all that are missing; None if tools need no such one."""
+    package = PACKAGES.get((why.name or "").partition(".")[0])
+    if package is None:
+        return None
+    absent = [PACKAGES[it] for it in NEEDED if importlib.util.find_spec(it) is None]
+    return f"{why}. Install it: apt-get install -y {' '.join(dict.fromkeys([*absent, package]))}"

@@ -1,26 +1,38 @@
-"""The events of a link, as library/vabgrot.h has them: a class a kind, and one for all faults. Columns are counted from 0 at the first
-aligned column; `column` of each event is the one at which it is reported, which is the first that decides it. Of lanes that may lose bits
-they are counted anew in each epoch, behind a Slip or Relocked."""
+"""What a receiver reports, as one type: arrays of events, and the bytes of rows and packets.
+
+`Events` is what the C library writes (`of_records`) and what a listing says (`listing.parsed`). Nothing above this module knows which of
+the two it came from. A view (`Event`) is an object for one event: use it for faults and for printing, not for a million runs."""
 
 from __future__ import annotations
 
 import enum
-from dataclasses import dataclass
-from typing import TYPE_CHECKING, ClassVar
+from collections.abc import Iterator, Sequence
+from dataclasses import dataclass, fields, replace
+from typing import Any, overload
+
+import numpy as np
+import numpy.typing as npt
 
 from vabgrot.formats import faults
-from vabgrot.formats.characters import LANES
+from vabgrot.formats.characters import LANES, PACKET
+from vabgrot.formats.layouts import BODY, CARRIED, HEADER
 
-if TYPE_CHECKING:
-    import numpy as np
-    import numpy.typing as npt
+Ints = npt.NDArray[np.int64]
+Octets = npt.NDArray[np.uint8]
+Mask = npt.NDArray[np.bool_]
+Records = npt.NDArray[np.void]
 
-UNTOLD = -1  # a column that is not told, as some are not by the program's listing
+UNTOLD = -1  # a column that a listing does not say
+WHOLE = CARRIED + PACKET  # bytes of a packet in `data`: header, bodies, and a sync value for each of its columns
+GUARDS = 2  # columns before the pixels of a line, and of what opens or closes an island
+# A record of vabgrot.h; its columns are below 2^60.
+RECORD = np.dtype(
+    [(name, "<i8") for name in ("column", "named", "count", "offset")] + [(name, "<u4") for name in ("size", "kind", "value", "second")]
+)
 
 
 class Kind(enum.IntEnum):
-    """The kinds of events, with the numbers that they have in C. From WORD to GUARD they are faults; the last two are of lanes that may
-    lose bits alone."""
+    """The kinds of events, with their numbers in vabgrot.h. From WORD on they are faults; SLIP and RELOCKED end an epoch."""
 
     RUN = 0
     LINE = 1
@@ -44,207 +56,244 @@ class Kind(enum.IntEnum):
     SLIP = 19
     RELOCKED = 20
 
-
-FAULTS = tuple(kind for kind in Kind if Kind.WORD <= kind <= Kind.GUARD)
-NAMES = {kind: kind.name.lower().replace("_", "") for kind in FAULTS}  # as listings have them
-KINDS = {name: kind for kind, name in NAMES.items()}
-LANED = frozenset({Kind.WORD, Kind.CODE})
-BLOCKED = frozenset({Kind.MENDED, Kind.LOST})
-
-
-@dataclass(frozen=True, slots=True)
-class Run:
-    """`count` control columns of one value: bit 0 HSYNC, bit 1 VSYNC, bits 2 to 5 CTL0 to CTL3. Reported at the column after them."""
-
-    kind: ClassVar[Kind] = Kind.RUN
-    column: int
-    value: int
-    count: int
-
-
-@dataclass(frozen=True, slots=True)
-class Line:
-    """The pixels of a video period, at most 4,096: `data` has red, green and blue of each. Reported at the control column after it."""
-
-    kind: ClassVar[Kind] = Kind.LINE
-    column: int
-    data: bytes
-
     @property
-    def pixels(self) -> npt.NDArray[np.uint8]:
-        """An array of pixels by three components."""
-        import numpy as np
+    def word(self) -> str:
+        """The word of a fault in a listing."""
+        return "relock" if self == Kind.RELOCKED else self.name.lower().replace("_", "")
 
-        return np.frombuffer(self.data, np.uint8).reshape(-1, 3)
+
+WORDS = [kind.word for kind in Kind]
+OF_WORD = {kind.word: kind for kind in Kind if kind >= Kind.WORD}
+ENDS = (Kind.SLIP, Kind.RELOCKED)  # they end an epoch
+LANED = tuple(OF_WORD[word] for word in faults.LINK if word in faults.LANED)  # `value` is a lane
+BLOCKED = (Kind.MENDED, Kind.LOST)  # `value` is a block of a packet
+OF_PACKET = tuple(OF_WORD[word] for word in faults.LINK if word in faults.OF_PACKET)  # reported directly after their packet
+COVERS = np.array([kind < Kind.CUT for kind in Kind])  # whether a kind stands for columns
+FAULTY = np.array([kind >= Kind.WORD for kind in Kind])
+IS_LANED = np.isin(np.arange(len(Kind)), LANED)
+IS_OF_PACKET = np.isin(np.arange(len(Kind)), OF_PACKET)
 
 
 @dataclass(frozen=True, slots=True)
-class Opening:
-    """The guard that opens a data island: HSYNC plus twice VSYNC of its two columns. Reported at the second."""
+class Event:
+    """A view of one event. `first` is the first of the `width` columns that it covers. For a fault, `first` is the column that it
+    names; for the end of an epoch, `first` is a bit of each lane. `column` is where the receiver reports the event."""
 
-    kind: ClassVar[Kind] = Kind.OPEN
-    column: int
-    syncs: tuple[int, int]
-
-
-@dataclass(frozen=True, slots=True)
-class Packet:
-    """A packet, mended where that could be: its first column, its three header bytes, its four bodies of seven, of each of its 32
-    columns HSYNC plus twice VSYNC, and how many of its characters are no TERC4 characters. Reported at its last column."""
-
-    kind: ClassVar[Kind] = Kind.PACKET
+    kind: Kind
+    epoch: int
     column: int
     first: int
-    header: bytes
-    bodies: tuple[bytes, bytes, bytes, bytes]
-    sync: bytes
-    symbols: int
-
-
-@dataclass(frozen=True, slots=True)
-class Closing:
-    """The guard that closes a data island, as Opening."""
-
-    kind: ClassVar[Kind] = Kind.CLOSE
-    column: int
-    syncs: tuple[int, int]
-
-
-@dataclass(frozen=True, slots=True)
-class Cut:
-    """At the end: `at` is the first column of which nothing whole was reported."""
-
-    kind: ClassVar[Kind] = Kind.CUT
-    column: int
-    at: int
-
-
-@dataclass(frozen=True, slots=True)
-class Fault:
-    """What is wrong, with the column that it names: the first of a packet, the first of a line or an island that opens, or the
-    one of a character. Of what a kind does not have there is None: `lane` (word, code), `block` (mended, lost: 0 to 3 are
-    the bodies and 4 the header), `bit` (mended), `count` of characters (symbols)."""
-
-    column: int
-    kind: Kind
-    at: int
-    lane: int | None = None
-    block: int | None = None
-    bit: int | None = None
-    count: int | None = None
+    width: int
+    value: int
+    second: int
+    data: bytes = b""
 
     @property
-    def name(self) -> str:
-        """As listings have it."""
-        return NAMES[self.kind]
+    def is_fault(self) -> bool:
+        """Whether a listing has a fault line for it."""
+        return self.kind >= Kind.WORD
 
     @property
-    def says(self) -> str:
-        """What it says, in words."""
-        return faults.LINK[self.name].says
+    def lane(self) -> int | None:
+        """The lane of a fault that has one."""
+        return self.value if self.kind in LANED else None
+
+    @property
+    def numbers(self) -> tuple[int, ...]:
+        """The numbers of a fault line."""
+        return numbers_of(self.kind, self.first, self.value, self.second)
+
+    @property
+    def more(self) -> tuple[int, ...]:
+        """The numbers of a fault line without the lane and the place."""
+        return self.numbers[1 + (self.kind in LANED) :]
+
+    @property
+    def line(self) -> str:
+        """The fault line of a listing."""
+        return " ".join(("!", self.kind.word, *map(str, self.numbers)))
+
+    @property
+    def pixels(self) -> Octets:
+        """The pixels of a line: an array of pixels by red, green and blue."""
+        return np.frombuffer(self.data, np.uint8).reshape(-1, 3)
+
+    @property
+    def header(self) -> bytes:
+        """The three header bytes of a packet."""
+        return self.data[:HEADER]
+
+    @property
+    def bodies(self) -> tuple[bytes, ...]:
+        """The four bodies of a packet, seven bytes each."""
+        return tuple(self.data[at : at + BODY] for at in range(HEADER, CARRIED, BODY))
+
+    @property
+    def syncs(self) -> bytes:
+        """HSYNC plus twice VSYNC in each of the 32 columns of a packet, a byte each."""
+        return self.data[CARRIED:]
 
     def __str__(self) -> str:
+        if not self.is_fault:
+            return f"column {self.first}: {self.kind.word}, {self.width} columns"
+        unit = "bit" if self.kind in ENDS else "column"
         where = "" if self.lane is None else f" on {LANES[self.lane]}"
-        return f"column {self.at}{where}: {self.name}, {self.says}"
-
-
-@dataclass(frozen=True, slots=True)
-class Slip:
-    """Lane `lane` lost the places of its characters: from bit `place` of each lane on the lanes are searched anew. Bits are counted from 0
-    at the first that was fed; `column` is 0."""
-
-    kind: ClassVar[Kind] = Kind.SLIP
-    column: int
-    lane: int
-    place: int
-
-    @property
-    def line(self) -> str:
-        """As listings have it."""
-        return f"! slip {self.lane} {self.place}"
-
-    def __str__(self) -> str:
-        return f"bit {self.place} on {LANES[self.lane]}: slip, {faults.LINK['slip'].says}"
-
-
-@dataclass(frozen=True, slots=True)
-class Relocked:
-    """The alignment was let go for another skew: from bit `place` of each lane on the lanes are searched anew. As Slip."""
-
-    kind: ClassVar[Kind] = Kind.RELOCKED
-    column: int
-    place: int
-
-    @property
-    def line(self) -> str:
-        """As listings have it."""
-        return f"! relock {self.place}"
-
-    def __str__(self) -> str:
-        return f"bit {self.place}: relock, {faults.LINK['relock'].says}"
+        return f"{unit} {self.first}{where}: {self.kind.word}, {faults.LINK[self.kind.word].says}"
 
 
 @dataclass(frozen=True, slots=True)
 class End:
-    """The end of the lanes: how many columns there were, and whether the lanes were aligned."""
+    """The end of the lanes: how many columns there were (UNTOLD if the lanes may lose bits), how many epochs, and how many of these were
+    aligned."""
 
-    column: int
-    aligned: bool
-
-    @property
-    def columns(self) -> int:
-        return self.column
-
-
-@dataclass(frozen=True, slots=True)
-class EpochsEnd(End):
-    """The End of lanes that may lose bits: how many epochs there were, and in how many of them the lanes were aligned; `aligned` is
-    whether they were in any. Columns are counted anew in each, and of the last one they are not told: `column` is UNTOLD."""
-
+    columns: int
     epochs: int
     aligned_epochs: int
 
-
-Event = Run | Line | Opening | Packet | Closing | Cut | Fault | Slip | Relocked | End
-Numbers = tuple[int, int, int, int, int, int, int, int]  # column, named, count, offset, size, kind, value, second
-
-
-def event_of(numbers: Numbers, data: bytes) -> Event:
-    """The event of a record's eight numbers, whose bytes stand in `data`."""
-    column, named, count, offset, size, kind, value, second = numbers
-    if kind == Kind.RUN:
-        return Run(column, value, count)
-    if kind == Kind.LINE:
-        return Line(column, data[offset : offset + size])
-    if kind == Kind.PACKET:
-        return packet_of(column, named, count, data[offset : offset + size])
-    if kind == Kind.OPEN:
-        return Opening(column, (value, second))
-    if kind == Kind.CLOSE:
-        return Closing(column, (value, second))
-    if kind == Kind.CUT:
-        return Cut(column, named)
-    if kind == Kind.SLIP:
-        return Slip(column, value, named)
-    if kind == Kind.RELOCKED:
-        return Relocked(column, named)
-    return fault_of(column, Kind(kind), named, count, value, second)
+    @property
+    def aligned(self) -> bool:
+        """Whether the lanes were aligned in any epoch."""
+        return self.aligned_epochs > 0
 
 
-def packet_of(column: int, first: int, symbols: int, data: bytes) -> Packet:
-    """A packet of its 63 bytes."""
-    bodies = data[3:10], data[10:17], data[17:24], data[24:31]
-    return Packet(column, first, data[:3], bodies, data[31:], symbols)
+def numbers_of(kind: int, first: int, value: int, second: int) -> tuple[int, ...]:
+    """The numbers of a fault line: what it names is at `first`."""
+    if kind in LANED:
+        return value, first
+    if kind == Kind.MENDED:
+        return first, value, second
+    return (first, value) if kind in (Kind.LOST, Kind.SYMBOLS) else (first,)
 
 
-def fault_of(column: int, kind: Kind, at: int, count: int, value: int, second: int) -> Fault:
-    """A fault of the numbers of its record."""
-    return Fault(
-        column,
-        kind,
-        at,
-        lane=value if kind in LANED else None,
-        block=value if kind in BLOCKED else None,
-        bit=second if kind == Kind.MENDED else None,
-        count=count if kind == Kind.SYMBOLS else None,
-    )
+@dataclass(frozen=True, eq=False)
+class Events:
+    """Events in the order in which they were reported, an array for each field.
+
+    | kind          | first            | width       | value             | second           | data                        |
+    |---------------|------------------|-------------|-------------------|------------------|-----------------------------|
+    | RUN           | first column     | columns     | value of six bits |                  |                             |
+    | LINE          | first guard      | with guards | pixels            |                  | red, green, blue            |
+    | OPEN, CLOSE   | first guard      | 2           | its syncs         | the second's     |                             |
+    | PACKET        | first column     | 32          | type              | wrong characters | header, bodies, sync values |
+    | CUT           | named column     | 0           |                   |                  |                             |
+    | WORD, CODE    | named column     | 0           | lane              |                  |                             |
+    | SYMBOLS       | packet's column  | 0           | characters        |                  |                             |
+    | MENDED, LOST  | packet's column  | 0           | block             | bit              |                             |
+    | SLIP, RELOCKED | bit of each lane | 0          | lane (of SLIP)    |                  |                             |
+
+    `column` and `first` count from 0 in each `epoch`. `Reading.at` counts over all epochs. `offset` and `size` say which bytes of `data`
+    belong to a LINE or a PACKET."""
+
+    kind: Octets
+    epoch: Ints
+    column: Ints
+    first: Ints
+    width: Ints
+    value: Ints
+    second: Ints
+    offset: Ints
+    size: Ints
+    data: Octets
+
+    def __len__(self) -> int:
+        return len(self.kind)
+
+    def __iter__(self) -> Iterator[Event]:
+        return map(self.view, range(len(self)))
+
+    @property
+    def end(self) -> Ints:
+        """The column after the last one that each event covers."""
+        return self.first + self.width
+
+    def of(self, *kinds: Kind) -> Ints:
+        """The places of the events of some kinds."""
+        return np.flatnonzero(np.isin(self.kind, kinds) if len(kinds) > 1 else self.kind == kinds[0])
+
+    @property
+    def covering(self) -> Ints:
+        """The places of the events that stand for columns."""
+        return np.flatnonzero(COVERS[self.kind])
+
+    @property
+    def faults(self) -> Ints:
+        """The places of the faults."""
+        return np.flatnonzero(FAULTY[self.kind])
+
+    def octets(self, packets: Ints) -> Octets:
+        """The bytes of packets: a row of 63 for each."""
+        if not len(packets):
+            return np.zeros((0, WHOLE), np.uint8)
+        found: Octets = np.lib.stride_tricks.sliding_window_view(self.data, WHOLE)[self.offset[packets]]
+        return found
+
+    def row(self, place: int) -> Octets:
+        """The pixels of a line: an array of pixels by red, green and blue."""
+        at = int(self.offset[place])
+        return self.data[at : at + int(self.size[place])].reshape(-1, 3)
+
+    def view(self, place: int) -> Event:
+        """One event as an object."""
+        at, size = int(self.offset[place]), int(self.size[place])
+        epoch, column, first, width = (int(one[place]) for one in (self.epoch, self.column, self.first, self.width))
+        value, second = int(self.value[place]), int(self.second[place])
+        return Event(Kind(self.kind[place]), epoch, column, first, width, value, second, self.data[at : at + size].tobytes())
+
+    def views(self, places: Ints) -> Iterator[Event]:
+        """Some events as objects."""
+        return map(self.view, places.tolist())
+
+    @overload
+    def __getitem__(self, which: int) -> Event: ...
+
+    @overload
+    def __getitem__(self, which: slice | Ints | Mask) -> Events: ...
+
+    def __getitem__(self, which: int | slice | Ints | Mask) -> Event | Events:
+        """One event as an object, or some of the events. Their bytes stay where they are."""
+        if isinstance(which, int):
+            return self.view(which)
+        some: dict[str, Any] = {one.name: getattr(self, one.name)[which] for one in fields(self) if one.name != "data"}
+        return Events(**some, data=self.data)
+
+    def without_pixels(self) -> Events:
+        """The same events with the bytes of packets alone."""
+        packets = self.of(Kind.PACKET)
+        offset, size = np.zeros_like(self.offset), np.zeros_like(self.size)
+        offset[packets], size[packets] = WHOLE * np.arange(len(packets)), WHOLE
+        return replace(self, offset=offset, size=size, data=self.octets(packets).reshape(-1))
+
+
+def joined(parts: Sequence[Events]) -> Events:
+    """Events that follow one another."""
+    if not parts:
+        return of_records(np.zeros(0, RECORD), np.zeros(0, np.uint8))
+    if len(parts) == 1:
+        return parts[0]
+    names = [one.name for one in fields(Events)]
+    arrays: dict[str, Any] = {name: np.concatenate([getattr(part, name) for part in parts]) for name in names}
+    starts = np.cumsum([0, *(len(part.data) for part in parts)])[:-1]
+    arrays["offset"] = arrays["offset"] + np.repeat(starts, [len(part) for part in parts])
+    return Events(**arrays)
+
+
+def of_records(records: Records, data: Octets, epoch: int = 0, guards: int = GUARDS) -> Events:
+    """The events that the C library wrote (`vabgrot_event` in vabgrot.h). `epoch` is the number of the first one's epoch, `guards` how
+    many columns come before the pixels of a line: 2, of DVI 0."""
+    kind = records["kind"].astype(np.uint8)
+    column, first, size = (records[name].astype(np.int64) for name in ("column", "named", "size"))
+    value, second, offset = (records[name].astype(np.int64) for name in ("value", "second", "offset"))
+    width = np.zeros(len(kind), np.int64)
+    runs, lines, packets = (np.flatnonzero(kind == one) for one in (Kind.RUN, Kind.LINE, Kind.PACKET))
+    bounds = np.flatnonzero((kind == Kind.OPEN) | (kind == Kind.CLOSE))
+    width[runs] = records["count"][runs]
+    value[lines] = size[lines] // 3
+    width[lines], width[bounds], width[packets] = value[lines] + guards, GUARDS, PACKET
+    first[runs], first[lines], first[bounds] = (column - width)[runs], (column - width)[lines], column[bounds] - 1
+    if len(packets):
+        value[packets], second[packets] = data[offset[packets]], records["count"][packets]
+    symbols = np.flatnonzero(kind == Kind.SYMBOLS)
+    value[symbols] = records["count"][symbols]
+    ended = np.cumsum((kind == Kind.SLIP) | (kind == Kind.RELOCKED))
+    epochs = epoch + np.concatenate((np.zeros(1, np.int64), ended[:-1])) if len(kind) else np.zeros(0, np.int64)
+    return Events(kind, epochs, column, first, width, value, second, offset, size, data)

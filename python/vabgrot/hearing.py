@@ -1,30 +1,30 @@
-"""What a listing says of its sound: the samples of each channel, what they are, and the rates that clock packets, channel status and
+"""The sound of a capture or of a listing: the samples of each channel, what they are, and the rates that clock packets, channel status and
 audio InfoFrame tell."""
 
 from collections import Counter
-from collections.abc import Iterable, Iterator, Sequence
+from collections.abc import Sequence
 from dataclasses import dataclass, field
 
 import numpy as np
 
 from vabgrot import listing, packets, pcm
-from vabgrot.batch import Batch
 from vabgrot.channels import Values, Wide
-from vabgrot.contents import lost_of
+from vabgrot.content import SIDES, Packets, Samples, packets_in, samples_of
 from vabgrot.errors import Refused
 from vabgrot.formats import speakers
 from vabgrot.formats.audio import BLOCK, CODED
-from vabgrot.formats.faults import OF_PACKET, OF_SOUND
+from vabgrot.formats.faults import OF_SOUND
 from vabgrot.formats.layouts import LAYOUTS, Type
 from vabgrot.formats.modes import CUSTOM_CLOCK, VICS
 from vabgrot.formats.names import FREQUENCIES
-from vabgrot.link import ISLAND_PACKET
-from vabgrot.packets import Packet, Sample
+from vabgrot.judging.of_sound import statuses
+from vabgrot.packets import Packet
 from vabgrot.video.colours import DEPTHS
 
 STATUS_BYTES = BLOCK // 8
 SIDE = 3  # bytes of a sample of one channel
-C_BIT = LAYOUTS["samples"].fields["left C"].low  # where the bit of the channel status is in V, U, C and P
+SAMPLE = LAYOUTS["samples"].fields
+C_BIT = SAMPLE["left C"].low  # where the bit of the channel status is in V, U, C and P
 NAMED: dict[int, str] = {
     Type.ONE_BIT: "One Bit Audio",
     Type.DST: "DST audio",
@@ -52,10 +52,6 @@ class Status:
         if len(self.bits) == BLOCK:
             self.block = np.packbits(self.bits, bitorder="little").tobytes()
 
-    def lose(self) -> None:
-        """Samples are missing here."""
-        self.bits = []
-
     @property
     def rate(self) -> int | None:
         """The sampling rate that it names; None where it names none, or is that of professional use."""
@@ -69,7 +65,7 @@ class Status:
 
 @dataclass
 class Heard:
-    """The sound of a listing, as its lines are taken."""
+    """The sound of a capture, or of a listing as its lines are taken."""
 
     sides: list[bytearray] = field(default_factory=list)  # of channels 1, 2 ..: three bytes a sample, high byte first
     samples: int = 0
@@ -82,6 +78,7 @@ class Heard:
     others: Counter[str] = field(default_factory=Counter)
     faults: Counter[str] = field(default_factory=Counter)
     is_wide: bool = False  # layout 1
+    kept: list[Packet] = field(default_factory=list)  # of a content listing, the packets of samples that have no line of their own
 
     def take(self, line: int, name: str, fields: list[str]) -> None:
         """A line of a content listing, or of what `read biphase` writes."""
@@ -104,14 +101,26 @@ class Heard:
             numbers = [listing.number(part, line) for part in listing.fields_of(fields, 7, line)]
             self.infoframe(numbers[3], numbers[4])
         elif name == "packet":
-            self.packet(packets.packet_of([*fields, ""], line))
+            packet = packets.packet_of([*fields, ""], line)
+            if packet.kind == Type.SAMPLES:
+                self.kept.append(packet)
+            else:
+                self.packet(packet)
         elif name == "!" and fields[0] in OF_SOUND:
             self.faults[fields[0]] += 1
+
+    def end(self) -> None:
+        """No more lines come."""
+        if self.kept and not self.samples:
+            its = packets_in(self.kept)
+            self.hear(its, samples_of(its))
 
     def sample_line(self, line: int, fields: list[str]) -> None:
         """A line of a sample of two channels."""
         left, right, flags, _, starts, _ = fields
-        self.add(0, *(self.value(text, name) for text, name in ((left, "left"), (right, "right"))))
+        self.sides = self.sides or [bytearray(), bytearray()]
+        for side, text, name in zip(self.sides, (left, right), SIDES):
+            side += self.value(text, name)
         self.samples += 1
         self.status.take(starts == "1", listing.number(flags, line) >> C_BIT & 1)
 
@@ -126,27 +135,17 @@ class Heard:
             raise Refused(f"a sample's {name} value has not six hexadecimal digits")
         return data
 
-    def add(self, pair: int, left: bytes, right: bytes) -> None:
-        """A sample of a pair of channels, behind zeros where the pair had none."""
-        while len(self.sides) < 2 * pair + 2:
-            self.sides.append(bytearray())
-        for at, data in ((2 * pair, left), (2 * pair + 1, right)):
-            side = self.sides[at]
-            side.extend(bytes(SIDE * self.samples - len(side)))
-            side += data
-
     def infoframe(self, rate: int, allocation: int) -> None:
         """SF and CA of an audio InfoFrame, the first one's."""
         if self.allocation is None:
             self.frequency, self.allocation = FREQUENCIES[rate & 7], allocation
 
     def packet(self, it: Packet) -> None:
-        """A packet without a lost block."""
-        content = packets.content_of(it)
+        """A packet without a lost block, but none of samples."""
         if it.kind in NAMED:
             self.others[NAMED[it.kind]] += 1
-        faults = [fault.split()[0] for fault in content.faults]
-        self.faults.update(fault for fault in faults if fault in OF_SOUND - {"layout"})
+        faults = [fault.split()[0] for fault in packets.content_of(it).faults]
+        self.faults.update(fault for fault in faults if fault in OF_SOUND)
         if it.kind == Type.CLOCK and not faults:
             self.clock = self.clock or packets.clock_numbers(it)
         elif it.kind == Type.CONTROL:
@@ -155,24 +154,23 @@ class Heard:
             self.vic = it.number("VIC")
         elif it.kind == Type.AUDIO and not faults:
             self.infoframe(it.number("SF"), it.number("CA"))
-        elif it.kind == Type.SAMPLES:
-            self.sample_packet(content.samples, content.pairs)
 
-    def sample_packet(self, samples: Sequence[Sample], pairs: Sequence[Sample]) -> None:
-        """The samples of a packet: in layout 0 one after another, in layout 1 one of several pairs."""
-        for sample in (*samples, *pairs):
-            self.add(sample.pair, sample.left[::-1], sample.right[::-1])
-            if sample.pair == 0:
-                self.status.take(sample.start, sample.left_flags >> C_BIT & 1)
-            self.samples += not pairs
-        if pairs:
-            self.samples += 1
-            self.is_wide = True
-
-    def lose(self) -> None:
-        """A packet of samples has a lost block."""
-        self.faults["lost"] += 1
-        self.status.lose()
+    def hear(self, its: Packets, samples: Samples) -> None:
+        """All packets, and their samples."""
+        for packet in its[~its.lost & (its.kind != Type.NULL) & (its.kind != Type.SAMPLES)]:
+            self.packet(packet)
+        lost = int((its.lost & np.isin(its.kind, (Type.CLOCK, Type.SAMPLES))).sum())
+        self.faults.update({"lost": lost} if lost else {})
+        self.faults.update({"parity": int(samples.odd.sum())} if samples.odd.any() else {})
+        for bodies, numbers in zip(samples.bodies, samples.numbers):
+            for side in SIDES:
+                values = np.zeros((samples.total, SIDE), np.uint8)
+                values[numbers] = SAMPLE[side].octets(bodies)[:, ::-1]
+                self.sides.append(bytearray(values.tobytes()))
+        self.samples, self.is_wide = samples.total, samples.is_wide
+        first = next(iter(statuses(samples, 0)), None)
+        if first is not None:
+            self.status.block = np.packbits(first[0], bitorder="little").tobytes()
 
     def usual_clock(self) -> int | None:
         """The rate of columns of the mode's code, and for a mode of one's own that which `content` takes, in Hz; of deep colour it is
@@ -197,7 +195,7 @@ class Heard:
             return next(iter(found.values()))
         has_clock = self.clock and all(self.clock)
         lack, give = ("AVI InfoFrame with a known code", "--rate or --clock") if has_clock else ("clock packet", "--rate")
-        raise Refused(f"the listing has no {lack}, so its rate is not known: give {give}")
+        raise Refused(f"the sound has no {lack}, so its rate is not known. Give it with {give}")
 
     def values(self) -> Values:
         """The samples of all channels."""
@@ -217,7 +215,7 @@ class Heard:
             chosen = speakers.SENT[count]
         names = speakers.speakers(chosen)
         if not names:
-            raise Refused(f"the channel allocation {chosen} of the audio InfoFrame is reserved: give --allocation CA")
+            raise Refused(f"the channel allocation {chosen} of the audio InfoFrame is reserved. Give another one with --allocation CA")
         return names[:count]
 
     def wide(self, rate: int, bits: int | None, allocation: int | None) -> Wide:
@@ -228,40 +226,11 @@ class Heard:
         return Wide(rate, bits, values[:, : len(names)], names)
 
 
-def link_lines(heard: Heard, lines: Iterable[Line]) -> None:
-    """Has the sound take the packets of a link listing that have no lost block."""
-    for packet, is_lost in packets_of(lines):
-        if not is_lost:
-            heard.packet(packet)
-        elif packet.kind in (Type.CLOCK, Type.SAMPLES):
-            heard.lose()
-
-
-def take_batches(heard: Heard, batches: Iterable[Batch]) -> None:
-    """The same of the batches of a capture."""
-    for batch in batches:
-        places = np.flatnonzero(batch.kinds == ISLAND_PACKET)
-        for place, is_lost in zip(places.tolist(), lost_of(batch, places)):
-            packet = batch.packet(place)
-            if not is_lost:
-                heard.packet(packet)
-            elif packet.kind in (Type.CLOCK, Type.SAMPLES):
-                heard.lose()
-
-
-def packets_of(lines: Iterable[Line]) -> Iterator[tuple[Packet, bool]]:
-    """The packets of a link listing, and whether each has a lost block."""
-    last: Packet | None = None
-    is_lost = False
-    for line, name, fields in lines:
-        if name == "!" and fields[0] in OF_PACKET:
-            is_lost |= fields[0] == "lost"
-            continue
-        if last:
-            yield last, is_lost
-        last, is_lost = packets.packet_of(listing.fields_of(fields, 6, line), line) if name == "p" else None, False
-    if last:
-        yield last, is_lost
+def heard_of(its: Packets, samples: Samples) -> Heard:
+    """The sound of packets."""
+    found = Heard()
+    found.hear(its, samples)
+    return found
 
 
 def joined(pairs: Sequence[Heard]) -> Heard:

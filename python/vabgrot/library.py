@@ -3,15 +3,18 @@
 import ctypes
 import functools
 import os
+import sysconfig
 from ctypes import POINTER, Structure, c_int, c_size_t, c_uint32, c_uint64, c_void_p
 from pathlib import Path
 from typing import Literal
 
-from vabgrot import place
+from vabgrot import building, place
 from vabgrot.errors import Refused
 
 NAME = "libvabgrot.so.1"
-BESIDE = place.TOP.parent / NAME if place.IS_INSTALLED else place.TOP / "library" / "out" / NAME
+FOLDERS = ("", sysconfig.get_config_var("MULTIARCH") or "")  # of PREFIX/lib; Debian has one for each architecture
+BUILT = place.TOP / "library" / "out" / NAME  # in a checkout
+BESIDE = [place.TOP.parent / folder / NAME for folder in FOLDERS] if place.IS_INSTALLED else [BUILT]
 OK, FULL, MISUSE, TOOBIG, NOMEM = range(5)  # what a call answers
 Grammar = Literal["link", "dvi", "track", "relock"]  # the kinds of receivers, as the program's `recover` names them
 KINDS: dict[Grammar, int] = {"link": 0, "dvi": 1, "track": 2, "relock": 3}
@@ -54,12 +57,12 @@ def least_room(kind: Grammar) -> tuple[int, int]:
 
 
 def find() -> str:
-    """The shared library: the one that VABGROT_LIBRARY names; else the one that was built or installed beside the package, or that
-    of the system's loader. Raises NoLibrary where VABGROT_LIBRARY names none."""
+    """The shared library: the one that VABGROT_LIBRARY names; otherwise the one that was built or installed beside the package, or the one
+    that the system's loader finds. Raises NoLibrary if the file that VABGROT_LIBRARY names is missing."""
     named = os.environ.get("VABGROT_LIBRARY")
     if named and not Path(named).is_file():
-        raise NoLibrary(f"VABGROT_LIBRARY names {named}, and there is no such file")
-    return named or (str(BESIDE) if BESIDE.is_file() else NAME)
+        raise NoLibrary(f"VABGROT_LIBRARY names {named}, and there is no such file. Correct it, or leave the variable out")
+    return named or str(next((it for it in BESIDE if it.is_file()), NAME))
 
 
 @functools.cache
@@ -79,6 +82,16 @@ def loaded(path: str) -> ctypes.CDLL:
             call = getattr(calls, f"vabgrot_{name}")
             call.argtypes, call.restype = (POINTER(Handle), *words), c_int
     except (OSError, AttributeError) as why:
-        how = "`./vabgrot install` of a checkout makes and installs it, or VABGROT_LIBRARY names one"
-        raise NoLibrary(f"there is no C library {path} ({why}): {how}") from None
+        how = f"{building.how('library')}, or VABGROT_LIBRARY names one"
+        raise NoLibrary(f"there is no C library {path} ({why}). {how}") from None
     return calls
+
+
+def needed() -> ctypes.CDLL:
+    """The library with the types of its calls, for who cannot do without it. If it is missing, a checkout builds it. Raises NoLibrary."""
+    try:
+        return loaded(find())
+    except NoLibrary:
+        if os.environ.get("VABGROT_LIBRARY") or not BESIDE or not building.made("library", BUILT):
+            raise
+        return loaded(find())

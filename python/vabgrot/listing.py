@@ -1,13 +1,23 @@
-"""The lines of listings (docs/guide/FORMATS.md): their names and fields."""
+"""The lines of listings (docs/guide/FORMATS.md): their names and fields, and a link listing as the same `Events` that a receiver reports.
+
+A link listing does not say how many columns `noise`, `broken` and `longline` stand for. From there on columns are UNTOLD until a line
+names one. Nothing is guessed: rows, packets and samples do not need columns, and whoever needs them has the capture."""
 
 from collections.abc import Iterable, Iterator
+from dataclasses import dataclass, field
+from itertools import chain
 from typing import IO
 
+import numpy as np
+
 from vabgrot.errors import Refused
+from vabgrot.events import ENDS, GUARDS, LANED, OF_PACKET, OF_WORD, UNTOLD, WHOLE, Events, Kind
+from vabgrot.formats import faults
+from vabgrot.formats.characters import PACKET
+from vabgrot.formats.layouts import BODIES, BODY, HEADER
 
 Line = tuple[int, str, list[str]]  # its number from 1, its name, its fields
 MOST_COLUMNS = 20_000_000
-FAULT = b"\n! "
 ROW = b"v "  # how a row of a link listing begins; it is long, so that it is copied as seldom as can be
 CONTENT = frozenset("vic mode row frame avi audio spd info acr gcp s packet ! cut".split())
 SOUND = CONTENT | {"block"}
@@ -24,7 +34,7 @@ def lines(source: IO[bytes], names: frozenset[str] = CONTENT, is_whole: bool = T
     number = 0
     for number, line in enumerate(source, 1):
         if not line.endswith(b"\n"):
-            raise Refused(f"line {number}: the listing breaks off in it")
+            raise Refused(f"line {number}: the listing ends within this line. Write the listing again")
         if line.startswith(ROW) and "v" in names:
             text = str(memoryview(line)[len(ROW) : -1], "latin-1" if raw_rows else "ascii", "replace")
             yield number, "v", [text] if raw_rows or " " not in text else text.split(" ")
@@ -33,51 +43,50 @@ def lines(source: IO[bytes], names: frozenset[str] = CONTENT, is_whole: bool = T
         name, *fields = text.split(" ")
         if name == "end":
             if source.read(1):
-                raise Refused(f"line {number + 1}: something follows the line `end`")
+                raise Refused(f"line {number + 1}: it comes after the line `end`. Remove it, or the line `end` before it")
             return
         if name not in names or not fields:
-            raise Refused(f"line {number}: `{text[:20].strip()}` begins no line of a {KINDS[names]}")
+            raise Refused(f"line {number}: `{text[:20].strip()}` does not begin a line of a {KINDS[names]}. FORMATS.md lists the lines")
         yield number, name, fields
     if not is_whole:
         return
     if number == 0:
-        raise Refused("the input is empty")
-    raise Refused(f"the {KINDS[names]} breaks off after {number} lines, without its line `end`")
+        raise Refused("the input is empty. Send a capture or a listing to standard input")
+    raise Refused(f"the {KINDS[names]} ends after {number} lines, without the line `end`. Write it again")
 
 
-def fault_lines(source: IO[bytes], size: int = 1 << 20) -> Iterator[bytes]:
-    """The fault lines of a listing that is none of faults mostly: blocks of so many bytes are searched for them."""
-    rest = b"\n"
-    while block := source.read(size):
-        text = rest + block
-        end = text.rfind(b"\n")
-        at = text.find(FAULT, 0, end)
-        while at >= 0:
-            behind = text.find(b"\n", at + 1)
-            yield text[at + 1 : behind]
-            at = text.find(FAULT, behind, end)
-        rest = text[end:]
+def either(source: IO[bytes], names: frozenset[str], other: frozenset[str]) -> tuple[bool, Iterator[Line]]:
+    """The lines of a link listing, or of a listing of the names `other`, and whether it is a link listing: the first line that is no fault
+    tells that."""
+    every, first = lines(source, names), list[Line]()
+    for line in every:
+        first.append(line)
+        if line[1] not in ("!", "cut"):
+            break
+    is_link = bool(first) and first[-1][1] in LINK
+    return is_link, of_kind(chain(first, every), LINK if is_link else other)
 
 
 def of_kind(lines: Iterable[Line], names: frozenset[str]) -> Iterator[Line]:
     """Lines of a listing; raises Refused at the first that is of another kind of listing."""
     for number, name, fields in lines:
         if name not in names:
-            raise Refused(f"line {number}: `{' '.join((name, *fields))[:20]}` begins no line of a {KINDS[names]}")
+            text = " ".join((name, *fields))[:20]
+            raise Refused(f"line {number}: `{text}` does not begin a line of a {KINDS[names]}. FORMATS.md lists the lines")
         yield number, name, fields
 
 
 def number(text: str, line: int) -> int:
     """A field that is a decimal number; `line` is the number of its line, which a refusal names."""
     if not text.isdecimal():
-        raise Refused(f"line {line}: `{text[:20]}` is no decimal number")
+        raise Refused(f"line {line}: `{text[:20]}` is not a decimal number. FORMATS.md lists the lines")
     return int(text)
 
 
 def fields_of(fields: list[str], count: int, line: int) -> list[str]:
     """The fields of a line; raises Refused where they are not so many."""
     if len(fields) != count:
-        raise Refused(f"line {line}: it has {len(fields)} fields, and {count} are wanted")
+        raise Refused(f"line {line}: it has {len(fields)} fields instead of {count}. FORMATS.md lists the lines")
     return fields
 
 
@@ -88,5 +97,139 @@ def digits(text: str, unit: int, line: int) -> bytes:
     except ValueError:
         found = b""
     if 2 * len(found) != len(text) or not found or len(found) % unit:
-        raise Refused(f"line {line}: `{text[:20]}` is no row of {2 * unit} hexadecimal digits each")
+        raise Refused(f"line {line}: `{text[:20]}` is not a row of {2 * unit} hexadecimal digits each. FORMATS.md lists the lines")
     return found
+
+
+PREAMBLE, CONTROLS = 0x3C, 0x04  # bits of a control column's value: of lanes 1 and 2, and those before a line
+FIELDS = 9
+Row = tuple[int, int, int, int, int, int, int, int, int]  # the arrays of Events, from kind to size
+
+
+@dataclass
+class Parser:
+    """Takes the lines of a link listing one after another. `guards` is how many columns come before the pixels of a line. If it is None,
+    the preamble before the first line says whether they are those of HDMI or of DVI."""
+
+    guards: int | None
+    rows: list[Row] = field(default_factory=list)
+    data: bytearray = field(default_factory=bytearray)
+    epoch: int = 0
+    next: int = 0  # the next column, or UNTOLD
+    value: int = 0  # of the last control columns
+    last: str = ""  # the last line's name, or a fault's kind
+    is_closing: bool = False  # whether the last line that is no fault closes an island
+
+    def take(self, line: int, name: str, fields: list[str]) -> None:
+        """The next line."""
+        match name:
+            case "c":
+                self.run(line, fields)
+            case "v":
+                self.row(line, fields)
+            case "p":
+                self.packet(line, fields)
+            case "i" | "e":
+                self.guard(Kind.OPEN if name == "i" else Kind.CLOSE, line, fields)
+            case "cut":
+                self.next = number(fields_of(fields, 1, line)[0], line)
+                self.cover(Kind.CUT, 0, 0)
+            case _:
+                self.fault(line, fields)
+        self.last = fields[0] if name == "!" else name
+        self.is_closing = self.is_closing if name == "!" else name == "e"
+
+    def cover(self, kind: Kind, width: int, value: int, second: int = 0, size: int = 0) -> None:
+        """An event that stands for the next columns. The receiver reports a run and a line at the column after them, the others at their
+        last one."""
+        first = self.next
+        if first != UNTOLD:
+            self.next += width
+        column = self.next if kind in (Kind.RUN, Kind.LINE) or first == UNTOLD else self.next - 1
+        self.rows.append((kind, self.epoch, column, first, width, value, second, len(self.data) - size, size))
+
+    def run(self, line: int, fields: list[str]) -> None:
+        """Control columns."""
+        digits, count = fields_of(fields, 2, line)
+        self.value = hexadecimal(digits, line)
+        self.cover(Kind.RUN, number(count, line), self.value)
+
+    def row(self, line: int, fields: list[str]) -> None:
+        """Pixels."""
+        pixels = digits(fields_of(fields, 1, line)[0], 3, line)
+        if self.guards is None:
+            self.guards = GUARDS * (self.value & PREAMBLE == CONTROLS or self.last in ("preamble", "guard"))
+        self.data += pixels
+        self.cover(Kind.LINE, len(pixels) // 3 + self.guards, len(pixels) // 3, size=len(pixels))
+
+    def packet(self, line: int, fields: list[str]) -> None:
+        """A packet."""
+        head, *bodies, syncs = fields_of(fields, 6, line)
+        parts = [digits(part, size, line) for part, size in zip((head, *bodies), (HEADER, *(BODY,) * BODIES))]
+        if len(syncs) != PACKET or set(syncs) - set("0123"):
+            raise Refused(f"line {line}: the last field is not {PACKET} sync values of 0 to 3. FORMATS.md lists the lines")
+        self.data += b"".join(parts) + bytes(map(int, syncs))
+        self.cover(Kind.PACKET, PACKET, parts[0][0], size=WHOLE)
+
+    def guard(self, kind: Kind, line: int, fields: list[str]) -> None:
+        """The guards of an island."""
+        text = fields_of(fields, 1, line)[0]
+        if len(text) != GUARDS:
+            raise Refused(f"line {line}: `{text[:20]}` is not the two digits of guards. FORMATS.md lists the lines")
+        self.cover(kind, GUARDS, *(hexadecimal(digit, line) for digit in text))
+
+    def fault(self, line: int, fields: list[str]) -> None:
+        """A fault, or the end of an epoch."""
+        word, *texts = fields
+        kind, numbers = OF_WORD.get(word), [number(text, line) for text in texts]
+        if kind is None:
+            raise Refused(f"line {line}: `{word[:20]}` is not a kind of fault. FORMATS.md lists the faults")
+        if len(numbers) < 1 + (kind in LANED):
+            raise Refused(f"line {line}: the fault has no place. FORMATS.md lists the lines")
+        lane = numbers.pop(0) if kind in LANED else 0
+        named, more = numbers[0], [*numbers[1:], 0, 0]
+        is_empty = kind == Kind.EMPTY and not self.is_closing
+        if word in faults.NEXT or is_empty:
+            self.next = named
+        elif kind in OF_PACKET:
+            self.next = named + PACKET
+        if kind == Kind.SYMBOLS:
+            self.say_symbols(more[0])
+        column = 0 if kind in ENDS else self.next
+        self.rows.append((kind, self.epoch, column, named, 0, lane if kind in LANED else more[0], more[1], 0, 0))
+        if kind in ENDS:
+            self.epoch, self.next = self.epoch + 1, 0
+        elif is_empty:
+            self.next += GUARDS
+        elif word in faults.UNCOUNTED:
+            self.next = UNTOLD
+
+    def say_symbols(self, count: int) -> None:
+        """The last packet has so many wrong characters."""
+        place = next((at for at in reversed(range(len(self.rows))) if self.rows[at][0] == Kind.PACKET), None)
+        if place is not None:
+            kind, epoch, column, first, width, value, _, offset, size = self.rows[place]
+            self.rows[place] = (kind, epoch, column, first, width, value, count, offset, size)
+
+    def events(self) -> Events:
+        """What was taken."""
+        table = np.ascontiguousarray(np.array(self.rows, np.int64).reshape(-1, FIELDS).T)
+        kind, epoch, column, first, width, value, second, offset, size = table
+        data = np.frombuffer(bytes(self.data), np.uint8)
+        return Events(kind.astype(np.uint8), epoch, column, first, width, value, second, offset, size, data)
+
+
+def hexadecimal(text: str, line: int) -> int:
+    """A field that is a hexadecimal number."""
+    try:
+        return int(text, 16)
+    except ValueError:
+        raise Refused(f"line {line}: `{text[:20]}` is not a hexadecimal number. FORMATS.md lists the lines") from None
+
+
+def parsed(source: Iterable[Line], is_dvi: bool | None = None) -> Events:
+    """The events of the lines of a link listing. Raises Refused if a line is wrong."""
+    parser = Parser(None if is_dvi is None else GUARDS * (not is_dvi))
+    for line in source:
+        parser.take(*line)
+    return parser.events()

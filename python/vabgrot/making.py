@@ -13,13 +13,14 @@ def packet(kind: str, numbers: Mapping[str, int], text: str = "") -> Packet:
     layout = LAYOUTS[kind]
     header, data = bytearray(layout.header), bytearray(SIZE)
     for name, number in {**layout.where, **layout.preset}.items():
-        layout.all_fields[name].put(data, number)
+        field = layout.all_fields[name]
+        field.put(header if field.in_header else data, number)
     for name, number in numbers.items():
         if name not in layout.fields:
-            raise Refused(f"{kind} has no field {name}; it has {', '.join(layout.fields) or 'none'}")
+            raise Refused(f"{kind} has no field {name}. Choose one of: {', '.join(layout.fields) or 'none'}")
         field = layout.fields[name]
         if not 0 <= number <= field.most:
-            raise Refused(f"{kind}: {name} is 0 to {field.most}, and {number} is none of these")
+            raise Refused(f"{kind}: the field {name} cannot be {number}. Give a number from 0 to {field.most}")
         field.put(header if field.in_header else data, number)
     if layout.text:
         first, most = layout.text
@@ -56,7 +57,7 @@ def parts(word: str) -> tuple[str, dict[str, int], str]:
     """The kind, the numbers and the text of a word KIND:FIELD=NUMBER,.. in which a field may be `text`."""
     kind, _, rest = word.partition(":")
     if kind not in OFFERED:
-        raise Refused(f"there is no packet `{kind}`; there are {', '.join(OFFERED)}")
+        raise Refused(f"there is no packet `{kind}`. Choose one of: {', '.join(OFFERED)}")
     numbers, text = {}, ""
     for part in filter(None, rest.split(",")):
         name, is_given, value = part.partition("=")
@@ -65,7 +66,7 @@ def parts(word: str) -> tuple[str, dict[str, int], str]:
         elif is_given and value.isdecimal():
             numbers[name] = int(value)
         else:
-            raise Refused(f"{kind}: `{part}` is no FIELD=NUMBER")
+            raise Refused(f"{kind}: `{part}` is not FIELD=NUMBER. Write for example avi:VIC=1")
     if kind == "hdmi" and "HDMI_VIC" in numbers:
         numbers.setdefault("HDMI_Video_Format", 1)
     return kind, numbers, text

@@ -223,7 +223,7 @@ def rows_of(packet: Packet) -> list[Row]:
 READERS: dict[int, Callable[[Packet], Content]] = {
     **{Type.NULL: lambda _: Content("nothing"), Type.CLOCK: clock, Type.SAMPLES: samples, Type.CONTROL: control},
     **{Type.ONE_BIT: one_bit, Type.DST: dst, Type.HIGH_RATE: high_rate},
-    **dict.fromkeys((Type.PROTECTION, Type.ISRC1, Type.ISRC2, Type.GAMUT), described),
+    **dict.fromkeys((Type.PROTECTION, Type.ISRC1, Type.ISRC2, Type.GAMUT, Type.EXTENDED), described),
 }
 
 

@@ -42,13 +42,13 @@ def read(path: str | Path) -> Sound:
                 kind, subtype, channels, rate = file.format, file.subtype, file.channels, file.samplerate
                 values = file.read(dtype="int32", always_2d=True)
         except soundfile.SoundFileError as why:
-            raise Refused(f"{path}: no WAV file of linear PCM ({why})") from None
+            raise Refused(f"{path}: not a WAV file of linear PCM ({why}). Convert it first") from None
     if kind not in WAVES or subtype not in USED_BITS:
-        raise Refused(f"{path}: no WAV file of linear PCM (it is {kind}, {subtype})")
+        raise Refused(f"{path}: not a WAV file of linear PCM, but {kind}, {subtype}. Convert it first")
     if channels > 2:
-        raise Refused(f"{path}: it has {channels} channels, and one or two are wanted")
+        raise Refused(f"{path}: it has {channels} channels. Give a file with one or two")
     if rate not in RATES:
-        raise Refused(f"{path}: its rate is {rate} Hz; a link carries {', '.join(map(str, RATES))}")
+        raise Refused(f"{path}: its rate is {rate} Hz, which no link carries. Convert it to one of {', '.join(map(str, RATES))} Hz")
     return Sound(rate, USED_BITS[subtype], side(values[:, 0]), side(values[:, -1]))
 
 

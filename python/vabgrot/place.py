@@ -1,4 +1,7 @@
-"""Where the package stands, in a checkout or installed: how commands and files are named there, and which version it is."""
+"""Where the package is: how commands and files are named there, and which version it is.
+
+It can be in a checkout, below the prefix of `./vabgrot install`, where Debian's Python packages are, or in a wheel. A wheel has a prefix of
+its own within the package."""
 
 import argparse
 import importlib.metadata
@@ -10,11 +13,22 @@ from typing import Any
 
 from vabgrot import tools
 
-TOP = Path(__file__).resolve().parents[2]  # of a checkout, or PREFIX/lib/vabgrot
+PACKAGE = Path(__file__).resolve().parent
+PLACES = (PACKAGE.parents[1], PACKAGE / "prefix/lib/vabgrot", PACKAGE.parents[2] / "vabgrot")  # the last one is Debian's
+
+
+def top_of(places: Sequence[Path]) -> Path:
+    """The top of a checkout, or PREFIX/lib/vabgrot: the first place that has their files."""
+    return next((it for it in places if (it / "build.py").is_file() or (it / "version").is_file()), places[0])
+
+
+TOP = top_of(PLACES)
+PREFIX = TOP.parent.parent  # where it is installed
 IS_INSTALLED = not (TOP / "build.py").is_file()
 PROGRAM = TOP / "vabgrot" if IS_INSTALLED else TOP / "crates" / "hdmi_cli" / "out" / "hdmi_cli"
+FRONT = PREFIX / "bin" / "vabgrot" if IS_INSTALLED else TOP / "vabgrot"  # the script
 VERSION = TOP / "version"  # where it is installed
-DOCUMENTS = TOP.parent.parent / "share" / "doc" / "vabgrot"
+DOCUMENTS = PREFIX / "share" / "doc" / "vabgrot"
 FILE = re.compile(r"(?<![\w./])(docs|examples)/(?=\w)")
 TOOL = re.compile(rf"(?<![\w./])tools/(?=({'|'.join(tools.NAMES)})\b)")
 
@@ -32,18 +46,18 @@ def named(text: str, has_files: bool = False) -> str:
 def version() -> str:
     """The version, and the kit that built the program, as a line. Raises OSError or subprocess.CalledProcessError."""
     if not IS_INSTALLED:
-        return subprocess.run([TOP / "vabgrot", "--version"], capture_output=True, text=True, check=True).stdout
+        return subprocess.run([FRONT, "--version"], capture_output=True, text=True, check=True).stdout
     if VERSION.is_file():
         return VERSION.read_text("utf-8")
     return f"vabgrot {importlib.metadata.version('vabgrot')}\n"  # as Python's installers put it, without the program
 
 
-class Version(argparse.Action):
+class Version(argparse._VersionAction):
     """The word `--version` of each tool."""
 
     def __init__(self, option_strings: Sequence[str], dest: str) -> None:
-        text = "say the version of Vabgrot and the kit with which its program was built, and end"
-        super().__init__(option_strings, argparse.SUPPRESS, nargs=0, help=text)
+        text = "print the version of Vabgrot and the kit that built its program, then exit"
+        super().__init__(option_strings, "", help=text)
 
     def __call__(self, parser: argparse.ArgumentParser, *_: Any) -> None:
         try:

@@ -3,49 +3,23 @@
 import ctypes
 import threading
 import weakref
-from collections.abc import Callable, Iterator, Sequence
+from collections.abc import Iterator, Sequence
 from ctypes import byref
-from typing import Any, NamedTuple, Self, TypeVar
+from dataclasses import replace
+from typing import Any, Self
 
 import numpy as np
-import numpy.typing as npt
 
 from vabgrot import library
 from vabgrot.errors import Refused
-from vabgrot.events import UNTOLD, End, EpochsEnd, Event, Numbers, event_of
+from vabgrot.events import ENDS, GUARDS, RECORD, UNTOLD, End, Event, Events, Octets, joined, of_records
 from vabgrot.library import FULL, KINDS, MISUSE, NOMEM, OF_EPOCHS, OK, TOOBIG, Grammar, Misuse
 
-# A record of vabgrot.h; its columns are below 2^60.
-RECORD = np.dtype(
-    [(name, "<i8") for name in ("column", "named", "count", "offset")] + [(name, "<u4") for name in ("size", "kind", "value", "second")]
-)
 EVENTS, BYTES = 1 << 16, 1 << 20  # the room of a receiver
 PIECE = 1 << 18  # bytes of a lane that `receive` feeds at a time
 
 Lane = Any  # bytes, a memoryview or an array of bytes: any buffer of them
-Octets = npt.NDArray[np.uint8]
-Records = npt.NDArray[np.void]
 Empty = np.zeros(1, np.uint8)
-Written = TypeVar("Written")
-
-
-class Arrays(NamedTuple):
-    """Events as records (the fields are those of vabgrot_event in library/vabgrot.h), whose bytes stand in `data` from `offset` on."""
-
-    records: Records
-    data: bytes
-
-    def events(self) -> Iterator[Event]:
-        """The same as objects."""
-        numbers: Sequence[Numbers] = self.records.tolist()
-        return (event_of(it, self.data) for it in numbers)
-
-
-class Views(NamedTuple):
-    """The same where the receiver wrote them: both are valid until the next call of it."""
-
-    records: Records
-    data: Octets
 
 
 def octets(lane: Lane) -> Octets:
@@ -72,13 +46,14 @@ class Receiver:
     """A receiver of a link, or of one without guard bands and preambles (`kind="dvi"`). It is fed the raw bits of three lanes, of any
     offset and up to 70 bits of skew between them, the first bit of a byte lowest; what each call answers is proved to be the events of
     all bits that were fed (docs/proof/PROVED.md). With `kind="track"` the lanes may lose bits, and are searched anew where one did, which
-    is a Slip; with `kind="relock"` they are so too where their alignment is let go, which is a Relocked. Calls of several threads wait
-    for one another. Raises ValueError where there is no such kind or too little room, NoLibrary where the C library is missing or has no
-    such kind, MemoryError, and of each call Misuse where it does not fit the calls before it: then it did nothing.
+    is a Kind.SLIP. With `kind="relock"` they are also searched anew where their alignment is dropped, which is a Kind.RELOCKED. Calls of
+    several threads wait for one another. Raises ValueError if there is no such kind or too little room, NoLibrary if the C library is
+    missing or has no such kind, MemoryError, and Misuse if a call does not fit the calls before it: then it did nothing.
 
         with Receiver() as receiver:
-            for event in receiver.feed(blue, green, red) + receiver.finish():
+            for event in receiver.feed(blue, green, red):
                 print(event)
+            rest, end = receiver.finish()
     """
 
     def __init__(self, kind: Grammar = "link", events: int = EVENTS, size: int = BYTES) -> None:
@@ -88,10 +63,11 @@ class Receiver:
         fewest, least = library.least_room(kind)
         if events < fewest or size < least:
             raise ValueError(f"a receiver of the kind {kind!r} wants room for {fewest} events and {least} bytes at least")
-        self._calls = library.loaded(library.find())
+        self._calls = library.needed()
         self._lock, self._has_epochs = threading.Lock(), kind in OF_EPOCHS
         self._handle, self._answer = library.Handle(), library.Answer()
         self._records, self._bytes = np.empty(events, RECORD), np.empty(size, np.uint8)
+        self._epoch, self._guards = 0, 0 if kind == "dvi" else GUARDS
         self._room = self._records.ctypes.data, events, self._bytes.ctypes.data, size, byref(self._answer)
         self._open(kind)
         self._end = weakref.finalize(self, close, self._calls, self._handle)
@@ -102,40 +78,30 @@ class Receiver:
     def __exit__(self, *_: object) -> None:
         self.close()
 
-    def feed(self, blue: Lane, green: Lane, red: Lane, bits: Sequence[int] | None = None) -> list[Event]:
+    def feed(self, blue: Lane, green: Lane, red: Lane, bits: Sequence[int] | None = None) -> Events:
         """Takes bits of each lane, all of its bytes or as many as `bits` says of it, and answers the events that they decide. A lane
         whose bits are no whole bytes, or are fewer than another lane's, has ended with them."""
-        return [*self.feed_arrays(blue, green, red, bits).events()]
-
-    def feed_arrays(self, blue: Lane, green: Lane, red: Lane, bits: Sequence[int] | None = None) -> Arrays:
-        """The same with arrays in place of objects, which is quicker."""
-        lanes = [octets(lane) for lane in (blue, green, red)]
-        left = bits_of(lanes, bits)
         with self._lock:
-            return joined([*self._fed(lanes, left, self._written)])
+            return joined([replace(it, data=it.data.copy()) for it in self._fed(blue, green, red, bits)])
 
-    def feed_views(self, blue: Lane, green: Lane, red: Lane, bits: Sequence[int] | None = None) -> Iterator[Views]:
-        """The same without a copy, as often as the receiver's own arrays are full: each is to be read before the next is asked for, and all
-        of them are to be asked for before another call, which then has the receiver to itself. No other thread may call it meanwhile."""
-        lanes = [octets(lane) for lane in (blue, green, red)]
-        yield from self._fed(lanes, bits_of(lanes, bits), self._seen)
+    def feed_views(self, blue: Lane, green: Lane, red: Lane, bits: Sequence[int] | None = None) -> Iterator[Events]:
+        """The same without a copy of the bytes of rows and packets, each time that the receiver's own room is full. Read each before you
+        ask for the next one, and ask for all of them before another call. No other thread may call the receiver meanwhile."""
+        yield from self._fed(blue, green, red, bits)
 
-    def finish(self) -> list[Event]:
-        """Ends the lanes: the one event that is left, if any, and the End; of lanes that may lose bits all events that are left, and an
-        EpochsEnd. The receiver then takes no bits until `restart`."""
-        rest, end = self.finish_arrays()
-        return [*rest.events(), end]
-
-    def finish_arrays(self) -> tuple[Arrays, End]:
-        """The same with arrays for the events that are left."""
+    def finish(self) -> tuple[Events, End]:
+        """Ends the lanes: the events that are left, and the End. The receiver then takes no bits until `restart`."""
         with self._lock:
             self._check(self._calls.vabgrot_finish(byref(self._handle), *self._room))
-            return self._written(), self._ended()
+            rest, answer = self._written(), self._answer
+            end = End(UNTOLD, answer.columns, answer.aligned) if self._has_epochs else End(answer.columns, 1, answer.aligned)
+            return replace(rest, data=rest.data.copy()), end
 
     def restart(self) -> None:
         """Makes an open receiver as it was at first, of its kind."""
         with self._lock:
             self._check(self._calls.vabgrot_restart(byref(self._handle)))
+            self._epoch = 0
 
     def close(self) -> None:
         """Gives its memory back. What is called then raises Misuse, but for a further `close`."""
@@ -149,9 +115,11 @@ class Receiver:
             raise library.NoLibrary(f"the C library has no receiver of the kind {kind!r}: it is of another version")
         self._check(status)
 
-    def _fed(self, lanes: Sequence[Octets], left: list[int], written: Callable[[], Written]) -> Iterator[Written]:
-        """What is written of bits, as often as there was no room for all."""
-        places, status = [lane.ctypes.data if len(lane) else Empty.ctypes.data for lane in lanes], FULL
+    def _fed(self, blue: Lane, green: Lane, red: Lane, bits: Sequence[int] | None) -> Iterator[Events]:
+        """What is written of bits, each time that there was no room for all."""
+        lanes, status = [octets(lane) for lane in (blue, green, red)], FULL
+        left = bits_of(lanes, bits)
+        places = [lane.ctypes.data if len(lane) else Empty.ctypes.data for lane in lanes]
         while status == FULL:
             words = [word for place, count in zip(places, left) for word in (place, (count + 7) // 8)]
             status = self._calls.vabgrot_feed(byref(self._handle), *words, byref(library.Bits(*left)), *self._room)
@@ -160,21 +128,14 @@ class Receiver:
             for at, count in enumerate((taken.blue, taken.green, taken.red)):
                 places[at] += count // 8
                 left[at] -= count
-            yield written()
+            yield self._written()
 
-    def _seen(self) -> Views:
-        """What the last call wrote, where it stands."""
-        return Views(self._records[: self._answer.events], self._bytes[: self._answer.bytes])
-
-    def _written(self) -> Arrays:
-        """A copy of it."""
-        records, data = self._seen()
-        return Arrays(records.copy(), data.tobytes())
-
-    def _ended(self) -> End:
-        """What the end of the lanes says."""
-        columns, aligned = self._answer.columns, self._answer.aligned  # of epochs how many, and in how many the lanes were aligned
-        return EpochsEnd(UNTOLD, aligned > 0, columns, aligned) if self._has_epochs else End(columns, aligned > 0)
+    def _written(self) -> Events:
+        """What the last call wrote, with its bytes where they stand."""
+        records, data = self._records[: self._answer.events], self._bytes[: self._answer.bytes]
+        found = of_records(records, data, self._epoch, self._guards)
+        self._epoch += len(found.of(*ENDS))
+        return found
 
     def _check(self, status: int) -> None:
         """Raises what a status says."""
@@ -193,17 +154,6 @@ def close(calls: ctypes.CDLL, handle: library.Handle) -> None:
     calls.vabgrot_close(byref(handle))
 
 
-def joined(parts: Sequence[Arrays]) -> Arrays:
-    """Some events behind others."""
-    if len(parts) == 1:
-        return parts[0]
-    at = 0
-    for records, data in parts:
-        records["offset"] += at
-        at += len(data)
-    return Arrays(np.concatenate([it.records for it in parts]), b"".join(it.data for it in parts))
-
-
 def pieces(blue: Lane, green: Lane, red: Lane, bits: Sequence[int] | None = None) -> Iterator[tuple[Octets, Octets, Octets, list[int]]]:
     """Bits of three lanes in pieces that a receiver can be fed one after another: the bytes, and how many bits of each."""
     lanes = [octets(lane) for lane in (blue, green, red)]
@@ -213,10 +163,12 @@ def pieces(blue: Lane, green: Lane, red: Lane, bits: Sequence[int] | None = None
         yield first, second, third, [min(8 * PIECE, max(0, count - 8 * at)) for count in counts]
 
 
-def receive(blue: Lane, green: Lane, red: Lane, bits: Sequence[int] | None = None, kind: Grammar = "link") -> Iterator[Event]:
+def receive(blue: Lane, green: Lane, red: Lane, bits: Sequence[int] | None = None, kind: Grammar = "link") -> Iterator[Event | End]:
     """The events of the bits of three lanes, one after another, all of their bytes or as many as `bits` says of each; the last is the
     End. `kind` is that of the Receiver: "link", "dvi", "track" or "relock"; and it raises as that does."""
     with Receiver(kind) as receiver:
         for piece in pieces(blue, green, red, bits):
             yield from receiver.feed(*piece)
-        yield from receiver.finish()
+        rest, end = receiver.finish()
+        yield from rest
+        yield end

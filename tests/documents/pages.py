@@ -39,7 +39,8 @@ def help_of(tool: str) -> str:
     """The texts of a tool's help: what it does and its statuses, without usage, options and examples."""
     ran = subprocess.run([TOP / "tools" / tool, "--help"], capture_output=True, text=True, check=True)
     text = ran.stdout.partition("\nExamples")[0].partition("\n\n")[2]
-    return re.sub(r"(?ms)^(positional arguments|options):\n.*?\n\n(?=\S)", "", text)
+    text = re.sub(r"(?ms)^(positional arguments|options):\n.*?\n\n(?=\S)", "", text)
+    return re.sub(r"(?m)^  (?=\S)", "\n", text)
 
 
 def help_of_the_front() -> str:

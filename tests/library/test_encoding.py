@@ -16,7 +16,7 @@ from tests.models import feeding, hearing
 from tests.models.tables import CONTROL, ISLAND_GUARD, TERC4, VIDEO_GUARD
 from tests.support import HANGS, TOP, ran
 from vabgrot import Control, Island, Video, encoding
-from vabgrot.events import Fault, Line, Packet, Run
+from vabgrot.events import Event, Kind
 
 LISTINGS = 12
 OLD = 0x5A5A  # what stands in the rows before a call
@@ -264,10 +264,10 @@ def test_what_is_encoded_is_heard(found):
     words = vabgrot.encode([*parts, Control(0, 12)])
     lanes = [sum(word << 10 * at for at, word in enumerate(lane)) for lane in words.T.tolist()]
     events = [*vabgrot.receive(*(lane.to_bytes((10 * len(words) + 7) // 8, "little") for lane in lanes), [10 * len(words)] * 3)]
-    assert [it.data for it in events if isinstance(it, Line)] == lines
-    heard = [it.header + b"".join(it.bodies) + it.sync for it in events if isinstance(it, Packet)]
-    runs = [(it.value, it.count) for it in events if isinstance(it, Run)]
-    assert heard == [PACKET] * 2 and not any(isinstance(it, Fault) for it in events)
+    assert [it.data for it in events if isinstance(it, Event) and it.kind == Kind.LINE] == lines
+    heard = [it.data for it in events if isinstance(it, Event) and it.kind == Kind.PACKET]
+    runs = [(it.value, it.width) for it in events if isinstance(it, Event) and it.kind == Kind.RUN]
+    assert heard == [PACKET] * 2 and not any(isinstance(it, Event) and it.is_fault for it in events)
     assert runs[1:] == [(0x15, 8), *[(0, 12), (4, 8)] * 3, (0, 12)] and events[-1].columns == len(words) - 40 + runs[0][1]
 
 
@@ -286,7 +286,7 @@ def test_python_refuses(found):
     for part in (Control(-1, 1), Control(0, -1), Control(1 << 32, 1), Control(0, 1 << 32), Island([], (0, -1)), Island([], (1 << 32, 0))):
         with pytest.raises(ValueError, match="a number of a part"):
             vabgrot.encode([part])
-    for part in (Control(0.5, 1), Video("ff0000"), Video(3), Video(np.zeros((2, 3), np.uint16)), Island([63]), None, Run(0, 0, 12)):
+    for part in (Control(0.5, 1), Video("ff0000"), Video(3), Video(np.zeros((2, 3), np.uint16)), Island([63]), None, Kind.RUN):
         with pytest.raises(TypeError):
             vabgrot.encode([part])
 

@@ -1,7 +1,6 @@
 """The receiver in Python: its events and their order, pieces, misuse; what a capture carries, by the library and by the program; the
 test bench of examples/python; and where the library is found."""
 
-import dataclasses
 import importlib.util
 import os
 import random
@@ -19,7 +18,7 @@ from tests.library.test_calls import lanes_of
 from tests.models import feeding, hearing, model, relocking
 from tests.support import HANGS, LISTING, TOP, run
 from vabgrot import capture, library, texts
-from vabgrot.events import UNTOLD, Closing, Cut, End, EpochsEnd, Fault, Kind, Line, Opening, Packet, Relocked, Run, Slip
+from vabgrot.events import ENDS, UNTOLD, End, Event, Kind
 from vabgrot.formats.characters import CONTROL
 
 CAPTURES = 24
@@ -37,33 +36,45 @@ def found(library, monkeypatch):
     return path
 
 
+def run_of(column, value, count, epoch=0):
+    return Event(Kind.RUN, epoch, column, column - count, count, value, 0)
+
+
+def line_event(column, data, guards=2, epoch=0):
+    width = len(data) // 3 + guards
+    return Event(Kind.LINE, epoch, column, column - width, width, len(data) // 3, 0, data)
+
+
 def in_pieces(receiver, lanes, bits, size):
     """The events of lanes that are fed in pieces of so many bytes, and of their end."""
     events = []
     for at in range(0, max(map(len, lanes)), size):
         counts = [min(8 * size, max(0, count - 8 * at)) for count in bits]
         events += receiver.feed(*(lane[at : at + size] for lane in lanes), bits=counts)
-    return events + receiver.finish()
+    rest, end = receiver.finish()
+    return [*events, *rest, end]
 
 
 def test_events():
     """Each kind of two small streams, columns counted by hand; the pixels as an array."""
     lanes, bits = lanes_of(LISTING)
-    line = Line(15, b"\xff\0\0")
-    assert [*vabgrot.receive(*lanes, bits)] == [Run(4, 0, 4), Run(12, 4, 8), line, Run(27, 0, 12), End(27, True)]
-    assert line.pixels.tolist() == [[255, 0, 0]] and line.kind == Kind.LINE
+    line = line_event(15, b"\xff\0\0")
+    assert [*vabgrot.receive(*lanes, bits)] == [run_of(4, 0, 4), run_of(12, 4, 8), line, run_of(27, 0, 12), End(27, 1, 1)]
+    assert line.pixels.tolist() == [[255, 0, 0]]
     lanes, bits = lanes_of(ISLAND)
-    packet = Packet(45, 14, b"\x82\x02\x0d", BODIES, bytes([0, 1, 2, 3] * 8), 0)
-    wanted = [Run(4, 0, 4), Run(12, 0x14, 8), Opening(13, (1, 2)), packet, Closing(47, (3, 0)), Run(60, 0, 12), End(60, True)]
+    packet = Event(Kind.PACKET, 0, 45, 14, 32, 0x82, 0, b"\x82\x02\x0d" + b"".join(BODIES) + bytes([0, 1, 2, 3] * 8))
+    guards = Event(Kind.OPEN, 0, 13, 12, 2, 1, 2), Event(Kind.CLOSE, 0, 47, 46, 2, 3, 0)
+    wanted = [run_of(4, 0, 4), run_of(12, 0x14, 8), guards[0], packet, guards[1], run_of(60, 0, 12), End(60, 1, 1)]
     assert [*vabgrot.receive(*map(memoryview, lanes), bits)] == wanted
+    assert (packet.header, packet.bodies, packet.syncs) == (b"\x82\x02\x0d", BODIES, bytes([0, 1, 2, 3] * 8))
     lanes, bits = lanes_of(LISTING.replace(b"c 00 12\nend", b"c 00 1\nend"))
-    assert [*vabgrot.receive(*lanes, [140] * 3)][-2:] == [Cut(14, 14), End(14, True)]
-    assert [*vabgrot.receive(b"", b"", b"")] == [End(0, False)]
+    assert [*vabgrot.receive(*lanes, [140] * 3)][-2:] == [Event(Kind.CUT, 0, 14, 14, 0, 0, 0), End(14, 1, 1)]
+    assert [*vabgrot.receive(b"", b"", b"")] == [End(0, 1, 0)]
 
 
 def test_a_stream_without_guard_bands():
     lanes, bits = lanes_of(b"c 00 12\nv ff0000\nc 00 12\nend\n", guards=False)
-    wanted = [Run(12, 0, 12), Line(13, b"\xff\0\0"), Run(25, 0, 12), End(25, True)]
+    wanted = [run_of(12, 0, 12), line_event(13, b"\xff\0\0", guards=0), run_of(25, 0, 12), End(25, 1, 1)]
     assert [*vabgrot.receive(*lanes, bits, kind="dvi")] == wanted
     with vabgrot.Receiver("dvi") as receiver:
         for _ in range(2):
@@ -78,8 +89,8 @@ def test_a_fault_in_words():
     rows = [list(row) for row in zip(*hearing.sent_columns(LISTING))]
     rows[1][24] = 0x133
     lanes = [sum(word << 10 * at for at, word in enumerate(row)).to_bytes(34, "little") for row in rows]
-    (fault,) = (it for it in vabgrot.receive(*lanes, [270] * 3) if isinstance(it, Fault))
-    assert fault == Fault(24, Kind.WORD, 24, lane=1)
+    (fault,) = (it for it in vabgrot.receive(*lanes, [270] * 3) if isinstance(it, Event) and it.is_fault)
+    assert fault == Event(Kind.WORD, 0, 24, 24, 0, 1, 0)
     assert str(fault) == "column 24 on lane 1 (green): word, a character of a control column is no control character"
 
 
@@ -104,12 +115,12 @@ def test_more_events_than_there_is_room_for():
     lane = np.packbits((words[:, None] >> np.arange(10) & 1).astype(np.uint8).reshape(-1), bitorder="little")
     head = [np.frombuffer(it, np.uint8)[:30] for it in lanes_of(LISTING)[0]]  # 24 columns, the last nine of value 0
     with vabgrot.Receiver() as receiver:
-        records, data = receiver.feed_arrays(*(np.concatenate([it, lane]) for it in head))
-        assert len(records) == 4 + count - 2 and data == b"\xff\0\0"
-        runs = records[4:]
-        assert (runs["kind"] == Kind.RUN).all() and (runs["column"] == np.arange(26, 24 + count)).all()
-        assert (runs["count"] == 1).all() and set(runs["value"][::2]) == {21} and set(runs["value"][1::2]) == {0}
-        assert receiver.finish()[-1] == End(24 + count, True)
+        events = receiver.feed(*(np.concatenate([it, lane]) for it in head))
+        assert len(events) == 4 + count - 2 and events.data.tobytes() == b"\xff\0\0"
+        runs = events[4:]
+        assert (runs.kind == Kind.RUN).all() and (runs.column == np.arange(26, 24 + count)).all()
+        assert (runs.width == 1).all() and set(runs.value[::2]) == {21} and set(runs.value[1::2]) == {0}
+        assert receiver.finish()[1] == End(24 + count, 1, 1)
 
 
 def test_misuse():
@@ -127,7 +138,7 @@ def test_misuse():
     with pytest.raises(vabgrot.Misuse, match="ended"):
         receiver.feed(*lanes)
     receiver.restart()
-    assert receiver.feed(*lanes) == [] and receiver.finish() == [End(0, False)]
+    assert [*receiver.feed(*lanes)] == [] and receiver.finish()[1] == End(0, 1, 0)
     for call in (receiver.finish, lambda: receiver.feed(*lanes), receiver.close, receiver.close, receiver.restart, receiver.finish):
         if call == receiver.close:
             call()
@@ -141,20 +152,17 @@ def test_misuse():
 
 def line_of(event):
     """The line of a listing that an event is."""
-    match event:
-        case Run():
-            return f"c {event.value:02x} {event.count}"
-        case Line():
+    match event.kind:
+        case Kind.RUN:
+            return f"c {event.value:02x} {event.width}"
+        case Kind.LINE:
             return f"v {event.data.hex()}"
-        case Opening() | Closing():
-            return f"{'i' if isinstance(event, Opening) else 'e'} {event.syncs[0]}{event.syncs[1]}"
-        case Packet():
-            return " ".join(["p", event.header.hex(), *(it.hex() for it in event.bodies), "".join(map(str, event.sync))])
-        case Cut():
-            return f"cut {event.at}"
-        case Fault():
-            numbers = event.lane, event.at, event.block, event.bit, event.count
-            return " ".join(["!", event.name, *(str(it) for it in numbers if it is not None)])
+        case Kind.OPEN | Kind.CLOSE:
+            return f"{'i' if event.kind == Kind.OPEN else 'e'} {event.value}{event.second}"
+        case Kind.PACKET:
+            return " ".join(["p", event.header.hex(), *(it.hex() for it in event.bodies), "".join(map(str, event.syncs))])
+        case Kind.CUT:
+            return f"cut {event.first}"
     return event.line
 
 
@@ -192,12 +200,15 @@ def packed(rows):
 def test_a_slip():
     """Of the guide's listing: columns are counted anew behind it; and what is an alignment let go there."""
     lanes, bits = packed(slipped((2, 300, 3)))
-    wanted = [Run(4, 0, 4), Run(12, 4, 8), Cut(43, 14), Slip(0, 2, 437), Run(4, 0, 4), Run(12, 4, 8), Line(15, b"\xff\0\0"), Run(27, 0, 12)]
+    ends = Event(Kind.CUT, 0, 43, 14, 0, 0, 0), Event(Kind.SLIP, 0, 0, 437, 0, 2, 0)
+    again = run_of(4, 0, 4, 1), run_of(12, 4, 8, 1), line_event(15, b"\xff\0\0", epoch=1), run_of(27, 0, 12, 1)
+    wanted = [run_of(4, 0, 4), run_of(12, 4, 8), *ends, *again]
     for kind in EPOCHS:
-        assert [*vabgrot.receive(*lanes, bits, kind=kind)] == [*wanted, EpochsEnd(UNTOLD, True, 2, 2)]
-        assert [*vabgrot.receive(b"", b"", b"", kind=kind)] == [EpochsEnd(UNTOLD, False, 1, 0)]
+        assert [*vabgrot.receive(*lanes, bits, kind=kind)] == [*wanted, End(UNTOLD, 2, 2)]
+        assert [*vabgrot.receive(b"", b"", b"", kind=kind)] == [End(UNTOLD, 1, 0)]
     lanes, bits = packed(slipped((2, 300, 9), (2, 300, 9), (2, 300, 2)))
-    assert [it for it in vabgrot.receive(*lanes, bits, kind="relock") if isinstance(it, Slip | Relocked)] == [Relocked(0, 620)]
+    (end,) = (it for it in vabgrot.receive(*lanes, bits, kind="relock") if isinstance(it, Event) and it.kind in ENDS)
+    assert (end.kind, end.first, end.line) == (Kind.RELOCKED, 620, "! relock 620")
 
 
 @pytest.mark.parametrize("kind", EPOCHS)
@@ -209,7 +220,7 @@ def test_slips_in_pieces_of_every_size(kind, compare):
             for at, rows in enumerate(slips()):
                 lanes, bits = packed(rows)
                 wanted = [*vabgrot.receive(*lanes, bits, kind=kind)]
-                end = EpochsEnd(UNTOLD, True, *counted(kind, rows))
+                end = End(UNTOLD, *counted(kind, rows))
                 said = model.tracked(rows, hearing.link_of) if kind == "track" else relocking.relocked(rows, hearing.link_of)
                 yield f"lanes {at}", (listing_of(wanted), wanted[-1]), (said[1], end)
                 for size in range(1, max(map(len, lanes)) + 1):
@@ -232,16 +243,14 @@ def test_the_program_lists_the_same(kind, executable, compare):
             status, text, _ = run(executable, ["recover", kind], data)
             wanted = [*vabgrot.receive(*lanes, bits, kind=kind)]
             epochs, aligned = counted(kind, rows)
-            yield f"capture {at}", (listing_of(wanted), wanted[-1]), (text, EpochsEnd(UNTOLD, aligned > 0, epochs, aligned))
+            yield f"capture {at}", (listing_of(wanted), wanted[-1]), (text, End(UNTOLD, epochs, aligned))
             yield f"the status of capture {at}", any(line_of(it)[0] == "!" for it in wanted[:-1]), status == 1
             with vabgrot.Receiver(kind) as receiver:
                 for size in (7, 4095, 100000):
                     yield f"capture {at}, pieces of {size} bytes", in_pieces(receiver, lanes, bits, size), wanted
                     receiver.restart()
-                parts = [receiver.feed_arrays(*lanes, bits=bits), receiver.finish_arrays()[0]]
-            yield f"arrays of capture {at}", [event for part in parts for event in part.events()], wanted[:-1]
-            named = [(it["value"], it["named"]) for records, _ in parts for it in records[records["kind"] == Kind.SLIP]]
-            yield f"slips in them, of capture {at}", named, [(it.lane, it.place) for it in wanted if isinstance(it, Slip)]
+                views = [event for part in receiver.feed_views(*lanes, bits=bits) for event in part]
+                yield f"views of capture {at}", [*views, *receiver.finish()[0]], wanted[:-1]
 
     compare(cases())
 
@@ -264,35 +273,6 @@ def captures(executable):
     for at in (0, 400, 1000):  # columns from the end of a line on, and HSYNC in them, are other ones
         hits = [f"{lane}:{10 * (2000 + at + it)}:{rng.choice((*CONTROL, 0x133)):03x}" for it in range(60) for lane in range(3)]
         yield f"bars with a burst at {at}", run(executable, ["damage", *hits], bars)[1]
-
-
-def shown(recovered):
-    """What a capture carries but for columns, which the program's listing does not always tell; and these."""
-    places = {"column": 0, "first": 0}
-    events = [dataclasses.replace(it, **{name: 0 for name in places if hasattr(it, name)}) for it in recovered.events]
-    packets = [dataclasses.replace(it, **places) for it in recovered.packets]
-    names = [it for it in recovered.faults.dtype.names if it != "column"]
-    samples = recovered.samples[[it for it in recovered.samples.dtype.names if it != "column"]]
-    frames = [(it.shape, it.tobytes()) for it in recovered.frames]
-    columns = [getattr(it, name) for it in recovered.events for name in places if hasattr(it, name)]
-    columns += [*recovered.samples["column"].tolist(), *recovered.faults["column"].tolist(), recovered.columns]
-    return (recovered.aligned, events, packets, recovered.faults[names].tolist(), samples.tolist(), frames), columns
-
-
-def test_recover_by_the_program(executable, compare, monkeypatch):
-    """The library's and the program's say the same, and so do the columns that are told."""
-    monkeypatch.setenv("VABGROT_PROGRAM", executable)
-
-    def cases():
-        for name, data in captures(executable):
-            wanted, places = shown(vabgrot.recover(data))
-            came, told = shown(vabgrot.recover(data, by_program=True))
-            yield name, came, wanted
-            yield f"columns of {name}", [one for one in zip(told, places) if one[0] not in (-1, one[1])], []
-            if name == "bars":
-                yield name, told, places
-
-    compare(cases())
 
 
 def test_recover_a_picture_and_sound(executable, tmp_path):
@@ -355,7 +335,7 @@ def test_the_bench():
             return link.finish(), link.events
 
     count, events = heard(columns)
-    assert count <= len(columns) and sum(isinstance(it, Line) for it in events) == 3 * text.count(b"v ")
+    assert count <= len(columns) and sum(it.kind == Kind.LINE for it in events) == 3 * text.count(b"v ")
     before, at = len(columns) - count, len(columns) - 3
     hurt = [*columns[:at], (columns[at][0], columns[at][1], 0x133), *columns[at + 1 :]]
     with pytest.raises(bench.LinkFault, match=rf"column {at - before} on lane 2 \(red\): word, a character of a control column is no"):
@@ -389,7 +369,7 @@ def test_an_installed_library_is_found(found, tmp_path):
     assert missing.returncode == 1 and "NoLibrary: there is no C library" in missing.stderr
     shutil.copy(found, tmp_path / "lib")
     came = python(source, come)
-    assert came.stdout == "End(column=0, aligned=False)\n", came.stderr
+    assert came.stdout == "End(columns=0, epochs=1, aligned_epochs=0)\n", came.stderr
     assert "and there is no such file" in python(source, come, VABGROT_LIBRARY="/none").stderr
 
 
@@ -477,18 +457,21 @@ def test_python_as_printed(bars, found):
         says.append(came.stdout)
     assert "a line of 32 pixels" in says[0] and "on lane 2 (red): code, the first character of a row on its lane" in says[0]
     assert says[0].endswith(" columns, aligned\n")
-    assert " faults, " in says[1] and says[1].endswith("aligned=True)\n")
+    assert " faults, " in says[1] and says[1].endswith("aligned_epochs=1)\n")
     assert says[2].count("(8, 32, 3)\n") == 3 and "packets" in says[2] and "'code', 2)" in says[2]
     assert says[3] == "158 bytes, 20 columns\nline 2 is refused: preamble\n"
     assert says[4] == "(80, 3) ['3ff', '3ff', '0ff']\n"
 
 
-def test_without_the_library_the_program_hears(executable, monkeypatch):
+def test_without_the_library(executable, monkeypatch):
+    """Texts are the program's; all else says how to get the library."""
     monkeypatch.delenv("VABGROT_LIBRARY")
-    monkeypatch.setattr(library, "BESIDE", TOP / "none")
+    monkeypatch.setattr(library, "BESIDE", [])
     monkeypatch.setattr(library, "NAME", "libnone.so.1")
     monkeypatch.setenv("VABGROT_PROGRAM", executable)
     data = run(executable, ["make", "link"], LISTING)[1]
     with pytest.raises(vabgrot.NoLibrary):
         vabgrot.Receiver()
-    assert vabgrot.recover(data).events[2].data == b"\xff\0\0"
+    with pytest.raises(vabgrot.NoLibrary, match="vabgrot install"):
+        vabgrot.recover(data)
+    assert vabgrot.text_of(data).text == LISTING

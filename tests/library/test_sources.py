@@ -1,193 +1,120 @@
-"""The tools read a capture by the C library or by the program: their pages, pictures, sounds and tables are the same to the byte. Where the
-program's listing does not tell how many columns there were, they are the same but for columns."""
+"""What the library reports of a capture is what the program's listing says: the parser's events are the library's."""
 
-import csv
 import io
 import json
 import random
-import sys
-from contextlib import redirect_stderr, redirect_stdout
 
 import pytest
 
 from tests.library.test_python import captures
 from tests.support import TOP, run
-from vabgrot import reading
-from vabgrot.tools import pictures, report, sound, survey, timing
+from vabgrot import listing, reading, verdict
+from vabgrot.events import UNTOLD, joined
+from vabgrot.tools import conform, report, survey
 
 DVI = b"c 00 12\nv ff0000\nc 00 12\nv 00ff00112233\nc 02 20\nv 010203\nc 00 12\nend\n"
 BARS = TOP / "examples" / "bars.content"
 
 
 def further(executable):
-    """The name and the bytes of captures that slip, are cut, are of DVI, carry nothing, or are none."""
+    """The name and the bytes of captures that slip, are cut, are skewed, or carry nothing."""
     bars = run(executable, ["make", "content"], BARS.read_bytes())[1]
     slipped = run(executable, ["slip", "1:20000:3"], bars)[1]
     yield "slipped", slipped
     yield "slipped again", run(executable, ["slip", "0:31000:7"], run(executable, ["slip", "2:9000:1"], slipped)[1])[1]
     yield "cut", run(executable, ["make", "content", "--bits", "29999"], BARS.read_bytes())[1]
     yield "skewed bars", run(executable, ["make", "content", "--offset", "9", "--skew", "70,0,35", "--version", "2"], BARS.read_bytes())[1]
-    yield "dvi", run(executable, ["make", "dvi"], DVI)[1]
     yield "noise", b"TMC1" + (240_000).to_bytes(4, "big") + random.Random(3).randbytes(90_000)
     yield "empty", b"TMC1\0\0\0\0"
-    yield "short", bars[:-1]
-    yield "half", bars[: len(bars) // 2]
-    yield "trailing", bars + b"x"
-    yield "no capture", b"hello"
-    yield "nothing", b""
 
 
-@pytest.fixture(scope="module")
-def folder(executable, tmp_path_factory):
-    """Files of all these captures."""
-    folder = tmp_path_factory.mktemp("captures")
-    for name, data in (*captures(executable), *further(executable)):
-        (folder / f"{name.replace(' ', '-')}.tmc").write_bytes(data)
-    return folder
+@pytest.fixture(autouse=True)
+def found(library, monkeypatch):
+    """The library that was built for these tests is the one that is found."""
+    monkeypatch.setenv("VABGROT_LIBRARY", str(library / "libvabgrot.so.1"))
 
 
-@pytest.fixture
-def each(executable, library, monkeypatch):
-    """What a function answers of a path with each source: with the library, and with the program alone."""
-    monkeypatch.setenv("VABGROT_PROGRAM", executable)
+class Keeping:
+    """Keeps all events with their pixels."""
 
-    def both(call, *words):
-        found = []
-        for name in (library / "libvabgrot.so.1", library / "none"):
-            monkeypatch.setenv("VABGROT_LIBRARY", str(name))
-            found.append(call(*words))
-        return found
+    def __init__(self):
+        self.parts = []
 
-    return both
+    def take(self, events):
+        self.parts.append(events)
 
 
-def told(main, *words, source=None):
-    """The status of a tool and what it says."""
-    out, says = io.StringIO(), io.StringIO()
-    with redirect_stdout(out), redirect_stderr(says), pytest.MonkeyPatch.context() as patch:
-        if source:
-            patch.setattr(sys, "stdin", io.TextIOWrapper(open(source, "rb")))
-        try:
-            status = main([*map(str, words)])
-        except SystemExit as why:
-            status = why.code
-    return status, out.getvalue(), says.getvalue()
+def differences(executable, path, is_dvi):
+    """The names of the arrays in which the library's events and those of the listing differ; of columns where the listing says them."""
+    kept = []
+
+    def taking(_):
+        kept[:] = [Keeping()]
+        return kept[0]
+
+    read = reading.read(path, is_dvi, taking)
+    mine = joined([part for part in kept[0].parts if len(part)])
+    text = run(executable, read.command, path.read_bytes())[1]
+    its = listing.parsed(listing.lines(io.BytesIO(text), listing.LINK) if text else [], is_dvi)
+    if len(mine) != len(its):
+        return ["count"]
+    told = its.first != UNTOLD
+    pairs = [(name, getattr(mine, name), getattr(its, name)) for name in ("kind", "epoch", "width", "value", "second", "size")]
+    pairs += [("first", mine.first[told], its.first[told]), ("data", [it.data for it in mine], [it.data for it in its])]
+    return [name for name, one, other in pairs if [*one] != [*other]]
 
 
-def is_told(path):
-    """Whether the listing of the program tells all columns."""
-    it = reading.ByProgram(["recover", "track"], path)
-    return not sum(len(batch.special) for batch in it.batches()) or not it.columns.doubts.begins
-
-
-def without_columns(text):
-    """What a report says for machines, but for columns that are none of faults, and for what is measured over them."""
-    said = json.loads(text or "{}")
-    packets = [{name: it[name] for name in ("name", "says", "blocks")} for it in said.get("packets", ())]
-    faults = [{name: it[name] for name in ("kind", "lane", "column", "line", "numbers")} for it in said.get("faults", ())]
-    measured = ("columns", "timing", "rules", "advice", "pictures")
-    return {name: it for name, it in said.items() if name not in measured} | {"packets": packets, "faults": faults}
-
-
-def test_reports(each, folder, tmp_path, compare):
-    def page(path, *words):
-        page = tmp_path / "page.html"
-        page.unlink(missing_ok=True)
-        return *told(report.main, path, "-o", page, "--json", *words), page.exists() and page.read_bytes()
-
+def test_the_parser_gives_the_events_of_the_library(executable, tmp_path, compare):
     def cases():
-        for path in sorted(folder.iterdir()):
-            came, wanted = each(page, path)
-            if is_told(path):
-                yield path.name, came, wanted
-            else:
-                yield path.name, (came[0], without_columns(came[1])), (wanted[0], without_columns(wanted[1]))
-        yield "of DVI", *each(page, folder / "dvi.tmc", "--dvi")
+        path = tmp_path / "a.tmc"
+        for name, data in (*captures(executable), *further(executable)):
+            path.write_bytes(data)
+            yield name, differences(executable, path, False), []
+        path.write_bytes(run(executable, ["make", "dvi"], DVI)[1])
+        yield "DVI", differences(executable, path, True), []
 
     compare(cases())
 
 
-def test_columns_that_no_line_tells(each, folder):
-    """Behind a burst the program's listing tells no columns for a while, which is said; the library names each."""
-    by_library, by_program = each(lambda: json.loads(told(report.main, folder / "bars-with-a-burst-at-0.tmc", "--json")[1])["packets"])
-    assert not any("about" in it for it in by_library)
-    assert {it["about"] for it in by_program if "about" in it} == {True}
-    for one, other in zip(by_library, by_program, strict=True):
-        assert one == other or other.pop("about")
+def hurt(executable, number):
+    """A capture of the example or of a source that breaks a rule, damaged in a manner of its own."""
+    rng = random.Random(f"verdict {number}")
+    mode, _, frames = BARS.read_text().partition("\n")
+    text = f"{mode}\n" + frames.removesuffix("end\n") * 4 + "end\n"
+    if rng.random() < 0.4:
+        left_out = rng.choice(("audio", "acr"))
+        text = "".join(f"{line}\n" for line in text.splitlines() if not line.startswith(left_out))
+    capture = run(executable, ["make", "content", "--skew", "3,0,17", "--version", "2"], text.encode())[1]
+    bits = len(capture) * 8 // 3 - 400
+    if rng.random() < 0.3:
+        capture = run(executable, ["slip", f"{rng.randrange(3)}:{rng.randrange(bits)}:{rng.randrange(1, 10)}"], capture)[1]
+    hits = [f"{rng.randrange(3)}:{10 * rng.randrange(bits // 10)}:{rng.randrange(1024):03x}" for _ in range(rng.choice((0, 0, 1, 5, 60)))]
+    capture = run(executable, ["damage", *hits], capture)[1] if hits else capture
+    assert len(capture) > 60_000, number
+    return capture[: rng.randrange(20_000, len(capture))] if rng.random() < 0.2 else capture
 
 
-def test_pictures_and_sounds(each, folder, tmp_path, compare):
-    """Pictures with marks where all columns are told."""
-
-    def drawn(path, *words):
-        out = tmp_path / "pictures"
-        said = told(pictures.main, out, "--force", *words, source=path)
-        files = [(it.name, it.read_bytes()) for it in sorted(out.iterdir())] if out.exists() else []
-        for it in out.iterdir() if out.exists() else ():
-            it.unlink()
-        return said, files
-
-    def heard(path):
-        out = tmp_path / "sound.wav"
-        out.unlink(missing_ok=True)
-        return told(sound.main, out, source=path), out.exists() and out.read_bytes()
-
-    def cases():
-        for path in sorted(folder.iterdir()):
-            if path.read_bytes()[:1] == b"T":
-                yield f"pictures of {path.name}", *each(drawn, path, *["--mark"] * is_told(path))
-                yield f"sound of {path.name}", *each(heard, path)
-
-    compare(cases())
+def verdicts_of(path, capsys):
+    """What conform, report and survey say of a capture: word, headline and status."""
+    capsys.readouterr()
+    for tool, words in ((conform, [path, "--json"]), (report, [path, "--json"])):
+        status = tool.main([*map(str, words)])
+        said = json.loads(capsys.readouterr().out)
+        yield said["verdict"]["word"].lower(), said["verdict"]["headline"], status, said["verdict"]
+    row = survey.row_of(str(path), survey.Asked())
+    yield row["verdict"], row["note"], int(row["verdict"] != "clean"), verdict.judge(path).plain()
 
 
-def test_a_capture_and_its_listing_are_one(each, executable, folder, tmp_path):
-    """Pictures and sounds of a capture are those of its link listing, also where it comes through a pipe."""
-    bars = folder / "damaged-bars.tmc"
-    (tmp_path / "link").write_bytes(run(executable, ["recover", "link"], bars.read_bytes())[1])
-    for main, name in ((pictures.main, "out"), (sound.main, "a.wav")):
-        found = []
-        for number, source in enumerate((bars, tmp_path / "link")):
-            place = tmp_path / f"{number}-{name}"
-            found += each(told, main, place, *["--force"] * (name == "out")) if not source else [told(main, place, source=source)]
-            files = sorted(place.iterdir()) if place.is_dir() else [place]
-            found.append([it.read_bytes() for it in files])
-        assert found[:2] == found[2:]
-
-
-def test_surveys(each, folder, tmp_path, compare):
-    def rows(*words):
-        table = tmp_path / "table.csv"
-        said = told(survey.main, folder, "-o", table, "--anew", "--timing", "--slips", *words)
-        with open(table, newline="") as file:
-            return said, {row.pop("path"): row for row in csv.DictReader(file)}
-
-    (came, library), (wanted, program) = each(rows)
-    assert came == wanted and len(library) == len(program) > 40
+@pytest.mark.parametrize("first, count", [(0, 40), pytest.param(40, 160, marks=pytest.mark.slow)])
+def test_no_two_tools_disagree(executable, tmp_path, compare, capsys, first, count):
+    """Over generated captures, damaged, slipped and cut ones too."""
 
     def cases():
-        for path, row in library.items():
-            other = program[path]
-            measured = ("seconds",) if is_told(folder / path) else ("seconds", "format", "timing")
-            yield path, *({name: it for name, it in one.items() if name not in measured} for one in (row, other))
+        path = tmp_path / "a.tmc"
+        for number in range(first, first + count):
+            path.write_bytes(hurt(executable, number))
+            one, other, third = verdicts_of(path, capsys)
+            yield f"capture {number}: report", other, one
+            yield f"capture {number}: survey", third, one
 
     compare(cases())
-
-
-def test_timings(each, folder, compare):
-    def cases():
-        for path in sorted(folder.iterdir()):
-            if is_told(path):
-                yield path.name, *each(told, timing.main, path, "--json")
-
-    compare(cases())
-
-
-def test_the_library_is_asked(each, folder, monkeypatch):
-    """It hears what is a whole capture of HDMI, and the program what is none, and DVI."""
-    asked = []
-    batches = reading.ByProgram.batches
-    monkeypatch.setattr(reading.ByProgram, "batches", lambda self: asked[-1].add(self.path.stem) or batches(self))
-    for name in ("bars", "damaged-bars", "empty", "slipped", "short"):
-        each(lambda path: [asked.append(set()), told(report.main, path, "--json")], folder / f"{name}.tmc")
-    assert asked == [set(), {"bars"}, set(), {"damaged-bars"}, set(), {"empty"}, set(), {"slipped"}, {"short"}, {"short"}]

@@ -2,6 +2,7 @@
 repository of five crates and a kit that is shell scripts."""
 
 import os
+import re
 import shutil
 import signal
 import subprocess
@@ -121,7 +122,7 @@ def test_ended_early(building, tmp_path, end):
     check = int(hanging.read_text())
     assert os.getsid(check) == os.getsid(run.pid) and os.getpgid(check) == check  # niceness counts within a session
     run.send_signal(end)
-    assert run.communicate(timeout=HANGS)[1] == b"" and run.returncode == 1
+    assert run.communicate(timeout=HANGS)[1] == b"" and run.returncode == 130
     status = Path(f"/proc/{check}/stat")
     while status.exists() and status.read_text().rpartition(")")[2].split()[0] != "Z":
         time.sleep(0.01)
@@ -140,9 +141,27 @@ def test_a_kit_with_its_parts_elsewhere(building, tmp_path):
     (tmp_path / "kit/bin/rattle").unlink()
     rt = "#!/bin/sh\n[ $1 = run ] || exec echo {0}/kit/START-HERE.md\nmkdir -p out && echo by rt > out/hdmi_cli\n{1}"
     (tmp_path / "path/rt").write_text(rt.format(tmp_path, "echo 'rt: running out/hdmi_cli' >&2\nexit 2\n"))
-    assert building() == (0, "", []) and (tmp_path / "top/crates/hdmi_cli/out/hdmi_cli").read_text() == "by rt\n"
+    says = "vabgrot: proving and building the program takes ten to twenty minutes on four cores.\n"
+    assert building() == (0, says, []) and (tmp_path / "top/crates/hdmi_cli/out/hdmi_cli").read_text() == "by rt\n"
     (tmp_path / "path/rt").write_text(rt.format(tmp_path, "echo 'logic=not-proved'\nexit 1\n"))
-    assert building() == (1, "logic=not-proved\n", [])
+    assert building() == (1, says + "logic=not-proved\n", [])
+
+
+def test_how_long_it_takes(building, tmp_path):
+    """A long build says at once how long it takes on this machine, and counts; what is left is said again where it goes on."""
+    (tmp_path / "top/crates/right/src/lib.rt").write_text("//! a line\n" * 9000)
+    (tmp_path / "slow").write_text("")
+    replaced = (tmp_path / "top/build.py").read_text().replace("EACH = 60 ", "EACH = 0 ")
+    (tmp_path / "top/build.py").write_text(replaced)
+    (tmp_path / "fails.right").write_text("")
+    says = building()[1].splitlines()
+    takes = r"vabgrot: proving {} crates takes (less than a|about \d+) minutes? on this machine. You can stop it: the next run continues."
+    counts = r"vabgrot: {} of 4 crates proved, (less than a|about \d+) minutes? left"
+    assert re.fullmatch(takes.format(4), says[0]) and re.fullmatch(counts.format(0), says[1])
+    assert any(re.fullmatch(counts.format(1), line) for line in says)
+    (tmp_path / "fails.right").unlink()
+    says = building()[1].splitlines()
+    assert re.fullmatch(takes.format("[23]"), says[0]) and not any("0 of 4" in line for line in says)
 
 
 def test_the_library(building, tmp_path):

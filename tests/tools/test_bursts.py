@@ -1,5 +1,6 @@
 """vabgrot.report.bursts: which faults are one burst, and which stand for themselves."""
 
+import numpy as np
 import pytest
 
 CONTROL, VIDEO, PACKET, OPEN, CLOSE, UNKNOWN = range(6)
@@ -12,7 +13,7 @@ def found():
 
     def of(faults, *periods):
         faults = dict(zip(("kind", "at"), map(list, zip(*faults)), strict=True))
-        periods = dict(zip(("kind", "at", "columns"), map(list, zip(*periods)) if periods else ([], [], []), strict=True))
+        periods = dict(zip(("kind", "at", "columns"), map(np.array, zip(*periods)) if periods else [np.zeros(0, int)] * 3, strict=True))
         return [(burst.at, burst.columns, burst.faults) for burst in bursts.bursts_of(faults, periods)]
 
     return of

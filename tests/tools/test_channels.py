@@ -250,7 +250,7 @@ def test_files_without_speakers(tool, image, tmp_path):
     assert b"audio 5 0 0 0 36 0 0\n" in tool("content", image, "--mode", MODE, *CLOCK, "--sound", tmp_path / "c.wav").stdout
     (tmp_path / "d.wav").write_bytes(wav(frames, 16, 0x5103))
     said = tool("content", image, "--mode", MODE, *CLOCK, "--sound", tmp_path / "d.wav", status=3).stderr
-    assert b"no allocation has the speakers of its channel mask 5103: give --allocation CA" in said
+    assert b"no allocation has the speakers of its channel mask 5103. Give one with --allocation CA" in said
     words = [image, "--mode", MODE, *CLOCK, "--sound", tmp_path / "d.wav", "--allocation"]
     assert b"audio 5 0 0 0 38 0 0\n" in tool("content", *words, 38).stdout
     assert b"allocation 19 has 8: FL FR LFE FC RL RR RLC RRC" in tool("content", *words, 19, status=3).stderr
@@ -260,7 +260,7 @@ def test_reserved_allocations(tool, tmp_path):
     wide = packet_line("021310", "00010000010088", "00010000010088")
     text = LINK_HEAD + AVI_1 + CLOCKS + infoframe(0x84, 1, "0300003200" + "00" * 5) + wide + "e 00\nc 00 12\nend\n"
     said = tool("sound", tmp_path / "a.wav", source=text.encode(), status=3).stderr
-    assert b"the channel allocation 50 of the audio InfoFrame is reserved: give --allocation CA" in said
+    assert b"the channel allocation 50 of the audio InfoFrame is reserved. Give another one with --allocation CA" in said
     tool("sound", tmp_path / "a.wav", "--allocation", 3, source=text.encode())
     assert read_wav(tmp_path / "a.wav")[2:] == (0xF, [(1, 1, 1, 1)])
 
@@ -271,7 +271,7 @@ def test_packets_have_room(tool, image, tmp_path):
     said = tool(
         "content", image, "--mode", "2,4,16,320,1,1,20,1,1", "--clock", 786600, "--sound", tmp_path / "a.wav", status=3
     ).stderr
-    assert b", and 483 are wanted" in said
+    assert b", but needs 483" in said
 
 
 def test_all_allocations_there_and_back(tool, tmp_path):

@@ -81,7 +81,7 @@ def test_names(tool, program, tmp_path):
     path.write_bytes(program("make", "link", source=text(Source(**small, pixel="1d9a44").lines())))
     said = json.loads(tool("characters", path, "--at", 0, "--count", 2000, "--json").stdout)
     columns = {one["column"]: one for one in said["columns"]}
-    first = next(one for one in said["columns"] if one["says"] == "pixel 0 of row 0")
+    first = next(one for one in said["columns"] if one["says"] == "pixel 0 of row 0, 0:0:0 as frame:row:pixel")
     assert [it["name"] for it in first["lanes"]] == [f"byte {byte} at disparity +0" for byte in ("44", "9a", "1d")]
     assert [int(it["hex"], 16) for it in first["lanes"]] == [coded(byte, 0) for byte in (0x44, 0x9A, 0x1D)]
     assert all(f"{int(it['hex'], 16):010b}" == it["bits"] for one in said["columns"] for it in one["lanes"])
@@ -145,3 +145,26 @@ def test_columns_are_those_of_the_listing(tool, program, tmp_path, make):
         said = json.loads(tool("characters", path, "--at", min(columns) - 3, "--count", 40, "--json", status=1).stdout)
         bits = "".join(one["lanes"][1]["bits"][::-1] for one in said["columns"])
         assert f"{0x155:010b}"[::-1] in bits
+
+
+def test_a_place_as_people_say_it(tool, program, tmp_path):
+    """Frame, row and pixel: the column that says so; a place that is not there is refused."""
+    path = tmp_path / "a.tmc"
+    small = {"across": (64, 16, 96, 48), "down": (4, 1, 2, 3), "vic": 0, "fields": 3, "rate": 0}
+    path.write_bytes(program("make", "link", source=text(Source(**small, pixel="1d9a44").lines())))
+    for frame, row, pixel in ((0, 0, 0), (1, 3, 63), (2, 1, 30)):
+        said = json.loads(tool("characters", path, "--at", f"{frame}:{row}:{pixel}", "--count", 1, "--json").stdout)["columns"][0]
+        assert said["says"] == f"pixel {pixel} of row {4 * frame + row}, {frame}:{row}:{pixel} as frame:row:pixel"
+        line = 10 * frame + 5 + row
+        assert said["column"] % (64 + 16 + 96 + 48) == (224 * line + 144 + pixel - aligned(path)) % 224
+    for place in ("3:0:0", "0:4:0", "0:0:64"):
+        assert b"the capture has no such pixel" in tool("characters", path, "--at", place, status=2).stderr
+    for place in ("1:2", "1:2:x", ":1:2"):
+        tool("characters", path, "--at", place, status=2)
+
+
+def aligned(path):
+    """The column of the source with which the first aligned one is."""
+    from vabgrot.lanes.columns import alignment_of
+
+    return alignment_of(path, 0, by_guards=False)[0] // 10

@@ -373,7 +373,7 @@ def test_bad_words(tool, deep):
     ):
         tool("content", deep, "--mode", MODE, *words, status=2)
     said = tool("content", deep, "--mode", MODE, "--encoding", "ycbcr422", "--depth", 48, status=3).stderr
-    assert b"YCbCr 4:2:2 has 24, 30 or 36 bits" in said
+    assert b"YCbCr 4:2:2 cannot have so many bits. Give 24, 30 or 36" in said
 
 
 def test_lines_of_no_whole_number_of_columns(tool, deep):

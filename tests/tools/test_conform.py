@@ -7,13 +7,11 @@ from xml.etree import ElementTree
 
 import pytest
 
+from tests.heard import verdict_of
 from tests.models.source import Source, text
 from tests.models.timed import Sent
 from tests.models.timed import text as raster_text
-from vabgrot import link
 from vabgrot.formats.rules import RULES
-from vabgrot.judging.judge import verdicts
-from vabgrot.judging.record import Gatherer
 from vabgrot.video.matching import Rate
 
 HD = {"across": (1280, 110, 40, 220), "down": (720, 5, 5, 20), "positive": True, "clock": 74_250_000, "vic": 4}
@@ -22,14 +20,16 @@ SMALL = {"across": (64, 16, 96, 48), "down": (16, 2, 2, 6), "vic": 0, "clock": 2
 
 def judged(lines, rate=Rate()):
     """The verdicts on a listing, without the program, by the names of the rules."""
-    gatherer, columns = Gatherer(), link.Columns(is_dvi=False)
-    for number, (name, *parts) in enumerate(lines, 1):
-        gatherer.take(columns.take(number, name, parts))
-    return {one.rule.name: one for one in verdicts(gatherer.finish(), rate)}
+    return {one.rule.name: one for one in verdict_of(lines, rate).rules}
 
 
 def failures(found):
     return {name for name, one in found.items() if one.state == "fail"}
+
+
+def broken(found):
+    """The rules that the source or the link breaks."""
+    return {name for name, one in found.items() if one.state in ("fail", "damaged")}
 
 
 def test_a_conforming_source():
@@ -46,8 +46,8 @@ PLANTED = (  # what is wrong with the source, and the rules that it breaks, with
     ({"across": (640, 18, 96, 46)}, {"format": "H front porch 18, wants 16", "AVI format": "H front porch 18"}),
     ({"positive": True}, {"format": "HSYNC positive, wants negative", "AVI format": "HSYNC positive"}),
     ({"vic": 4}, {"AVI format": "VIC 4 (1280x720p, 60 Hz, 16:9)"}),
-    ({"has_avi": False}, {"AVI InfoFrame": "none in 1 of 1 pair of fields"}),
-    ({"has_audio": False}, {"audio InfoFrame": "none in 1 of 1 pair of fields"}),
+    ({"has_avi": False}, {"AVI InfoFrame": "no AVI InfoFrame came in 1,260,040 columns, the time of 3.0 fields"}),
+    ({"has_audio": False}, {"audio InfoFrame": "no audio InfoFrame came in 1,259,201 columns, the time of 3.0 fields"}),
     ({"n": 5000}, {"sample rate": "N 5,000", "samples a line": "N and CTS say"}),
     ({"n": 1024, "cts": 4196}, {"N": "128 fs / N is 6,000 Hz, wants 300 to 1500 Hz, the recommended N is 6,144"}),
     ({"speed": 1.1}, {"samples a line": "N and CTS say 1.525"}),
@@ -93,7 +93,7 @@ def test_extended_control_period():
 
 
 def test_link_faults_have_their_rules():
-    """Each kind of fault line breaks the rule that it is of."""
+    """Each kind of fault line breaks the rule that it is of: one is the damage of the link, as often as each time it is the source's."""
     kinds = {
         "word 0 3": "control characters",
         "short 20": "control period",
@@ -105,11 +105,11 @@ def test_link_faults_have_their_rules():
     }
     for fault, name in kinds.items():
         lines = [("c", "00", "12"), ("c", "04", "8"), ("!", *fault.split()), ("v", "336699" * 20), ("c", "00", "40")]
-        assert failures(judged(lines)) == {name}
+        assert broken(judged(lines)) == {name}
     packet = ("p", "000000", *["00" * 7] * 4, "0" * 32)
     for fault, name in (("symbols 14 1", "TERC4"), ("mended 14 0 3", "packet parity"), ("lost 14 2", "packet parity")):
         lines = [("c", "00", "4"), ("c", "14", "8"), ("i", "00"), packet, ("!", *fault.split()), ("e", "00"), ("c", "00", "40")]
-        assert failures(judged(lines)) == {name}
+        assert broken(judged(lines)) == {name}
 
 
 def conforming(number):
@@ -159,7 +159,8 @@ def capture(program, tmp_path):
 def test_what_is_written(tool, capture):
     """A line for each rule, with its clause; the status is 0."""
     lines = tool("conform", capture(Source(**SMALL, fields=4))).stdout.decode().splitlines()
-    assert len(lines) == len(RULES) + 1 and lines[-1].endswith(" 0 fail, 9 are not judged")
+    assert lines[0] == "Link clean (22 of 31 rules judged)"
+    assert len(lines) == len(RULES) + 2 and lines[-1].endswith(" 0 fail, 0 damaged by the link, 9 not judged")
     assert "pass        video coding              64 rows  [HDMI 1.4, 5.4.4]" in lines
     assert any(line.startswith("not judged  format ") for line in lines)
 
@@ -175,7 +176,7 @@ def test_json_and_junit(tool, capture, tmp_path):
     cases = {one.get("name"): one for one in ElementTree.parse(tmp_path / "a.xml").iter("testcase")}
     for name, state in states.items():
         kinds = [child.tag for child in cases[name]]
-        assert kinds == {"pass": [], "fail": ["failure"], "not judged": ["skipped"]}[state]
+        assert kinds == {"pass": [], "fail": ["failure"], "damaged": ["failure"], "not judged": ["skipped"]}[state]
     assert cases["AVI InfoFrame"].get("classname") == "HDMI 1.4, 8.2.1"
 
 
@@ -191,7 +192,7 @@ def test_dvi(tool, program, tmp_path):
         states = {one["rule"]: one["verdict"] for one in said["rules"]}
         judged = {"control characters", "control period", "video coding", "format"}
         assert list(states) == list(RULES) and {name for name, state in states.items() if state != "not judged"} == judged
-        assert {name for name, state in states.items() if state == "fail"} == set(wanted)
+        assert {name for name, state in states.items() if state in ("fail", "damaged")} == set(wanted)
     assert "[DVI 1.0, 3.2.2]" in tool("conform", tmp_path / "a.tmc", "--dvi", status=1).stdout.decode()
     assert states["format"] == "pass"
 
@@ -202,5 +203,5 @@ def test_refusals(tool, tmp_path, program):
     tool("conform", tmp_path / "a.tmc", status=3)
     tool("conform", tmp_path / "none.tmc", status=3)
     (tmp_path / "a.tmc").write_bytes(b"TMC1" + (80).to_bytes(4, "big") + bytes(30))
-    assert b"no alignment" in tool("conform", tmp_path / "a.tmc", status=3).stderr
+    assert b"Not aligned" in tool("conform", tmp_path / "a.tmc", status=1).stdout
     tool("conform", tmp_path / "a.tmc", "--clock", "0", status=2)

@@ -98,7 +98,7 @@ def test_fit(tool, image):
     assert came[:2] == ["vic 18", "avi 2 0 1 0 8 2 0 0 2 0 0 18 0 0 0 0 0"]
     assert came[2:-2] == ["row " + "070707" * 720] * 576
     came = tool("content", path, "--vic", 18, status=3)
-    assert b"it has 2 x 1 pixels, and the mode 720 x 576" in came.stderr and came.stdout == b""
+    assert b"it has 2 x 1 pixels, but the mode has 720 x 576" in came.stderr and came.stdout == b""
 
 
 def test_bad_files(tool, image, sound, tmp_path):
@@ -108,7 +108,7 @@ def test_bad_files(tool, image, sound, tmp_path):
     assert b"cannot identify image" in tool("content", tmp_path / "no", status=3).stderr
     assert b"missing.png" in tool("content", tmp_path / "missing.png", status=3).stderr
     assert b"no video identification code has 2 x 1 pixels" in tool("content", path, status=3).stderr
-    assert b"no WAV file" in tool("content", *words, "--sound", tmp_path / "no", status=3).stderr
+    assert b"not a WAV file" in tool("content", *words, "--sound", tmp_path / "no", status=3).stderr
     assert b"its rate is 8000 Hz" in tool("content", *words, "--sound", sound(bytes(4), rate=8000), status=3).stderr
     assert b"it has 9 channels" in tool("content", *words, "--sound", sound(bytes(18), channels=9), status=3).stderr
     whole = image(size=(640, 480), name="whole.png").read_bytes()
@@ -137,8 +137,8 @@ def test_packets_have_room(tool, image, sound, program):
     listing = tool("content", path, *words, "--clock", 860000).stdout  # 24 samples a frame
     assert program("make", "content", source=listing).startswith(b"TMC1")
     came = tool("content", path, *words, "--clock", 825600, status=3)  # 25 samples
-    assert b"room for 9 packets, and 10 are wanted" in came.stderr and came.stdout == b""
-    assert b"room for 0 packets, and 1 are" in tool("content", path, "--mode", "2,1,2,14,1,1,1,1,0", status=3).stderr
+    assert b"room for 9 packets, but needs 10" in came.stderr and came.stdout == b""
+    assert b"room for 0 packets, but needs 1" in tool("content", path, "--mode", "2,1,2,14,1,1,1,1,0", status=3).stderr
 
 
 def test_grey_of_16_bits_is_scaled(tool, tmp_path):
@@ -165,7 +165,7 @@ def test_wav_of_the_extensible_format(tool, image, tmp_path):
     words = [image(), "--mode", MODE, *CLOCK, "--sound", tmp_path / "a.wav"]
     assert lines(tool("content", *words))[4] == "s 123456 800001 0 0 1 0"
     (tmp_path / "a.wav").write_bytes(extensible(data, 2, 48000, 32, kind=3))  # floating point
-    assert b"no WAV file of linear PCM" in tool("content", *words, status=3).stderr
+    assert b"not a WAV file of linear PCM" in tool("content", *words, status=3).stderr
 
 
 def test_as_many_frames_as_a_listing_has_columns_for(tool, image):

@@ -7,8 +7,8 @@ import pytest
 from tests.support import HANGS, TOP, built
 from vabgrot.report import whole
 
-TOOLS = ["characters", "compare", "conform", "content", "errors", "lanes", "page", "pictures", "report", "slice", "sound", "survey"]
-TOOLS += ["timing", "watch"]
+TOOLS = ["characters", "compare", "conform", "content", "errors", "lanes", "packets", "page", "pictures", "report", "slice", "sound"]
+TOOLS += ["stream", "survey", "timing", "watch", "waves"]
 
 
 def commands(text):

@@ -5,7 +5,10 @@ import os
 import re
 import shutil
 import subprocess
+import sys
+import sysconfig
 import tomllib
+from importlib.util import find_spec
 
 import pytest
 
@@ -25,9 +28,9 @@ def front(tmp_path, kit):
     (top / "crates.txt").write_text("hdmi_cli:\n")
     (tmp_path / "program").write_text(PROGRAM)
     (tmp_path / "program").chmod(0o755)
-    for name in ("vabgrot", "build.py", "README.md", "CONTRIBUTING.md", "CHANGELOG.md"):
+    for name in ("vabgrot", "build.py", "setup.py", "pyproject.toml", "README.md", "CONTRIBUTING.md", "CHANGELOG.md"):
         shutil.copy(TOP / name, top)
-    for folder in ("page", "tools", "python", "docs", "examples"):
+    for folder in ("page", "tools", "python", "share", "docs", "examples", "debian"):
         shutil.copytree(TOP / folder, top / folder, ignore=shutil.ignore_patterns("__pycache__"))
 
     def run(*words, has_kit=True, script=top / "vabgrot"):
@@ -40,12 +43,13 @@ def front(tmp_path, kit):
 
 
 def test_no_kit_and_no_build(front, tmp_path):
-    for words in (["check"], ["install"], ["install", "/nowhere"], ["package"]):
+    wanted = (["check"], ["install"], ["install", "/nowhere"], ["package"], ["package", "--wheel"])
+    for words in (*wanted, ["build"], ["build", "program"], ["build", "library"], ["build", "page"]):
         status, out, said = front(*words, has_kit=False)
         assert (status, out) == (127, "") and "the command rt is not on the PATH. Install the Rattle kit" in said
     (tmp_path / "fails.hdmi_cli").write_text("")
     status, out, said = front("check")
-    assert (status, out) == (70, "") and "\nhdmi_cli: not proved\nbuild.py: the crate hdmi_cli is not proved." in said
+    assert (status, out) == (70, "") and "hdmi_cli: not proved\nbuild.py: the crate hdmi_cli is not proved." in said
     assert said.splitlines()[-1].startswith("vabgrot: the build failed. ")
 
 
@@ -57,6 +61,8 @@ def test_built_once_and_run(front):
     assert front("install", "a", "b") == (1, "install a b\n", "")
     assert front("package", "a", "b") == (1, "package a b\n", "")
     assert front("--version", "a") == (1, "--version a\n", "")
+    assert front("build", "a") == (1, "build a\n", "")
+    assert front("build", "program") == (0, "", "")
     for word in ("help", "--help", "-h"):
         status, out, said = front(word)
         assert (status, said) == (0, "") and out.startswith("usage: ./vabgrot")
@@ -111,6 +117,25 @@ def tools():
     return [path.name for path in (TOP / "tools").iterdir() if path.is_file() and os.access(path, os.X_OK)]
 
 
+def test_built_part_by_part(front, tmp_path):
+    """`build` builds the program, the library and the page, or one of them; what fails has the lines of its build."""
+    top = tmp_path / "top"
+    (top / "library").mkdir()
+    (top / "library" / "build").write_text(LIBRARY)
+    (top / "library" / "build").chmod(0o755)
+    (top / "crates" / "vabgrot_c" / "src").mkdir(parents=True)
+    (top / "crates" / "vabgrot_c" / "src" / "lib.rt").write_text("//! a library\n")
+    (top / "crates.txt").write_text("hdmi_cli:\nvabgrot_c staticlib:\n")
+    status, out, said = front("build", "library")
+    assert (status, out) == (0, "") and "built in" in said and (top / "library/out/libvabgrot.so.1").is_file()
+    assert not (top / "crates/hdmi_cli/out/hdmi_cli").exists()
+    assert front("build")[0] == 0 and (top / "crates/hdmi_cli/out/hdmi_cli").is_file()
+    (top / "crates" / "vabgrot_c" / "src" / "lib.rt").write_text("//! another library\n")
+    (tmp_path / "fails.vabgrot_c").write_text("")
+    status, _, said = front("build", "library")
+    assert status == 70 and "vabgrot_c: not proved\n" in said and said.splitlines()[-1].startswith("vabgrot: the build failed. ")
+
+
 def test_installed(front, tmp_path):
     """Below a prefix, or the home folder's .local; each tool runs from there by its name."""
     assert front("install")[0] == 0
@@ -123,6 +148,7 @@ def test_installed(front, tmp_path):
         assert came.returncode == 0 and came.stdout.startswith(f"usage: vabgrot-{name}"), came.stderr
         assert not re.search(r"tools/|\./vabgrot|\b(docs|examples)/(?!\w)", came.stdout)
     names = ("README.md", "CONTRIBUTING.md", "docs/guide/FORMATS.md", "examples/red.vcd")
+    assert {path.name for path in (local / "share/man/man1").iterdir()} >= {"vabgrot.1"}
     for name in ("man/man1/vabgrot.1", *(f"doc/vabgrot/{it}" for it in names)):
         assert (local / "share" / name).is_file()
     for name in ("page/index.html", "page/page.js", "python/vabgrot/report/page/report.js", "python/vabgrot/report/page/report.css"):
@@ -201,7 +227,7 @@ def test_version(front, tmp_path):
     shutil.rmtree(tmp_path / "top")
     for name in ("vabgrot", *(f"vabgrot-{name}" for name in tools())):
         assert front("--version", script=tmp_path / "prefix/bin" / name, has_kit=False) == (0, line, "")
-    assert re.search(r"(?m)^## (\d\S*)$", (TOP / "CHANGELOG.md").read_text())[1] == "1.0.0"
+    assert re.search(r"(?m)^## (\d\S*) \(\d{4}-\d\d-\d\d\)$", (TOP / "CHANGELOG.md").read_text())[1] == "1.0.0"
     assert tomllib.loads((TOP / "pyproject.toml").read_text())["project"]["version"] == "1.0.0"
     assert '.TH VABGROT 1 "" "Vabgrot 1.0.0"' in (TOP / "docs/guide/vabgrot.1").read_text()
 
@@ -220,42 +246,104 @@ def asked_for(page):
     return set(re.findall(r"\bpython3-[\w-]+", (TOP / page).read_text()))
 
 
-@pytest.mark.skipif(shutil.which("dpkg-deb") is None, reason="dpkg-deb of Debian's package dpkg is missing")
+PACKING = all(shutil.which(it) for it in ("dh", "dh_python3", "dpkg-architecture")) and all(map(find_spec, ("build_manpages", "shtab")))
+packs = pytest.mark.skipif(not PACKING, reason="of Debian debhelper, dh-python, python3-argparse-manpage or python3-shtab is missing")
+
+
+def fields_of(package):
+    """The fields of a package's control file."""
+    return dict(line.split(": ", 1) for line in ran(["dpkg-deb", "--field", package]).splitlines() if line[0] != " ")
+
+
+def files_in(top):
+    return {str(path.relative_to(top)).removesuffix(".gz") for path in top.rglob("*") if not path.is_dir()}
+
+
+@packs
+@pytest.mark.slow
 def test_package(front, tmp_path):
-    """A package of what is installed, with what it needs; its folder is made."""
+    """A package of what is installed, with what it needs; its folder is made. Without the C library there is no package of it."""
     status, out, said = front("package", tmp_path / "new" / "folder")
     assert (status, out) == (0, ""), said
     package = tmp_path / "new" / "folder" / f"vabgrot_1.0.0_{ran(['dpkg', '--print-architecture'])[:-1]}.deb"
     assert said.endswith(f"vabgrot: made {package}\n") and [*package.parent.iterdir()] == [package]
-    fields = dict(line.split(": ", 1) for line in ran(["dpkg-deb", "--field", package]).splitlines() if line[0] != " ")
+    fields = fields_of(package)
     assert (fields["Package"], fields["Version"]) == ("vabgrot", "1.0.0")
-    needed = {"python3", "python3-jinja2", "python3-numpy", "python3-pil", "python3-png", "python3-soundfile", "python3-tqdm", "libc6"}
-    assert {part.split()[0] for part in fields["Depends"].split(", ")} == needed
+    needed = {"python3-jinja2", "python3-numpy", "python3-pil", "python3-png", "python3-soundfile", "python3-tqdm"}
+    assert {part.split()[0] for part in fields["Depends"].split(", ")} == needed | {"python3", "python3:any"}
     recommended = {"python3-junitparser", "python3-matplotlib", "python3-numba", "python3-scipy", "python3-skimage"}
-    recommended |= {"python3-prometheus-client", "python3-rich"}
+    recommended |= {"python3-av", "python3-h5py", "python3-prometheus-client", "python3-rich"}
     assert recommended == set(fields["Recommends"].split(", "))
-    assert asked_for("README.md") == needed - {"libc6", "python3"}
+    assert asked_for("README.md") <= needed
     assert asked_for("docs/guide/TOOLS.md") == recommended | {"python3-distributed"}
     ran(["dpkg-deb", "--extract", package, tmp_path / "root"])
     assert front("install", tmp_path / "prefix")[0] == 0
-    names = [
-        {str(path.relative_to(top)).removesuffix(".gz") for path in top.rglob("*") if not path.is_dir()}
-        for top in (tmp_path / "root" / "usr", tmp_path / "prefix")
-    ]
-    assert names[0] == names[1]
-    rights = tuple(f"{it} root/root" for it in ("drwxr-xr-x", "-rwxr-xr-x", "-rw-r--r--", "lrwxrwxrwx"))
+    usr, prefix = files_in(tmp_path / "root" / "usr"), files_in(tmp_path / "prefix")
+    modules = {it.replace("lib/python3/dist-packages", "lib/vabgrot/python") for it in usr if it.endswith(".py")}
+    assert modules == {it for it in prefix if it.endswith(".py")} and len(modules) > 100
+    shared = "bin/", "lib/vabgrot/page/", "lib/vabgrot/v", "share/man/", "share/doc/", "share/bash-completion/"
+    ours = {it for it in usr if it.startswith(shared)} - {"share/doc/vabgrot/changelog", "share/doc/vabgrot/copyright"}
+    assert ours == {it for it in prefix if it.startswith(shared)} and "share/man/man1/vabgrot-report.1" in ours
+    rights = tuple(f"{it} root/root" for it in ("drwxr-xr-x", "-rwxr-xr-x", "-rw-r--r--"))
     assert all(line.startswith(rights) for line in ran(["dpkg-deb", "--contents", package]).splitlines())
-    assert front("--version", script=tmp_path / "root/usr/bin/vabgrot-lanes")[1] == front("--version")[1]
+    assert front("--version", script=tmp_path / "root/usr/bin/vabgrot")[1] == front("--version")[1]
+
+
+@packs
+@pytest.mark.slow
+def test_packages_of_the_library(front, tmp_path):
+    """The C library has a package for programs that use it, and one for who compiles them."""
+    made = tmp_path / "top/library"
+    shutil.copytree(TOP / "library", made)
+    (made / "build").write_text(LIBRARY)
+    (tmp_path / "top/crates/vabgrot_c/src").mkdir(parents=True)
+    (tmp_path / "top/crates.txt").write_text("hdmi_cli:\nvabgrot_c staticlib:\n")
+    status, _, said = front("package", tmp_path / "new")
+    assert status == 0, said
+    packages = {path.name.partition("_")[0]: path for path in (tmp_path / "new").iterdir()}
+    assert set(packages) == {"vabgrot", "libvabgrot1", "libvabgrot-dev"}
+    for name, wanted in (("vabgrot", "libvabgrot1"), ("libvabgrot-dev", "libvabgrot1")):
+        assert f"{wanted} (= 1.0.0)" in fields_of(packages[name])["Depends"]
+    for package in packages.values():
+        ran(["dpkg-deb", "--extract", package, tmp_path / "root"])
+    (folder,) = (tmp_path / "root/usr/lib").glob("*-linux-gnu*")
+    assert {path.name for path in folder.iterdir()} == {"libvabgrot.so.1", "libvabgrot.so", "libvabgrot.a", "pkgconfig"}
+    assert f"libdir=${{prefix}}/lib/{folder.name}\n" in (folder / "pkgconfig/vabgrot.pc").read_text()
+    for name in ("include/vabgrot.h", "share/doc/libvabgrot-dev/examples/c/listing.c", "share/man/man3/vabgrot.3.gz"):
+        assert (tmp_path / "root/usr" / name).is_file()
+
+
+@pytest.mark.skipif(not all(map(find_spec, ("pip", "setuptools", "wheel"))), reason="python3-pip or python3-wheel of Debian is missing")
+def test_wheel(front, tmp_path):
+    """A wheel for this platform has the program in the package, and each command. `pip install .` says in a line what to do before it."""
+    pip = [sys.executable, "-m", "pip", "--disable-pip-version-check", "install", "--no-deps", "--no-index", "--no-build-isolation"]
+    came = subprocess.run([*pip, "--target", tmp_path / "none", tmp_path / "top"], capture_output=True, text=True)
+    assert came.returncode == 1 and "vabgrot: the program is not built. Run ./vabgrot build here first" in came.stdout + came.stderr
+    status, _, said = front("package", "--wheel", tmp_path / "new")
+    assert status == 0, said
+    (wheel,) = (tmp_path / "new").iterdir()
+    assert wheel.name == f"vabgrot-1.0.0-py3-none-{sysconfig.get_platform().replace('-', '_')}.whl"
+    ran([*pip, "--target", tmp_path / "made", wheel])
+    shutil.rmtree(tmp_path / "top")
+    package = tmp_path / "made/vabgrot"
+    assert (package / "prefix/lib/vabgrot/vabgrot").read_text() == PROGRAM
+    env = {"PATH": "/usr/bin:/bin", "PYTHONPATH": str(tmp_path / "made")}
+    for name in ("vabgrot", *(f"vabgrot-{it}" for it in tools())):
+        came = subprocess.run([tmp_path / "made/bin" / name, "--version"], env=env, capture_output=True, text=True)
+        assert (came.stdout, came.stderr) == ("vabgrot 1.0.0, built with a kit\n", "")
+    came = subprocess.run([tmp_path / "made/bin/vabgrot", "check"], env=env, capture_output=True, text=True, stdin=subprocess.DEVNULL)
+    assert (came.returncode, came.stdout) == (1, "check\n")
 
 
 def test_no_package(front, tmp_path):
-    """What is not made leaves nothing behind."""
-    (tmp_path / "file").write_text("")
-    status, _, said = front("package", tmp_path / "file")
-    assert status == 73 and f"vabgrot: cannot make a package in {tmp_path / 'file'}. " in said
-    (tmp_path / "path/dpkg-deb").write_text("#!/bin/sh\nexit 1\n")
-    (tmp_path / "path/dpkg-deb").chmod(0o755)
-    assert front("package", tmp_path / "new")[0] == 73 and not [*(tmp_path / "new").iterdir()]
+    """What is not made leaves nothing behind. Where a Debian package is missing, one line says how all are installed."""
+    if PACKING:
+        (tmp_path / "file").write_text("")
+        status, _, said = front("package", tmp_path / "file")
+        assert status == 73 and f"vabgrot: cannot make a package in {tmp_path / 'file'}. " in said
+    (tmp_path / "path/dh").write_text("#!/bin/sh\nexit 1\n")
+    (tmp_path / "path/dh").chmod(0o755)
+    assert front("package", tmp_path / "new")[0] == 73 and not [*(tmp_path / "new").glob("*")]
 
 
 def ran(words):

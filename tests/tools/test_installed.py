@@ -1,55 +1,98 @@
-"""The program and the tools where they are installed, by `./vabgrot install` and from the Debian package: over real captures,
-from another folder, when the checkout that they are of is gone, and without the kit."""
+"""The program and the tools where they are installed: by `./vabgrot install`, from the Debian packages and from the wheel. They run over
+real captures, in another folder, without the checkout that they are of, and without the kit."""
 
+import functools
 import os
+import shlex
 import shutil
 import subprocess
+import sys
+from pathlib import Path
+from typing import NamedTuple
 
 import pytest
 
 from tests.support import HANGS, TOP, built
-from tests.tools.test_examples import TOOLS, commands
+from tests.tools.test_examples import NEED_LIBRARY, TOOLS, commands
 
-PARTS = ("vabgrot", "build.py", "crates.txt", "README.md", "CONTRIBUTING.md", "CHANGELOG.md", "docs", "examples", "page", "tools", "python")
+PARTS = ("vabgrot", "build.py", "setup.py", "pyproject.toml", "crates.txt", "README.md", "CONTRIBUTING.md", "CHANGELOG.md")
+PARTS += ("debian", "docs", "examples", "page", "tools", "python", "share")
 
 
-def copied(top):
-    """A checkout with the built program in it."""
+def copied(top, library=None):
+    """A checkout with the built program in it, and with the C library of a folder. Its build scripts do nothing."""
     top.mkdir()
     for name in PARTS:
         copy = shutil.copytree if (TOP / name).is_dir() else shutil.copy
         copy(TOP / name, top / name)
     (top / "crates" / "hdmi_cli" / "out").mkdir(parents=True)
     shutil.copy(built(), top / "crates" / "hdmi_cli" / "out" / "hdmi_cli")
+    if library:
+        shutil.copytree(TOP / "library", top / "library", ignore=shutil.ignore_patterns("out"))
+        shutil.copytree(library, top / "library" / "out", symlinks=True)
+        for script in ("build.py", "library/build"):
+            (top / script).write_text("#!/bin/sh\n")
     return top
 
 
-@pytest.fixture(scope="module", params=["install", "package"])
-def prefix(request, tmp_path_factory):
-    """A prefix at which all is installed. The checkout is deleted."""
+class Installed(NamedTuple):
+    """Where everything is installed: the folder of the commands, the prefix of the other files, and where Python finds the package."""
+
+    commands: Path
+    prefix: Path
+    modules: str = ""
+
+
+def made_by(top, words, folder):
+    """What `./vabgrot` makes in a folder."""
+    came = subprocess.run([top / "vabgrot", *words, folder], capture_output=True, text=True, timeout=HANGS)
+    if came.returncode == 73 and "Install what it needs" in came.stderr:
+        pytest.skip(came.stderr.strip())
+    assert came.returncode == 0, came.stderr
+    return [*folder.iterdir()]
+
+
+def venv_of(folder, wheel):
+    """A virtual environment with the wheel in it; what the wheel depends on is the system's."""
+    ran = functools.partial(subprocess.run, check=True, capture_output=True, timeout=HANGS)
+    ran([sys.executable, "-m", "venv", "--system-site-packages", folder])
+    ran([folder / "bin/pip", "--disable-pip-version-check", "install", "--no-index", "--no-deps", wheel])
+    (package,) = folder.glob("lib/python3*/site-packages/vabgrot")
+    return Installed(folder / "bin", package / "prefix")
+
+
+@pytest.fixture(scope="module", params=["install", "package", "wheel"])
+def installed(request, tmp_path_factory):
+    """All of it, installed in one of three ways. The checkout is deleted."""
     if not built().is_file():
         pytest.skip(f"there is no program {built()}: `./vabgrot` builds it, or VABGROT_PROGRAM names one")
     folder = tmp_path_factory.mktemp(request.param)
     top = copied(folder / "top")
-    if request.param == "package" and not shutil.which("dpkg-deb"):
-        pytest.skip("dpkg-deb of Debian's package dpkg is missing")
-    words = [top / "vabgrot", request.param, folder / "made"]
-    came = subprocess.run(words, capture_output=True, text=True, timeout=HANGS)
-    assert came.returncode == 0, came.stderr
+    words = ["package", "--wheel"] if request.param == "wheel" else [request.param]
+    made = made_by(top, words, folder / "made")
     shutil.rmtree(top)
     if request.param == "install":
-        return folder / "made"
-    (package,) = (folder / "made").iterdir()
-    subprocess.run(["dpkg-deb", "--extract", package, folder / "root"], check=True)
-    return folder / "root" / "usr"
+        return Installed(folder / "made/bin", folder / "made")
+    if request.param == "wheel":
+        return venv_of(folder / "venv", made[0])
+    for package in made:
+        subprocess.run(["dpkg-deb", "--extract", package, folder / "root"], check=True)
+    usr = folder / "root/usr"
+    return Installed(usr / "bin", usr, str(usr / "lib/python3/dist-packages"))
 
 
 @pytest.fixture
-def shell(prefix, tmp_path):
+def prefix(installed):
+    """Where the other files are."""
+    return installed.prefix
+
+
+@pytest.fixture
+def shell(installed, tmp_path):
     """Runs a script of bash in a folder of its own, with what is installed on the PATH."""
 
     def run(script, status=0):
-        env = {"PATH": f"{prefix / 'bin'}:/usr/bin:/bin", "HOME": str(tmp_path), "LC_ALL": "C.UTF-8"}
+        env = {"PATH": f"{installed.commands}:/usr/bin:/bin", "HOME": str(tmp_path), "LC_ALL": "C.UTF-8", "PYTHONPATH": installed.modules}
         words = ["bash", "-c", f"set -euo pipefail\n{script}"]
         came = subprocess.run(words, cwd=tmp_path, env=env, capture_output=True, text=True, timeout=HANGS)
         assert came.returncode == status, came.stderr
@@ -59,12 +102,14 @@ def shell(prefix, tmp_path):
 
 
 @pytest.mark.parametrize("name", TOOLS)
-def test_the_examples_of_each_tool(shell, prefix, name):
+def test_the_examples_of_each_tool(shell, prefix, name, request):
     """As its --help prints them."""
     lines = commands(shell(f"vabgrot-{name} --help").stdout)
     assert lines and (name == "page" or f"{prefix}/share/doc/vabgrot/" in "\n".join(lines))
     if name == "page" and not (TOP / "page" / "vabgrot.wasm").is_file():
         pytest.skip("there is no page/vabgrot.wasm: page/build makes it")
+    if name in NEED_LIBRARY:
+        lines.insert(0, f"export VABGROT_LIBRARY={request.getfixturevalue('library')}/libvabgrot.so.1")
     came = shell("\n".join(lines))
     if name == "slice":
         assert came.stdout == (TOP / "examples" / "red.link").read_text()
@@ -99,49 +144,29 @@ def test_the_cores(shell, prefix, tmp_path):
     assert not (cores / "out").exists()
 
 
+def test_wireshark_finds_the_dissector(prefix):
+    """It is in the folder of plugins in Lua."""
+    assert (prefix / "lib/wireshark/plugins/vabgrot.lua").read_bytes() == (TOP / "share/wireshark/vabgrot.lua").read_bytes()
+
+
 def test_the_program_that_is_used(shell, prefix):
-    """It stands beside the tools; the script of the PATH is none of theirs."""
-    assert (prefix / "lib/vabgrot/vabgrot").read_bytes() == built().read_bytes()
+    """It is beside the tools, and they do not use the script of the PATH. In packages it has no symbols."""
+    program = prefix / "lib/vabgrot/vabgrot"
+    assert program.stat().st_size <= built().stat().st_size and os.access(program, os.X_OK)
+    asked = "from vabgrot import place, program; print(program.find() == place.PROGRAM, place.PROGRAM)"
+    python = f"PYTHONPATH=$PYTHONPATH:{prefix / 'lib/vabgrot/python'} python3 -c"
+    assert shell(f"{python} {shlex.quote(asked)}").stdout == f"True {program}\n"
     assert shell("vabgrot help").stdout.startswith("usage: vabgrot COMMAND")
     usage, hint = shell("vabgrot help me", 2).stderr.splitlines()
     assert usage == "usage: make, recover, check, damage or sample" and "`vabgrot help` lists the commands" in hint
     assert shell("vabgrot --version").stdout == shell("vabgrot-survey --version").stdout
 
 
-CLEAN = """set -eu
-export LC_ALL=C.UTF-8 HOME=$(mktemp -d)
-! command -v rt
-cd "$HOME"
-for tool in conform content lanes pictures report slice sound survey timing watch; do
-  mkdir "$HOME/$tool" && cd "$HOME/$tool"
-  vabgrot-$tool --help | sed '1,/^Examples/d; s/--eye eye.png//' > examples && bash -eu -o pipefail examples
-done
-vabgrot --version
-"""
-
-
-@pytest.mark.skipif(
-    "VABGROT_DEBIAN" not in os.environ, reason="VABGROT_DEBIAN names no root that debootstrap made (docs/dev/DEVELOPING.md)"
-)
-def test_in_a_clean_debian(tmp_path):
-    """The package in a Debian with nothing else in it: what it depends on is installed with it, and a user without rights
-    runs each tool's examples there. Eyes need matplotlib, which is recommended alone. Asks for root and for apt's sources."""
-    root = tmp_path / "root"
-    subprocess.run(["cp", "-a", os.environ["VABGROT_DEBIAN"], root], check=True)
-    shutil.copy("/etc/resolv.conf", root / "etc")
-    subprocess.run([copied(tmp_path / "top") / "vabgrot", "package", root / "srv"], check=True)
-    (root / "srv" / "clean").write_text(CLEAN)
-    get = "DEBIAN_FRONTEND=noninteractive apt-get -qq"
-    within = f"{get} update && {get} install -y --no-install-recommends /srv/vabgrot_*.deb"
-    words = f"mount -t proc proc {root}/proc && chroot {root} sh -c '{within}' && chroot --userspec=nobody:nogroup {root} bash /srv/clean"
-    came = subprocess.run(["unshare", "--mount", "sh", "-c", words], capture_output=True, text=True, timeout=HANGS)
-    assert came.returncode == 0, came.stderr
-    assert came.stdout.splitlines()[-1].startswith("vabgrot 1.0.0, built with ")
-
-
 @pytest.mark.skipif(shutil.which("man") is None, reason="man of Debian's package man-db is missing")
 def test_the_man_page(shell, prefix):
-    page = next((prefix / "share/man/man1").iterdir())
+    if not (prefix / "share/man").is_dir():
+        pytest.skip("a wheel has no man pages")
+    page = next((prefix / "share/man/man1").glob("vabgrot.1*"))
     came = shell(f"MANWIDTH=100 man --warnings -l {page}")
     assert "read and make the raw bits of an HDMI or DVI link" in came.stdout and came.stderr == ""
     assert os.access(page, os.R_OK)

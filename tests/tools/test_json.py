@@ -25,31 +25,31 @@ def test_report(tool, captures, tmp_path):
     """The numbers are those of the page's last line; no page is written where none is asked for."""
     came = tool("report", captures / "pixel.tmc", "--json", "-o", tmp_path / "a.html", status=1)
     said = json.loads(came.stdout)
-    assert b"3 frames, 12 packets, 1 faults" in came.stderr and (tmp_path / "a.html").is_file()
+    assert b"Link faulty: 1 code" in came.stderr and (tmp_path / "a.html").is_file()
     assert (len(said["frames"]), len(said["packets"]), len(said["faults"])) == (3, 12, 1)
-    assert said["faulty"] and said["verdict"] == "Faulty" and said["faults"][0]["kind"] == "code"
+    assert said["faulty"] and said["verdict"]["word"] == "Link faulty" and said["faults"][0]["kind"] == "code"
     assert "not at disparity" in said["faults"][0]["characters"]
-    assert {one["verdict"] for one in said["rules"] if one["rule"] == "video coding"} == {"fail"}
+    assert {one["verdict"] for one in said["rules"] if one["rule"] == "video coding"} == {"damaged"}
     assert said["timing"][0]["width"] == 32 and said["samples"] == 10
     came = tool("report", captures / "clean.tmc", "--json")
     assert not json.loads(came.stdout)["faulty"] and not (TOP / "report.html").exists()
 
 
 def test_survey(tool, captures, tmp_path):
-    """The rows are those of the table; formats and slips where they are asked for."""
-    came = tool("survey", captures, "-o", tmp_path / "a.csv", "--json", "--timing", "--slips", status=1)
+    """The rows are those of the table; formats where they are asked for."""
+    came = tool("survey", captures, "-o", tmp_path / "a.csv", "--json", "--timing", status=1)
     rows = json.loads(came.stdout)["captures"]
     with open(tmp_path / "a.csv", newline="") as file:
         table = list(csv.DictReader(file))
     assert [{name: str(value) for name, value in row.items() if name != "seconds"} for row in rows] == [
         {name: value for name, value in row.items() if name != "seconds"} for row in table
     ]
-    assert [row["verdict"] for row in rows] == ["clean", "faulty"] and rows[1]["code"] == 1
+    assert [row["verdict"] for row in rows] == ["clean", "link faulty"] and rows[1]["code"] == 1
     assert all(row["slips"] == 0 and row["format"].startswith("no format of CTA-861") and row["timing"] >= 1 for row in rows)
 
 
 def test_survey_of_dvi(tool, program, tmp_path):
-    """By `recover dvi` alone."""
+    """Without contents."""
     capture = program("make", "dvi", source=b"c 00 30\nv ff0000\nc 00 30\nend\n")
     (tmp_path / "a.tmc").write_bytes(capture)
     came = tool("survey", tmp_path / "a.tmc", "-o", tmp_path / "a.csv", "--json", "--dvi")
@@ -61,7 +61,7 @@ def test_survey_of_slips(tool, program, captures, tmp_path):
     """A lane that lost bits between two frames."""
     sent = (captures / "clean.tmc").read_bytes()
     (tmp_path / "a.tmc").write_bytes(program("slip", "2:26003:3", source=sent))
-    came = tool("survey", tmp_path / "a.tmc", "-o", tmp_path / "a.csv", "--json", "--slips", status=1)
+    came = tool("survey", tmp_path / "a.tmc", "-o", tmp_path / "a.csv", "--json", status=1)
     assert json.loads(came.stdout)["captures"][0]["slips"] == 1
 
 

@@ -77,13 +77,13 @@ def test_empty_lanes(tool, files):
 @pytest.mark.parametrize(
     "source, says",
     [
-        (b"", b"breaks off after 0 bytes"),
-        (b"TMX", b"no capture"),
+        (b"", b"ends after 0 bytes"),
+        (b"TMX", b"not a capture"),
         (b"TMC9" + bytes(4), b"version"),
-        (b"TMC2" + bytes(11), b"breaks off after 15 bytes"),
+        (b"TMC2" + bytes(11), b"ends after 15 bytes"),
         (CAPTURE[:-1], b"109 bytes"),
         (CAPTURE + b"\0", b"111 bytes"),
-        (CAPTURE[:-1] + b"\x75", b"lane 2 has ones behind its last bit"),
+        (CAPTURE[:-1] + b"\x75", b"lane 2 has ones after its last bit"),
     ],
 )
 def test_what_is_no_capture_is_refused(tool, files, source, says):
@@ -95,7 +95,7 @@ def test_what_is_no_capture_is_refused(tool, files, source, says):
 def test_bad_files_and_words(tool, files, tmp_path):
     paths = files(RED)
     assert b"missing" in tool("lanes", "pack", tmp_path / "missing", *paths[1:], status=3).stderr
-    assert b"it has 272 bits, and 273 are wanted" in tool("lanes", "pack", "--bits", 273, *paths, status=3).stderr
+    assert b"it has 272 bits, but --bits asks for 273. Give at most 272" in tool("lanes", "pack", "--bits", 273, *paths, status=3).stderr
     for words in (
         [],
         ["pack"],
@@ -142,7 +142,7 @@ def test_words_have_ten_bits(tool, files, width):
     assert tool("lanes", "pack", "--words", width, *paths).stdout == CAPTURE
     assert tool("lanes", "pack", "--words", width, "--bits", 270, *paths).stdout == CAPTURE
     came = tool("lanes", "pack", "--words", width, "--bits", 271, *paths, status=3)
-    assert b"it has 270 bits, and 271 are wanted" in came.stderr
+    assert b"it has 270 bits, but --bits asks for 271" in came.stderr
     paths = files(words_of(lane, 270, width, msb=True) for lane in RED)
     assert tool("lanes", "pack", "--words", width, "--msb", *paths).stdout == CAPTURE
     for words in (["--words", width], ["--words", width, "--msb"]):
@@ -221,7 +221,7 @@ def test_cut(tool, files, tmp_path, given):
 def test_cut_that_is_refused(tool, tmp_path):
     (tmp_path / "a.tmc").write_bytes(CAPTURE)
     came = tool("lanes", "cut", tmp_path / "a.tmc", "--from", "0,271,0", status=3)
-    assert b"lane 1 has 270 bits, and 271 are to be cut" in came.stderr and came.stdout == b""
+    assert b"lane 1 has 270 bits, so --from cannot cut 271. Cut at most 270" in came.stderr and came.stdout == b""
     tool("lanes", "cut", tmp_path / "missing", "--from", 1, status=3)
     (tmp_path / "b.tmc").write_bytes(CAPTURE[:-1])
     tool("lanes", "cut", tmp_path / "b.tmc", "--from", 1, status=3)
@@ -344,11 +344,15 @@ def test_look_says_which_lane_does_not_lock(tool, files, tmp_path):
     (tmp_path / "a.tmc").write_bytes(tool("lanes", "pack", *files([RED[0], noise, RED[2]])).stdout)
     told = tool("lanes", "look", tmp_path / "a.tmc", status=1).stdout.decode().splitlines()
     assert told[0].startswith("lane 0: 272 bits, locks as it is at place 0; of 1 control periods 1 in 2cc")
-    assert told[1] == "lane 1: 40000 bits, no twelve control characters in a row in any bit order"
+    assert told[1].startswith("lane 1: 40000 bits, no twelve control characters in a row in any bit order: noise or another code: ")
     assert told[3] == "no alignment: not all lanes lock"
     (tmp_path / "a.tmc").write_bytes(tool("lanes", "pack", *files([b"", b"", b""])).stdout)
     assert tool("lanes", "look", tmp_path / "a.tmc", status=1).stdout.count(b"no twelve control") == 3
     late = [RED[0], bytes.fromhex(CONTROL * 4) + RED[1], RED[2]]
+    (tmp_path / "a.tmc").write_bytes(tool("lanes", "pack", *files(late)).stdout)
+    told = tool("lanes", "look", tmp_path / "a.tmc", status=1).stdout
+    assert b"at the skew 160,0,160 1 opening fits, but lanes more than 70 bits apart" in told
+    late[1] = bytes.fromhex(CONTROL * 4) + RED[0]
     (tmp_path / "a.tmc").write_bytes(tool("lanes", "pack", *files(late)).stdout)
     assert b"end within 70 bits" in tool("lanes", "look", tmp_path / "a.tmc", status=1).stdout
     tool("lanes", "look", tmp_path / "missing", status=3)

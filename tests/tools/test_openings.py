@@ -44,16 +44,6 @@ def packed(tool, lanes, paths):
 
 
 @pytest.fixture
-def old(executable, tmp_path, monkeypatch):
-    """Has the tools run a program without `recover relock`, and no library."""
-    path = tmp_path / "old"
-    path.write_text(f'#!/bin/sh\n[ "$2" = relock ] && exit 2\nexec {executable} "$@"\n')
-    path.chmod(0o755)
-    monkeypatch.setenv("VABGROT_PROGRAM", str(path))
-    monkeypatch.setenv("VABGROT_LIBRARY", str(tmp_path / "none"))
-
-
-@pytest.fixture
 def advice(tool, tmp_path):
     """What the report of a capture advises, and the verdict."""
 
@@ -80,26 +70,22 @@ def cut(tool, capture, line, folder):
 @pytest.mark.parametrize("skew", [(0, 0, 0), (0, 70, 35), (20, 0, 11)])
 @pytest.mark.parametrize("lane", [0, 1, 2])
 @pytest.mark.parametrize("back", [1, 7])
-def test_a_damaged_control_character_before_the_first_edge(tool, program, sent, advice, old, tmp_path, skew, lane, back):
-    """What is advised where the program has no `recover relock`; test_relocked.py has what is read where it has."""
+def test_a_damaged_control_character_before_the_first_edge(tool, program, sent, advice, tmp_path, skew, lane, back):
+    """The report reads the capture anew, so it advises nothing, and has all rows but the first."""
     capture = sent("--offset", 7, "--skew", ",".join(map(str, skew)))
     hurt = program("damage", f"{lane}:{place(0, -back) - 7 - skew[lane]}:300", source=capture)
     early = [one + 10 * back * (number == lane) for number, one in enumerate(skew)]
     if max(early) - min(early) > 70:  # the edge before the damage is of no alignment: the first is at the next row
         assert advice(hurt, status=0) == ([], "Clean")
         return
-    lines, verdict = advice(hurt)
-    assert verdict == "Faulty" and len(lines) == 1 and "first alignment was likely wrong" in lines[0]
-    found, right = (",".join(str(one - min(skews)) for one in skews) for skews in (early, skew))
-    assert f"that was found ({found}) " in lines[0] and f"at {right} {LINES - 1} have" in lines[0]
-    whole = cut(tool, hurt, lines[0], tmp_path)
-    assert program("recover", "link", source=whole).count(b"\nv ") == LINES - 1
-    assert advice(whole, status=0) == ([], "Clean")
+    assert advice(hurt) == ([], "Link faulty")
+    said = json.loads(tool("report", tmp_path / "a.tmc", "--json", status=1).stdout)
+    assert said["relocked"] and said["rows"] == LINES - 1
 
 
 def test_lanes_that_are_too_far_apart(tool, program, sent, advice, tmp_path):
     lines, verdict = advice(sent("--skew", "0,300,35"))
-    assert verdict == "No alignment" and len(lines) == 1
+    assert verdict == "Not aligned" and len(lines) == 1
     assert f"At the skew 0,300,35 {LINES} openings" in lines[0]
     assert program("recover", "link", source=cut(tool, (tmp_path / "a.tmc").read_bytes(), lines[0], tmp_path)).count(b"\nv ") == LINES
 
@@ -116,7 +102,7 @@ def test_an_alignment_behind_what_is_looked_at(tool, sent, advice, tmp_path):
     lanes, paths = bits_of(tool, sent(kind="dvi"), tmp_path)
     late = packed(tool, ["0" * (1 << 24) + lane for lane in lanes], paths)
     lines, verdict = advice(late)
-    assert verdict == "Faulty" and len(lines) > 4 and not any("--dvi" in line for line in lines)
+    assert verdict == "Link faulty" and len(lines) > 4 and not any("--dvi" in line for line in lines)
 
 
 def test_what_openings_are(sent, tmp_path):
@@ -148,14 +134,10 @@ def off(tool, program, sent, tmp_path):
     return (lost, "0,10,0"), (again, "10,0,10"), (parts, "0,10,0")
 
 
-def test_whole_characters_that_are_lost_or_repeated_are_no_slip(tool, program, sent, off, advice, old, tmp_path):
-    """Ten bits at once, or in parts within a row. The report sees them by the openings behind; the program here has no `recover relock`."""
-    for hurt, skew in off:
+def test_whole_characters_that_are_lost_or_repeated_are_no_slip(program, sent, off):
+    """Ten bits at once, or in parts within a row; test_they_are_read_anew has what the report makes of them."""
+    for hurt, _ in off:
         assert slips(program("recover", "track", source=hurt, status=1)) == []
-        lines, verdict = advice(hurt)
-        assert verdict == "Faulty" and len(lines) == 1
-        assert f"openings fit at the skew 0,0,0 before, and at {skew} behind" in lines[0]
-        assert advice(cut(tool, hurt, lines[0], tmp_path), status=0) == ([], "Clean")
     rows = program("slip", f"1:{place(6, 9)}:7", source=program("slip", f"1:{place(5, 9)}:3", source=sent()))
     assert len(slips(program("recover", "track", source=rows, status=1))) == 2
 
@@ -163,11 +145,11 @@ def test_whole_characters_that_are_lost_or_repeated_are_no_slip(tool, program, s
 def test_they_are_read_anew(tool, off, advice, tmp_path):
     """What the report shows is what `recover relock` writes, by its model."""
     for hurt, _ in off:
-        assert advice(hurt) == ([], "Faulty")
+        assert advice(hurt) == ([], "Link faulty")
         said = json.loads(tool("report", tmp_path / "a.tmc", "--json", status=1).stdout)
         _, listing = relocking.relocked(model.lanes_in(hurt), hearing.link_of)
         assert said["relocked"] and said["rows"] == listing.count(b"\nv ") and LINES - 1 <= said["rows"]
-        assert said["says"].startswith("Read anew: an alignment was wrong") and "1 alignment let go" in said["says"]
+        assert said["says"].startswith("Link faulty: relock: at bit ") and "1 alignment let go" in said["slips"]
 
 
 @pytest.mark.parametrize("slips_of_it", [(5,), (3, 7)])
@@ -177,7 +159,7 @@ def test_lanes_that_go_too_far_apart(tool, program, sent, advice, tmp_path, slip
     for bits in slips_of_it:
         hurt = program("slip", f"1:{place(5, 9)}:{bits}", source=hurt)
     lines, verdict = advice(hurt)
-    assert verdict == "Faulty" and len(lines) == 1
+    assert verdict == "Link faulty" and len(lines) == 1
     far, begin = f"the skew 0,{70 + lost},0", f"rom the place {place(6, 0):,} of lane 0 on openings fit at "
     told = f"{begin}{far}, but lanes more than 70 bits apart are not aligned"
     looked = tool("lanes", "look", tmp_path / "a.tmc").stdout.decode()

@@ -16,6 +16,10 @@ PACKETS = {
     "hdmi:HDMI_VIC=2": ("810105", "03 0c 00 20 02"),
     "3d:3D_Structure=8,3D_Ext_Data=1": ("810106", "03 0c 00 40 80 10"),
     "forum:ALLM_Mode=1": ("810107", "d8 5d c4 01 02"),
+    "dolby:Low_Latency=1,Dolby_Vision_Signal=1": ("81011b", "46 d0 00 03"),
+    "hdr10+:Application_Version=1,Targeted_System_Display_Maximum_Luminance=16,Average_Maxrgb=9": ("81011b", "8b 84 90 60 09"),
+    "refresh:VRR_EN=1,Base_Vfront=4,Base_Refresh_Rate=300": ("7fc000", "c2 00 01 0001 0004 01 04 01 2c"),
+    "extended:First=1,New=1,DS_Type=1,Organization_ID=2,Data_Set_Tag=4,Data_Set_Length=60": ("7f8000", "90 00 02 0004 003c"),
     "mpeg:MB=305419896,MF=1,FR=1": ("85010a", "78 56 34 12 11"),
     "dynamic:EOTF=2,x0=30000,y2=7500,white_x=15635,max=1000,min=50,MaxCLL=1000,MaxFALL=400": (
         "87011a",
@@ -73,16 +77,16 @@ def test_no_room(tool, image):
     """A line of 86 columns has room for one packet before its row, and for two where it has none."""
     words = ["--packet", "mpeg:MB=1"] * 20
     said = tool("content", image, "--mode", "2,4,16,64,1,1,2,1,1", *words, status=3).stderr
-    assert b"a frame of the mode has room for 9 packets, and 21 are wanted" in said
+    assert b"a frame of the mode has room for 9 packets, but needs 21" in said
 
 
 @pytest.mark.parametrize(
     "word, says",
     [
-        ("no:A=1", b"there is no packet `no`; there are avi, avi3"),
-        ("avi:VIC=128", b"avi: VIC is 0 to 127, and 128 is none of these"),
-        ("hdmi:HDMI=1", b"hdmi has no field HDMI; it has HDMI_Video_Format, HDMI_VIC"),
-        ("acp:ACP_Type", b"acp: `ACP_Type` is no FIELD=NUMBER"),
+        ("no:A=1", b"there is no packet `no`. Choose one of: avi, avi3"),
+        ("avi:VIC=128", b"avi: the field VIC cannot be 128. Give a number from 0 to 127"),
+        ("hdmi:HDMI=1", b"hdmi has no field HDMI. Choose one of: HDMI_Video_Format, HDMI_VIC"),
+        ("acp:ACP_Type", b"acp: `ACP_Type` is not FIELD=NUMBER"),
     ],
 )
 def test_wrong_packets(tool, image, word, says):

@@ -2,11 +2,9 @@
 
 import http.client
 import io
-import os
 import random
 import shutil
 import subprocess
-import sys
 
 import numpy as np
 import pytest
@@ -58,7 +56,7 @@ def frames_of(rng, count):
     """A content listing of some frames of noise, each with an AVI InfoFrame, a clock packet, an audio InfoFrame and samples."""
     listing = [f"mode {MODE}"]
     for number in range(count):
-        listing += ["avi 0 0 1 0 8 0 0 0 2 0 0 0 0 0 0 0 0", "acr 6144 3600", "audio 1 0 0 0 0 0 0"]
+        listing += ["avi 0 0 1 0 8 0 0 0 2 0 0 0 0 0 0 0 0", "acr 6144 21600", "audio 1 0 0 0 0 0 0"]
         listing += [f"s {rng.randrange(1 << 24):06x} {rng.randrange(1 << 24):06x} 0 0 {int(it == number == 0)} 0" for it in range(8)]
         listing += [f"row {rng.randbytes(3 * WIDTH).hex()}" for _ in range(HEIGHT)] + [f"frame {WIDTH} {HEIGHT}"]
     return "\n".join([*listing, "end", ""]).encode()
@@ -82,9 +80,10 @@ def hits():
 
 
 def data_of(page):
-    """What a page has of a capture: all but the characters at faults, the sound and the files of pictures."""
+    """What a page has of a capture: all but the characters at faults, the sound, the files of pictures, and the doubtful columns, which
+    only the page that reads by itself has."""
     return page.run(
-        "const {thumbs, sound, rest, name, faults: {characters, ...faults}, frames, ...others} = data;"
+        "const {thumbs, sound, rest, name, doubts, faults: {characters, ...faults}, frames, ...others} = data;"
         "return {...others, faults, frames: frames.map(({picture, kind, ...one}) => one)}"
     )
 
@@ -130,13 +129,6 @@ def test_a_damaged_capture(driver, served, report, program, sent, tmp_path):
     page.check()
 
 
-def has_library():
-    """Whether a tool's process finds the C library: this process may hold one that another test made."""
-    words = [sys.executable, "-c", "from vabgrot import reading; print(reading.has_library())"]
-    env = {**os.environ, "PYTHONPATH": str(TOP / "python")}
-    return subprocess.run(words, env=env, capture_output=True, text=True, timeout=HANGS, check=True).stdout == "True\n"
-
-
 def test_noise(driver, served, report, program, sent, tmp_path):
     """Columns that open nothing, in bursts: the listing, and what the report has where the library, which knows all columns, made it."""
     made = program("make", "content", source=sent)
@@ -145,12 +137,12 @@ def test_noise(driver, served, report, program, sent, tmp_path):
     made = program("damage", *many, source=made)
     wanted = program("recover", "link", source=made, status=1)
     shown = report(made, 1)
-    kept, names = data_of(shown), () if has_library() else ("lines", "words")
+    kept = data_of(shown)
     page = pages.Reader(driver, served)
     page.read(tmp_path / "a.tmc")
     assert page.saved(tmp_path) == wanted and page.count("faults") == wanted.count(b"\n! ")
     came = data_of(page)
-    assert {name for name in names or kept if came[name] != kept[name]} == set() and came["bursts"]
+    assert {name for name in kept if came[name] != kept[name]} == set() and came["bursts"]
     page.check()
 
 

@@ -71,7 +71,7 @@ def test_frames_of_an_earlier_run(tool, tmp_path):
     (tmp_path / "frames.png").write_bytes(b"kept")
     tool("pictures", tmp_path, source=TWO)
     one = TWO[: TWO.index(b"row 1111")] + b"end\n"
-    assert b"frame0000.png is there already" in tool("pictures", tmp_path, source=one, status=3).stderr
+    assert b"it already contains frame0000.png" in tool("pictures", tmp_path, source=one, status=3).stderr
     assert (tmp_path / "frame0001.png").exists()
     tool("pictures", tmp_path, "--force", source=one)
     assert sorted(path.name for path in tmp_path.iterdir()) == ["frame0000.png", "frames.png"]
@@ -143,21 +143,21 @@ def test_a_slip_leaves_its_frame_out(tool, tmp_path):
     "text, says",
     [
         (b"", b"the input is empty"),
-        (TWO[:-4], b"breaks off after 7 lines"),
-        (TWO + b"x", b"line 9: something follows the line `end`"),
-        (TWO[:60], b"line 3: the listing breaks off in it"),
-        (b"c 00 12\nrow 010203\nend\n", b"line 2: `row 010203` begins no line of a link listing"),
-        (b"! code 0 9\nrow 010203\nc 00 12\nend\n", b"line 3: `c 00 12` begins no line of a content listing"),
-        (b"x\nend\n", b"line 1: `x` begins no line of a listing"),
-        (b"c 0x 12\nend\n", b"line 1: `0x` is no hexadecimal number"),
-        (b"c 00 12\n! code\nend\n", b"line 2: a fault without its place"),
-        (b"row 01020\nend\n", b"line 1: `01020` is no row of 6 hexadecimal digits each"),
-        (b"row 0102030405\nend\n", b"line 1: `0102030405` is no row"),
+        (TWO[:-4], b"ends after 7 lines"),
+        (TWO + b"x", b"line 9: it comes after the line `end`"),
+        (TWO[:60], b"line 3: the listing ends within this line"),
+        (b"c 00 12\nrow 010203\nend\n", b"line 2: `row 010203` does not begin a line of a link listing"),
+        (b"! code 0 9\nrow 010203\nc 00 12\nend\n", b"line 3: `c 00 12` does not begin a line of a content listing"),
+        (b"x\nend\n", b"line 1: `x` does not begin a line of a listing"),
+        (b"c 0x 12\nend\n", b"line 1: `0x` is not a hexadecimal number"),
+        (b"c 00 12\n! code\nend\n", b"line 2: a fault line has no place"),
+        (b"row 01020\nend\n", b"line 1: `01020` is not a row of 6 hexadecimal digits each"),
+        (b"row 0102030405\nend\n", b"line 1: `0102030405` is not a row"),
         (b"row x\nend\n", b"line 1"),
         (b"row\nend\n", b"line 1"),
         (b"!\nend\n", b"line 1"),
-        (b"row 010203\nframe 1\nend\n", b"line 2: it has 1 fields, and 2 are wanted"),
-        (b"row 010203\nframe 1 x\nend\n", b"line 2: `x` is no decimal number"),
+        (b"row 010203\nframe 1\nend\n", b"line 2: it has 1 fields instead of 2"),
+        (b"row 010203\nframe 1 x\nend\n", b"line 2: `x` is not a decimal number"),
         (b"row 010203\nframe 2 1\nend\n", b"line 2: the rows before it are no frame of 2 x 1 pixels"),
         (b"frame 2 1\nend\n", b"line 1: the rows before it"),
         (b"\xff\xfe\n", b"line 1"),
@@ -189,7 +189,7 @@ def test_a_capture_has_the_frames_of_its_listing(tool, program, tmp_path):
     came = [tool("pictures", tmp_path / name, "--mark", source=it, status=1).stderr for name, it in (("capture", capture), ("link", link))]
     assert came[0] == came[1] and came[0].endswith(b"\n1 frames, 1 faults in them, 0 others\n")
     assert (tmp_path / "capture" / "frame0000.png").read_bytes() == (tmp_path / "link" / "frame0000.png").read_bytes()
-    assert b"no whole capture" in tool("pictures", tmp_path / "none", source=capture[:-1], status=3).stderr
+    assert b"not a whole capture" in tool("pictures", tmp_path / "none", source=capture[:-1], status=3).stderr
 
 
 @pytest.mark.parametrize("line", [b"! slip 1 900\n", b"! relock 900\n"])

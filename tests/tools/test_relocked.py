@@ -10,9 +10,10 @@ import pytest
 from tests.models import model
 
 pytest.importorskip("numpy", reason="Debian's package python3-numpy is missing")
+from vabgrot import reading  # noqa: E402
 
 ROWS, ACROSS, FIRST = 12, 80, 48  # rows, columns of each line, and the column of the first guard
-ANEW = b"read anew: an alignment was wrong"
+ANEW = b"read anew by guard bands"
 
 
 @pytest.fixture
@@ -29,19 +30,13 @@ def astray(program, sent):
 
 
 @pytest.fixture
-def chosen(executable, tmp_path, monkeypatch):
-    """The command by which a capture is read, by the library where it is there, and by the program alone."""
-    from vabgrot import reading
+def chosen(tool, tmp_path):
+    """The grammar by which a capture is read."""
 
     def read(capture):
         path = tmp_path / "chosen.tmc"
         path.write_bytes(capture)
-        found = [reading.words_for(path, is_dvi=False)[1]]
-        with monkeypatch.context() as now:
-            now.setenv("VABGROT_LIBRARY", str(tmp_path / "none"))
-            found.append(reading.words_for(path, is_dvi=False)[1])
-        assert found[0] == found[1]
-        return found[0]
+        return reading.read(path).grammar
 
     return read
 
@@ -60,16 +55,6 @@ def test_when_a_capture_is_read_anew(program, sent, astray, chosen):
     assert chosen(sent("--skew", "0,300,35")) == "track"  # nothing aligns, and nothing helps
     guard = program("damage", f"1:{10 * FIRST}:300", source=sent())
     assert chosen(guard) == "track"  # the alignment is right, and lists the line that `recover relock` passes over
-    assert chosen(b"TMC1") == "track" and chosen(b"no capture") == "track"
-
-
-def test_a_program_without_the_command(executable, astray, chosen, tmp_path, monkeypatch):
-    old = tmp_path / "old"
-    old.write_text(f'#!/bin/sh\n[ "$2" = relock ] && exit 2\nexec {executable} "$@"\n')
-    old.chmod(0o755)
-    monkeypatch.setenv("VABGROT_PROGRAM", str(old))
-    monkeypatch.setenv("VABGROT_LIBRARY", str(tmp_path / "none"))
-    assert chosen(astray(4)) == "track"
 
 
 @pytest.mark.parametrize("back", [1, 4, 7])
@@ -78,19 +63,19 @@ def test_the_report_of_a_wrong_first_alignment(tool, astray, tmp_path, back):
     (tmp_path / "a.tmc").write_bytes(astray(back))
     came = tool("report", tmp_path / "a.tmc", "-o", tmp_path / "a.html", "--json", status=1)
     said = json.loads(came.stdout)
-    assert said["relocked"] and said["faulty"] and said["verdict"] == "Faulty" and said["advice"] == []
+    assert said["relocked"] and said["faulty"] and said["verdict"]["word"] == "Link faulty" and said["advice"] == []
     assert (said["rows"], said["faults"]) == (ROWS - 1, [])
-    assert said["says"].startswith("Read anew: an alignment was wrong") and said["says"].endswith("no fault was found.")
+    assert said["says"].startswith("Link faulty: read anew by guard bands")
     assert ANEW in came.stderr
     page = (tmp_path / "a.html").read_text()
-    assert "Read anew: an alignment was wrong" in page and "recover relock" in page and 'id="advice"' not in page
+    assert "read anew by guard bands" in page and "recover relock" in page and 'id="advice"' not in page
 
 
 def test_the_report_where_nothing_helps(tool, sent, tmp_path):
     pytest.importorskip("jinja2", reason="Debian's package python3-jinja2 is missing")
     (tmp_path / "a.tmc").write_bytes(sent("--skew", "0,300,35"))
     said = json.loads(tool("report", tmp_path / "a.tmc", "--json", status=1).stdout)
-    assert not said["relocked"] and said["verdict"] == "No alignment"
+    assert not said["relocked"] and said["verdict"]["word"] == "Not aligned"
     assert len(said["advice"]) == 1 and f"At the skew 0,300,35 {ROWS} openings" in said["advice"][0]
 
 
@@ -119,12 +104,12 @@ def test_random_bit_errors(tool, program, sent, chosen, tmp_path):
 def test_pictures_sound_and_timing(tool, program, tmp_path):
     """Frames and samples of a capture that begins within an island, and of which the fourth control character before the first edge is
     damaged."""
-    from vabgrot.lanes.columns import Columns
+    from vabgrot.lanes.columns import alignment_of
 
     words = ["--mode", "32,8,16,64,24,2,2,2,1", "--sound", "tone:1000"]
     capture = program("make", "content", "--offset", 300, source=tool("content", "pattern:moving*4", *words).stdout)
     (tmp_path / "a.tmc").write_bytes(capture)
-    hurt = program("damage", f"1:{Columns(tmp_path / 'a.tmc').starts[1] + 80}:300", source=capture)
+    hurt = program("damage", f"1:{alignment_of(tmp_path / 'a.tmc', 0, False)[1] + 80}:300", source=capture)
     assert ANEW not in tool("pictures", tmp_path / "whole", source=capture).stderr
     assert ANEW in tool("pictures", tmp_path / "anew", source=hurt).stderr
     whole, anew = ([path.read_bytes() for path in sorted((tmp_path / name).iterdir())] for name in ("whole", "anew"))
@@ -135,19 +120,17 @@ def test_pictures_sound_and_timing(tool, program, tmp_path):
     came = tool("sound", tmp_path / "a.wav", "--rate", 48000, source=hurt)
     assert ANEW in came.stderr and b"no faults" in came.stderr
     (tmp_path / "a.tmc").write_bytes(hurt)
-    assert ANEW in tool("timing", tmp_path / "a.tmc", status=1).stderr
+    assert ANEW in tool("timing", tmp_path / "a.tmc", status=1).stdout
 
 
-@pytest.mark.parametrize("by_program", [False, True])
-def test_the_row_of_a_survey(tool, executable, sent, astray, tmp_path, by_program):
+def test_the_row_of_a_survey(tool, sent, astray, tmp_path):
     (tmp_path / "astray.tmc").write_bytes(astray(4))
     (tmp_path / "right.tmc").write_bytes(sent())
     (tmp_path / "apart.tmc").write_bytes(sent("--skew", "0,300,35"))
-    words = ["--program", executable] if by_program else []
-    tool("survey", tmp_path, "-o", tmp_path / "s.csv", "--slips", *words, status=1)
+    tool("survey", tmp_path, "-o", tmp_path / "s.csv", status=1)
     rows = {row["path"].rsplit("/", 1)[1]: row for row in csv.DictReader(io.StringIO((tmp_path / "s.csv").read_text()))}
     astray_row = rows["astray.tmc"]
-    wanted = {"verdict": "faulty", "note": ANEW.decode(), "lines": str(ROWS - 1), "faults": "0", "noise": "0", "word": "0", "relocked": "1"}
-    assert {name: astray_row[name] for name in wanted} == wanted
-    assert (rows["right.tmc"]["verdict"], rows["right.tmc"]["relocked"]) == ("clean", "0")
-    assert (rows["apart.tmc"]["verdict"], rows["apart.tmc"]["relocked"]) == ("unaligned", "0")
+    wanted = {"verdict": "link faulty", "lines": str(ROWS - 1), "faults": "0", "noise": "0", "word": "0", "relocked": "1"}
+    assert {name: astray_row[name] for name in wanted} == wanted and ANEW.decode() in astray_row["note"]
+    assert (rows["right.tmc"]["verdict"], rows["right.tmc"]["relocked"]) == ("source wrong", "0")  # its rows have no sync
+    assert (rows["apart.tmc"]["verdict"], rows["apart.tmc"]["relocked"]) == ("not aligned", "0")

@@ -8,7 +8,7 @@ import subprocess
 import pytest
 from PIL import Image
 
-from tests.support import HANGS, TOP, built
+from tests.support import HANGS, TOP
 from vabgrot import replacing
 
 MODE = "64,8,16,64,48,2,2,2,1"
@@ -44,14 +44,14 @@ def noise(tool, tmp_path):
 def test_page_and_table(limited, program, noise, tmp_path, is_there):
     (tmp_path / "a.tmc").write_bytes(program("make", "content", source=noise))
     limited(4096, "a.html", "report", "a.tmc", "-o", "a.html", is_there=is_there)
-    limited(100, "a.csv", "survey", "a.tmc", "--program", built(), "-o", "a.csv", "--anew", is_there=is_there)
+    limited(100, "a.csv", "survey", "a.tmc", "-o", "a.csv", "--anew", is_there=is_there)
 
 
 def test_the_table_as_a_page(limited, tool, program, tmp_path):
     """The table is kept where the page that goes beside it cannot be written."""
     (tmp_path / "red.tmc").write_bytes(program("make", "link", source=(TOP / "examples" / "red.link").read_bytes()))
-    tool("survey", tmp_path / "red.tmc", "--program", built(), "-o", tmp_path / "a.csv")
-    limited((tmp_path / "a.csv").stat().st_size, "a.html", "survey", "red.tmc", "--program", built(), "-o", "a.csv")
+    tool("survey", tmp_path / "red.tmc", "-o", tmp_path / "a.csv")
+    limited((tmp_path / "a.csv").stat().st_size, "a.html", "survey", "red.tmc", "-o", "a.csv")
 
 
 def test_rows_of_the_table(limited, tool, program, tmp_path):
@@ -60,7 +60,7 @@ def test_rows_of_the_table(limited, tool, program, tmp_path):
     (tmp_path / "captures").mkdir()
     for number in range(4):
         (tmp_path / "captures" / f"{number}.tmc").write_bytes(red)
-    words = [tmp_path / "captures", "--program", built(), "-o", tmp_path / "a.csv"]
+    words = [tmp_path / "captures", "-o", tmp_path / "a.csv"]
     tool("survey", tmp_path / "captures" / "0.tmc", *words[1:])
     before = (tmp_path / "a.csv").read_bytes()
     row = len(before.splitlines(True)[1])

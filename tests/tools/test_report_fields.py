@@ -46,7 +46,7 @@ def said(page):
 def test_fields_are_woven(report, program, tool, tmp_path):
     """Before the first change of VSYNC stands an upper field that is not whole; then come a lower one alone and two frames."""
     capture = program("make", "link", source=fields(6))
-    page = report(capture)
+    page = report(capture, 1)
     assert page.run("return viewer.pictures.map((one) => one.name)") == ["Part of a frame", "Frame 0, one field", "Frame 1", "Frame 2"]
     assert [one.tobytes() for one in page.frames()] == [frame(1, 2), frame(0), frame(0)]
     tool("pictures", tmp_path / "woven", source=program("recover", "link", source=capture))
@@ -89,9 +89,9 @@ def test_a_damaged_pixel_of_a_field(report, program, tmp_path):
 
 def test_fields_that_are_not_told_apart(report, program):
     """VIC 5 says interlaced, and VSYNC of each field begins with a line; without it nothing says that there are fields."""
-    page = report(program("make", "link", source=fields(4, vic=5, halves=False)))
+    page = report(program("make", "link", source=fields(4, vic=5, halves=False)), 1)
     assert "The AVI InfoFrame says (VIC 5) that the video is interlaced, and which field is the upper is not known" in "".join(said(page))
     names = page.run("return viewer.pictures.map((one) => one.name)")
     assert names == [f"Frame {number}" for number in range(4)] and page.run("return by('fields-switch').hidden")
-    page = report(program("make", "link", source=fields(4, halves=False)))
+    page = report(program("make", "link", source=fields(4, halves=False)), 1)
     assert "interlaced" not in "".join(said(page))

@@ -163,12 +163,12 @@ def test_the_rate(report, program):
         (CLOCKS + infoframe(0x84, 1, "0108" + "00" * 8), "These do not agree: the clock packets 48,000 Hz, the audio InfoFrame 44,100 Hz."),
     ):
         lines = LINK_HEAD + AVI_1 + more + one + "e 00\nc 00 12\nend\n"
-        page = report(program("make", "link", source=lines.encode()))
+        page = report(program("make", "link", source=lines.encode()), 1)
         assert says in page.text("sound-says")
 
 
 def test_sound_that_is_no_pcm(report, program):
     lines = LINK_HEAD + AVI_1 + packet_line("090f00") * 3 + "e 00\nc 00 12\nend\n"
-    page = report(program("make", "link", source=lines.encode()))
+    page = report(program("make", "link", source=lines.encode()), 1)
     notes = page.run("return [...document.querySelectorAll('.note')].map((one) => one.textContent)")
     assert "3 packets of high bit rate audio (IEC 61937) came, which are not played." in notes

@@ -2,8 +2,6 @@
 
 import csv
 import json
-import os
-import shutil
 import signal
 import subprocess
 import sys
@@ -12,10 +10,11 @@ from pathlib import Path
 
 import pytest
 
-from tests.support import HANGS, TOP, built
+from tests.support import HANGS, TOP
 
 EXAMPLES = TOP / "examples"
 RED = (EXAMPLES / "red.link").read_bytes()
+TOTAL = "12 clean, 2 link faulty, 1 not aligned, 1 nothing judged"  # of the folder
 COUNTS = {"columns": "27", "lines": "1", "pixels": "1"}
 CONNECT = "DASK_DISTRIBUTED__COMM__TIMEOUTS__CONNECT"  # how long Dask and the survey wait for a connection
 
@@ -37,49 +36,6 @@ def folder(program, tmp_path):
     return folder
 
 
-class Gate:
-    """A program whose checks note which process asked and for which file, and wait: each of `few` lets one go on, and so does
-    `open` all."""
-
-    def __init__(self, folder, few=0):
-        self.program, self.log, self.shut = folder / "program", folder / "log", folder / "shut"
-        passes = [folder / f"pass{number}" for number in range(few)]
-        for path in (self.shut, *passes):
-            path.mkdir()
-        self.log.touch()
-        tries = " || ".join(f"rmdir {path}" for path in passes) or "false"
-        self.program.write_text(
-            "#!/bin/sh\n"
-            'if [ "$1" = check ]; then\n'
-            f'  echo "$PPID $(readlink /proc/self/fd/0)" >> {self.log}\n'
-            f"  while [ -e {self.shut} ] && ! ({tries}) 2> /dev/null; do sleep 0.05; done\n"
-            f'fi\nexec {built()} "$@"\n'
-        )
-        self.program.chmod(0o755)
-
-    def open(self):
-        if self.shut.exists():
-            self.shut.rmdir()
-
-    def asked(self):
-        """The process and the file of each check so far."""
-        return [line.split(" ", 1) for line in self.log.read_text().splitlines()]
-
-
-@pytest.fixture
-def gate(tmp_path):
-    """Makes a gate, which is open at the end of the test, so that no check waits on."""
-    made = []
-
-    def make(few=0):
-        made.append(Gate(tmp_path, few))
-        return made[-1]
-
-    yield make
-    for it in made:
-        it.open()
-
-
 def rows_of(path):
     with open(path, newline="") as file:
         return {Path(row["path"]).name: row for row in csv.DictReader(file)}
@@ -91,19 +47,18 @@ def taken(row, names):
 
 def test_each_capture_is_judged(tool, folder, tmp_path):
     table = tmp_path / "survey.csv"
-    came = tool("survey", folder, "-o", table, "--program", built(), status=1)
-    assert came.stderr == b"16 captures, 16 judged now: 12 clean, 2 faulty, 1 refused, 1 unaligned\n"
+    came = tool("survey", folder, "-o", table, status=1)
+    assert came.stderr == f"16 captures, 16 judged now: {TOTAL}\n".encode()
     rows = rows_of(table)
     assert len(rows) == 16 and "notes.txt" not in rows
     assert all(taken(rows[f"red{number:02}.tmc"], COUNTS) == COUNTS for number in range(12))
-    assert taken(rows["pixel.tmc"], ["verdict", "faults", "code"]) == {"verdict": "faulty", "faults": "1", "code": "1"}
-    island = {"verdict": "faulty", "columns": "75", "islands": "1", "packets": "1", "symbols": "1", "mended": "1"}
+    assert taken(rows["pixel.tmc"], ["verdict", "faults", "code"]) == {"verdict": "link faulty", "faults": "1", "code": "1"}
+    island = {"verdict": "link faulty", "columns": "75", "islands": "1", "packets": "1", "symbols": "1", "mended": "1"}
     assert taken(rows["island.tmc"], island) == island
-    assert taken(rows["none.tmc"], ["verdict", "note"]) == {"verdict": "unaligned", "note": "no alignment"}
-    note = "no whole capture: it ends after 109 bytes, in its header or before the end that the header names (input: short 109)"
-    assert taken(rows["short.tmc"], ["verdict", "note"]) == {"verdict": "refused", "note": note}
+    assert rows["none.tmc"]["verdict"] == "not aligned" and rows["none.tmc"]["note"].startswith("Not aligned: the three lanes")
+    assert rows["short.tmc"]["verdict"] == "nothing judged" and "the capture is cut off" in rows["short.tmc"]["note"]
     page = (tmp_path / "survey.html").read_text()
-    assert "<h1>16 captures: 12 clean, 2 faulty, 1 refused, 1 unaligned</h1>" in page and page.count("<tr class=") == 16
+    assert f"<h1>16 captures: {TOTAL}</h1>" in page and page.count("<tr class=") == 16
 
 
 def test_a_clean_link_with_wrong_contents(tool, program, folder, tmp_path):
@@ -114,75 +69,44 @@ def test_a_clean_link_with_wrong_contents(tool, program, folder, tmp_path):
     capture = folder / "contents.tmc"
     capture.write_bytes(program("make", "link", source="".join(f"{line}\n" for line in lines).encode()))
     table = tmp_path / "survey.csv"
-    words = [capture, folder / "red00.tmc", "-o", table, "--program", built()]
+    words = [capture, folder / "red00.tmc", "-o", table]
     came = tool("survey", *words, status=1)
-    assert came.stderr == b"2 captures, 2 judged now: 1 clean, 1 contents\n"
-    wanted = {"verdict": "contents", "note": "", "faults": "0", "contents": "3", "checksum": "2", "parity": "1", "vic": "0"}
+    assert came.stderr == b"2 captures, 2 judged now: 1 clean, 1 source wrong\n"
+    wanted = {"verdict": "source wrong", "faults": "0", "contents": "3", "checksum": "2", "parity": "1", "vic": "0"}
     assert taken(rows_of(table)["contents.tmc"], wanted) == wanted
     assert rows_of(table)["red00.tmc"]["contents"] == "0"
-    assert b"2 captures, 0 judged now: 1 clean, 1 contents" in tool("survey", *words, status=1).stderr
-    assert '<tr class="contents">' in (tmp_path / "survey.html").read_text()
+    assert b"2 captures, 0 judged now: 1 clean, 1 source wrong" in tool("survey", *words, status=1).stderr
+    assert '<tr class="source-wrong">' in (tmp_path / "survey.html").read_text()
 
 
 def test_what_is_done_and_unchanged_is_kept(tool, folder, program, tmp_path):
-    table, words = tmp_path / "survey.csv", ["--program", built()]
-    tool("survey", folder / "red00.tmc", folder / "red01.tmc", "-o", table, *words)
+    table = tmp_path / "survey.csv"
+    tool("survey", folder / "red00.tmc", folder / "red01.tmc", "-o", table)
     (folder / "red01.tmc").write_bytes((folder / "pixel.tmc").read_bytes())
     came = tool(
-        "survey", folder / "red00.tmc", folder / "red01.tmc", folder / "red02.tmc", "-o", table, *words, status=1
+        "survey", folder / "red00.tmc", folder / "red01.tmc", folder / "red02.tmc", "-o", table, status=1
     )
-    assert came.stderr == b"3 captures, 2 judged now: 2 clean, 1 faulty\n"
-    came = tool("survey", folder / "red02.tmc", "-o", table, *words)
+    assert came.stderr == b"3 captures, 2 judged now: 2 clean, 1 link faulty\n"
+    came = tool("survey", folder / "red02.tmc", "-o", table)
     assert came.stderr == b"1 captures, 0 judged now: 1 clean\n" and len(rows_of(table)) == 3
     with open(table, "r+b") as file:  # the last line breaks off
         file.truncate(table.stat().st_size - 5)
-    came = tool("survey", folder / "red02.tmc", folder / "red00.tmc", "-o", table, *words)
+    came = tool("survey", folder / "red02.tmc", folder / "red00.tmc", "-o", table)
     assert came.stderr == b"2 captures, 0 judged now: 2 clean\n" and len(rows_of(table)) == 2
-    came = tool("survey", folder / "red02.tmc", "-o", table, "--anew", *words)
+    came = tool("survey", folder / "red02.tmc", "-o", table, "--anew")
     assert came.stderr == b"1 captures, 1 judged now: 1 clean\n" and len(rows_of(table)) == 1
 
 
 def test_kept_rows_gain_the_timing(tool, folder, tmp_path):
     """A row of a survey without it is judged again where it is asked, but for what has none."""
-    table, words = tmp_path / "survey.csv", ["--program", built()]
+    table = tmp_path / "survey.csv"
     places = [folder / name for name in ("red00.tmc", "pixel.tmc", "none.tmc", "short.tmc")]
-    assert b"4 captures, 4 judged now" in tool("survey", *places, "-o", table, *words, status=1).stderr
+    assert b"4 captures, 4 judged now" in tool("survey", *places, "-o", table, status=1).stderr
     assert {row["format"] for row in rows_of(table).values()} == {""}
     for judged, more in ((2, ["--timing"]), (0, ["--timing"]), (0, [])):
-        assert b"4 captures, %d judged now" % judged in tool("survey", *places, "-o", table, *words, *more, status=1).stderr
+        assert b"4 captures, %d judged now" % judged in tool("survey", *places, "-o", table, *more, status=1).stderr
         formats = {name: row["format"] != "" for name, row in rows_of(table).items()}
         assert formats == {"red00.tmc": True, "pixel.tmc": True, "none.tmc": False, "short.tmc": False}
-
-
-@pytest.mark.skipif(shutil.which("taskset") is None, reason="taskset of util-linux is missing")
-def test_one_processor_each(tool, folder, tmp_path):
-    """Each run of the program has one of the processors that the survey may use, and each of these is used."""
-    asked, program = tmp_path / "asked", tmp_path / "where"
-    program.write_text(
-        f"#!/bin/sh\ngrep Cpus_allowed_list /proc/self/status | cut -f2 >> {asked}\nsleep 0.05\nexec {built()} \"$@\"\n"
-    )
-    program.chmod(0o755)
-    places = sorted(os.sched_getaffinity(0))[-3:]
-    words = ["taskset", "-c", ",".join(map(str, places)), TOP / "tools" / "survey", folder, "-o", tmp_path / "survey.csv"]
-    came = subprocess.run([*map(str, words), "--program", program], capture_output=True)
-    assert came.returncode == 1, came.stderr
-    used = asked.read_text().split()
-    assert len(used) == 48 and set(used) == set(map(str, places))
-    words[2] = str(places[0])
-    subprocess.run([*map(str, words), "--program", program, "--anew"], capture_output=True)
-    assert asked.read_text().split()[48:] == [str(places[0])] * 48
-
-
-@pytest.mark.skipif(shutil.which("taskset") is None, reason="taskset of util-linux is missing")
-def test_no_processor_may_be_chosen(tool, folder, tmp_path, monkeypatch):
-    """Where `taskset` is refused the captures are judged as ever."""
-    refusing = tmp_path / "path" / "taskset"
-    refusing.parent.mkdir()
-    refusing.write_text("#!/bin/sh\nexit 1\n")
-    refusing.chmod(0o755)
-    monkeypatch.setenv("PATH", f"{refusing.parent}:{os.environ['PATH']}")
-    came = tool("survey", folder, "-o", tmp_path / "survey.csv", "--program", built(), status=1)
-    assert came.stderr == b"16 captures, 16 judged now: 12 clean, 2 faulty, 1 refused, 1 unaligned\n"
 
 
 def waited(until):
@@ -199,18 +123,16 @@ def begun(words):
     return subprocess.Popen([str(word) for word in words], stderr=subprocess.PIPE, stdout=subprocess.DEVNULL)
 
 
-def test_a_stopped_survey_goes_on(tool, folder, gate, tmp_path):
-    """It is stopped when three captures are judged, while no other one gets on."""
-    judged, table = gate(few=3), tmp_path / "survey.csv"
-    words = [folder, "-o", table, "--program", judged.program]
-    survey = begun([TOP / "tools" / "survey", *words])
-    waited(lambda: table.exists() and table.read_bytes().count(b"\n") > 3)
+def test_a_stopped_survey_goes_on(tool, folder, tmp_path):
+    """It is stopped once a capture is judged; what is in the table is kept."""
+    table = tmp_path / "survey.csv"
+    survey = begun([TOP / "tools" / "survey", folder, "-o", table])
+    waited(lambda: table.exists() and table.read_bytes().count(b"\n") > 1)
     survey.send_signal(signal.SIGKILL)
     survey.communicate(timeout=HANGS)
-    assert len(rows_of(table)) == 3
-    judged.open()
-    came = tool("survey", *words, status=1)
-    assert b"16 captures, 13 judged now: 12 clean" in came.stderr and len(rows_of(table)) == 16
+    kept = table.read_bytes().count(b"\n") - 1
+    came = tool("survey", folder, "-o", table, status=1)
+    assert came.stderr == f"16 captures, {16 - kept} judged now: {TOTAL}\n".encode() and len(rows_of(table)) == 16
 
 
 def address_in(path):
@@ -230,7 +152,7 @@ def cluster(tmp_path, monkeypatch):
     dask = [sys.executable, "-m", "distributed.cli."]
     running = []
 
-    def run(name, *words):
+    def run(name):
         command = [*dask[:2], dask[2] + name, *map(str, words), "--no-dashboard"]
         running.append(subprocess.Popen(command, stdout=subprocess.DEVNULL, stderr=subprocess.DEVNULL, cwd=tmp_path))
         return running[-1]
@@ -238,48 +160,40 @@ def cluster(tmp_path, monkeypatch):
     run("dask_scheduler", "--host", "127.0.0.1", "--port", 0, "--scheduler-file", address)
     place = waited(lambda: address_in(address))
     words = ["--scheduler-file", address, "--host", "127.0.0.1", "--nthreads", 1, "--no-nanny"]
-    workers = [run("dask_worker", *words, "--local-directory", tmp_path) for _ in range(2)]
+    workers = [run("dask_worker", "--local-directory", tmp_path) for _ in range(2)]
     yield place.removeprefix("tcp://"), workers
     for process in running:
         process.kill()
         process.wait()
 
 
-def test_a_worker_that_dies_loses_no_capture(tool, folder, gate, cluster, tmp_path):
-    """Whichever worker is the first to have a capture dies with it: no run of the program goes on until it is dead."""
-    shut = gate()
+def test_a_worker_that_dies_loses_no_capture(tool, folder, cluster, tmp_path):
+    """One of two workers dies while the survey is on its way."""
     address, workers = cluster
     table = tmp_path / "survey.csv"
-    words = [folder, "-o", table, "--program", shut.program, "--scheduler", address]
+    words = [folder, "-o", table, "--scheduler", address]
     survey = begun([TOP / "tools" / "survey", *words])
-    dead, lost = waited(shut.asked)[0]
-    for worker in workers:
-        if str(worker.pid) == dead:
-            worker.kill()
-            worker.wait()
-    shut.open()
+    waited(lambda: table.exists())
+    workers[0].kill()
+    workers[0].wait()
     _, told = survey.communicate(timeout=HANGS)
     assert survey.returncode == 1, told
-    # where the machine is busy the scheduler's own words on the worker that died may come after it
-    assert b"16 captures, 16 judged now: 12 clean, 2 faulty, 1 refused, 1 unaligned\n" in told
-    assert {path for _, path in shut.asked()} == {row["path"] for row in rows_of(table).values()}
-    again = {str(worker.pid) for worker in workers} - {dead}
-    assert [pid for pid, path in shut.asked() if path == lost] == [dead, *again]
+    # if the machine is busy the scheduler's own words on the worker that died may come after it
+    assert f"16 captures, 16 judged now: {TOTAL}\n".encode() in told
     assert tool("survey", *words, status=1).stderr.startswith(b"16 captures, 0 judged now")
 
 
 def test_what_is_refused(tool, folder, tmp_path):
-    table, words = tmp_path / "survey.csv", ["--program", built()]
+    table = tmp_path / "survey.csv"
     for places, says in (
         ([tmp_path / "missing"], b"there is no such file"),
         ([folder / "more", tmp_path / "missing"], b"there is no such file"),
         ([tmp_path / "empty"], b"it has no files *.tmc"),
     ):
         (tmp_path / "empty").mkdir(exist_ok=True)
-        assert says in tool("survey", *places, "-o", table, *words, status=3).stderr
-    assert b"there is no program" in tool("survey", folder, "-o", table, "--program", folder, status=3).stderr
+        assert says in tool("survey", *places, "-o", table, status=3).stderr
     table.write_text("a,b\n1,2\n")
-    assert b"no table of a survey" in tool("survey", folder, "-o", table, *words, status=3).stderr
+    assert b"no table of a survey" in tool("survey", folder, "-o", table, status=3).stderr
     assert table.read_text() == "a,b\n1,2\n"
     for bad in ([folder], ["-o", table], [folder, "-o", tmp_path / "survey.txt"]):
         tool("survey", *bad, status=2)
@@ -287,7 +201,7 @@ def test_what_is_refused(tool, folder, tmp_path):
 
 def test_no_scheduler(tool, folder, tmp_path):
     pytest.importorskip("distributed", reason="Debian's package python3-distributed is missing")
-    words = [folder, "-o", tmp_path / "survey.csv", "--program", built(), "--scheduler"]
+    words = [folder, "-o", tmp_path / "survey.csv", "--scheduler"]
     assert b"127.0.0.1:1: no scheduler answers" in tool("survey", *words, "127.0.0.1:1", status=3).stderr
 
 

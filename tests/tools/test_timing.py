@@ -8,12 +8,13 @@ from functools import partial
 
 import pytest
 
+from tests.heard import reading_of
 from tests.models.timed import Sent, text
 from tests.tools.test_formats import decoded
-from vabgrot import link
+from vabgrot.content import Content
 from vabgrot.formats.modes import CTA, DMT, of_vic
 from vabgrot.video.matching import Rate, timings
-from vabgrot.video.timings import Meter
+from vabgrot.video.raster import meter_of
 
 # CTA-861, section 4: VIC 1, 4, 5, 6 and 16.
 VGA = partial(Sent, across=(640, 16, 96, 48), down=(480, 10, 2, 33), positive=(False, False))
@@ -25,10 +26,7 @@ MODES = (1, 2, 3, 4, 16, 17, 18, 19)  # of `make content` (docs/guide/FORMATS.md
 
 def measured(sent, fields=3, rate=Rate()):
     """What is said of a listing, without the program."""
-    meter, columns = Meter(), link.Columns()
-    for number, (name, *parts) in enumerate(sent.lines(fields), 1):
-        meter.take(columns.take(number, name, parts))
-    return timings(meter, rate)
+    return timings(meter_of(Content(reading_of(sent.lines(fields)))), rate)
 
 
 @pytest.fixture
@@ -289,14 +287,14 @@ def test_no_rows(timing, tool, program, tmp_path):
     shown, said = timing(text(lines), status=1)
     assert shown == "no row of pixels was received, so there is no raster\n" and said["rasters"] == []
     (tmp_path / "zeros.tmc").write_bytes(b"TMC1" + (80).to_bytes(4, "big") + bytes(30))
-    assert tool("timing", tmp_path / "zeros.tmc", status=1).stdout.startswith(b"no alignment: `tools/lanes look`")
+    assert tool("timing", tmp_path / "zeros.tmc", status=1).stdout.startswith(b"not aligned: `tools/lanes look`")
     (tmp_path / "text.tmc").write_bytes(b"no capture at all")
-    assert b"no capture, which begins with TMC" in tool("timing", tmp_path / "text.tmc", status=3).stderr
+    assert b"not a capture: it starts with 6e 6f 20, not with TMC" in tool("timing", tmp_path / "text.tmc", status=3).stderr
     assert b"No such file" in tool("timing", tmp_path / "none.tmc", status=3).stderr
     capture = program("make", "link", source=text(VGA().lines(2)))
     (tmp_path / "short.tmc").write_bytes(capture[: len(capture) // 2])
-    shown = tool("timing", tmp_path / "short.tmc", status=3)
-    assert b"640 pixels" in shown.stdout and b"no whole capture" in shown.stderr
+    shown = tool("timing", tmp_path / "short.tmc")
+    assert b"640 pixels" in shown.stdout and shown.stdout.startswith(b"the capture is cut off: ")
 
 
 @pytest.mark.parametrize("words", [("--clock", "0"), ("--rate", "-1"), ("--clock", "nan"), ("--clock", "1", "--rate", "1"), ()])
@@ -308,13 +306,10 @@ def test_wrong_words(tool, words):
 @pytest.mark.parametrize("has_hsync", [True, False])
 def test_syncs_that_never_change(has_hsync):
     """Rows of 640 pixels with blank lines between, with one of the syncs or none."""
-    meter, columns = Meter(), link.Columns()
     pulse = [("c", "01" if has_hsync else "00", "12"), ("c", "00", "12")]
     row = [*pulse, ("c", "04", "8"), ("v", "336699" * 640)]
     lines = [*row * 40, *[*pulse, ("c", "00", "650")] * 20, *row * 40, ("c", "00", "12")]
-    for number, (name, *parts) in enumerate(lines, 1):
-        meter.take(columns.take(number, name, parts))
-    (one,) = timings(meter, Rate())
+    (one,) = timings(meter_of(Content(reading_of(lines))), Rate())
     texts = [note.text for note in one.notes if note.is_fault]
     assert "VSYNC never changes" in texts and ("HSYNC never changes" in texts) == (not has_hsync)
     assert one.raster.size == (640, None) and one.is_faulty

@@ -87,10 +87,6 @@ def test_raw_blocks_are_as_captures(program, bars, tmp_path, compare):
             whole, blocks = cut(data)
             wanted = heard(whole, tmp_path)
             yield name, heard(blocks, tmp_path, "--raw"), wanted
-            status, lines, rows = heard(whole, tmp_path, "--by-program")
-            yield f"{name} by the program", (status, rows), (wanted[0], wanted[2])
-            if not {"noise", "longline", "broken"} & {row[0] for row in rows}:  # behind these a listing does not tell all columns
-                yield f"lines of {name} by the program", lines, wanted[1]
 
     compare(cases())
 
@@ -169,17 +165,17 @@ def test_metrics(program, tmp_path, bars):
 
 
 def test_without_the_library(monkeypatch, capsys, tmp_path):
-    """It is refused, and says what makes the library; a capture is still heard, by the program."""
+    """It is refused, and says what makes the library."""
     (tmp_path / "raw").write_bytes(b"")
     monkeypatch.setenv("VABGROT_LIBRARY", "/none")
     assert watch.main(["--raw", str(tmp_path / "raw")]) == 3
-    assert "raw blocks are heard by the C library alone, and VABGROT_LIBRARY names /none" in capsys.readouterr().err
+    assert "VABGROT_LIBRARY names /none" in capsys.readouterr().err
     monkeypatch.delenv("VABGROT_LIBRARY")
-    monkeypatch.setattr(library, "BESIDE", TOP / "none")
+    monkeypatch.setattr(library, "BESIDE", [])
     monkeypatch.setattr(library, "NAME", "libnone.so.1")
     assert watch.main(["--raw", str(tmp_path / "raw")]) == 3
     why = capsys.readouterr().err
-    assert why.count("\n") == 1 and "`./vabgrot install` of a checkout makes and installs it" in why
+    assert why.count("\n") == 1 and "`./vabgrot build library` builds it with the Rattle kit" in why
     assert said(b"", "--raw", "--dvi", status=2)[1].startswith("usage: ")
 
 
@@ -189,7 +185,8 @@ def test_what_lanes_writes(bars, tool, tmp_path):
     assert tool("lanes", "blocks", tmp_path / "a.tmc").stdout == cut(bars[0])[1]
     words = ["lanes", "blocks", tmp_path / "a.tmc", "--bits", WHOLE]
     assert tool(*words, "--repeat", 4).stdout == raw(bars[1], WHOLE, 4)
-    assert b"a lane has 54320 bits, and 54321 are wanted" in tool("lanes", "blocks", tmp_path / "a.tmc", "--bits", 54321, status=3).stderr
+    said = tool("lanes", "blocks", tmp_path / "a.tmc", "--bits", 54321, status=3).stderr
+    assert b"a lane has 54320 bits, but --bits asks for 54321. Give at most 54320" in said
     for wrong in ("0", "1,2", "x"):
         tool(*words, "--repeat", wrong, status=2)
 
@@ -219,7 +216,7 @@ def test_past_four_gibibits(program, bars, tmp_path):
 
 @pytest.mark.slow
 def test_a_soak(bars, tmp_path):
-    """A link at full speed: the memory of the tool does not grow."""
+    """A link at full speed: the memory of the tool does not grow. Frames that are repeated may break a rule where they begin again."""
     (tmp_path / "a.tmc").write_bytes(bars[0])
     words = [TOP / "tools" / "lanes", "blocks", tmp_path / "a.tmc", "--bits", str(WHOLE), "--repeat"]
     with subprocess.Popen(words, stdout=subprocess.PIPE) as source:
@@ -231,7 +228,7 @@ def test_a_soak(bars, tmp_path):
             sizes.append(resident(ran.pid))
         ran.send_signal(signal.SIGINT)
         out = ran.communicate(timeout=HANGS)[0].decode()
-    assert ran.returncode == 0 and out.endswith("no fault\n")
+    assert ran.returncode in (0, 1) and out.endswith("no fault\n")
     assert min(sizes[LATE]) - max(sizes[EARLY]) < MOST, sizes
 
 

@@ -110,7 +110,21 @@ def test_3d_structures(payload, wanted):
 
 def test_other_vendors():
     assert told(infoframe(0x81, 1, "d85dc40102"))["low latency"] == ("asked for", "ALLM_Mode 1")
-    assert told(infoframe(0x81, 1, "46d000aa")) == {"registered to": ("IEEE 00d046", "IEEE 00d046"), "payload": ("aa", "")}
+    assert told(infoframe(0x81, 1, "46d00103")) == {"registered to": ("IEEE 01d046", "IEEE 01d046"), "payload": ("03", "")}
+    dolby = told(infoframe(0x81, 1, "46d00003aa"))
+    assert dolby["registered to"][0] == "Dolby Laboratories" and dolby["payload"] == ("aa", "")
+    assert (dolby["Dolby Vision"], dolby["low latency"]) == (("yes", "Dolby_Vision_Signal 1"), ("yes", "Low_Latency 1"))
+    assert told(infoframe(0x81, 1, "8b84906009"))["registered to"] == ("HDR10+ Technologies", "IEEE 90848b")
+
+
+def test_extended_metadata():
+    """A data set in several packets: the first one has its head; VRR in one packet."""
+    first = packets.content_of(packet("7f8000", "90" "00" "02" "0004" "003c" + "11" * 21))
+    assert first.words == "packet first, organization CTA-861, data set tag 4"
+    rows = {row.name: row.value for row in packets.content_of(packet("7f4002", "ff" * 28)).rows}
+    assert rows == {"packet": "last, number 2"}
+    rows = {row.name: row.value for row in packets.content_of(packet("7fc000", "c2" "00" "01" "0001" "0004" "0104012c" + "00" * 17)).rows}
+    assert (rows["variable refresh rate"], rows["base rate"], rows["base front porch"]) == ("yes", "300 Hz", "4 lines")
 
 
 def test_dynamic_range():
@@ -213,6 +227,8 @@ def test_what_is_made_is_read(kind):
             wanted |= {"Static_Metadata_Descriptor_ID": 0}
         elif kind == "acp":
             wanted |= {"ACP_Type": 2}
+        elif kind == "extended":
+            wanted |= {"First": 1, "Organization_ID": 2}
         elif kind == "gamut":
             wanted |= {"GBD_profile": 0, "Packet_Seq": 3}
         rows = packets.content_of(making.packet(kind, wanted)).rows
@@ -332,10 +348,10 @@ def test_allocations():
 def test_packets_that_cannot_be_made():
     for word, says in (
         ("no", "there is no packet `no`"),
-        ("avi:VIC=128", "avi: VIC is 0 to 127"),
+        ("avi:VIC=128", "avi: the field VIC cannot be 128"),
         ("avi:no=1", "avi has no field no"),
-        ("avi:VIC", "avi: `VIC` is no FIELD=NUMBER"),
-        ("avi:text=a", "avi: `text=a` is no FIELD=NUMBER"),
+        ("avi:VIC", "avi: `VIC` is not FIELD=NUMBER"),
+        ("avi:text=a", "avi: `text=a` is not FIELD=NUMBER"),
     ):
         with pytest.raises(Refused, match=re.escape(says)):
             making.packet(*making.parts(word))

@@ -39,6 +39,8 @@ RESERVED = {
     "hdmi": LENGTH | {"PB4": 0x1F},
     "3d": LENGTH | {"PB4": 0x1F, "PB5": 0x07},
     "forum": LENGTH,
+    "dolby": LENGTH,
+    "hdr10+": LENGTH,
     "vendor": LENGTH,
     "mpeg": LENGTH | {"PB5": 0xEC} | each(6, 10),
     "dynamic": LENGTH | {"PB1": 0xF8, "PB2": 0xF8},
@@ -49,6 +51,8 @@ RESERVED = {
     "DST": {"HB1": 0x3F, "HB2": 0xFF},
     "high rate": {"HB1": 0xFF, "HB2": 0x0F},
     "gamut": {"HB2": 0x40},
+    "refresh": {"HB1": 0x3F},
+    "extended": {"HB1": 0x3F},
 }
 
 

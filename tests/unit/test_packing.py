@@ -2,8 +2,8 @@
 
 import io
 import random
-from array import array
 
+import numpy as np
 import pytest
 
 PIL = pytest.importorskip("PIL.Image")
@@ -51,10 +51,10 @@ def test_periods():
     """Columns that follow from those before are not told, nor lines."""
     rows = [(0, 0, 12, 1, 4), (1, 12, 5, 2, 3), (5, 30, 7, 4, 0), (0, 37, 12, 5, 4)]
     names = ("kind", "at", "columns", "line", "value")
-    table = Periods(**{name: array("q", list(numbers)) for name, numbers in zip(names, zip(*rows))})
+    table = Periods(**{name: np.array(numbers, np.int64) for name, numbers in zip(names, zip(*rows))})
     unlike = [[0, 12, 4], [1, 5, 3], [5, 7, 0]]
     came = packing.packed(table)
     assert sorted(came["unlike"]) == unlike and [came["unlike"][it] for it in came["of"]] == [unlike[it] for it in (0, 1, 2, 0)]
     assert came["at"] == [[0, 0], [2, 30]] and came["line"] == [[0, 1], [2, 4]]
-    empty = packing.packed(Periods(**{name: array("q") for name in names}))
+    empty = packing.packed(Periods(**{name: np.zeros(0, np.int64) for name in names}))
     assert empty == {"unlike": [], "of": [], "at": [], "line": []}

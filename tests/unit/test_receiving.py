@@ -9,15 +9,15 @@ import pytest
 import vabgrot
 from tests.support import TOP
 from vabgrot import library
-from vabgrot.events import UNTOLD, Cut, End, EpochsEnd, Fault, Kind, Relocked, Run, Slip, event_of
-from vabgrot.receiving import RECORD, Arrays
-from vabgrot.recovery import faults_of
+from vabgrot.events import RECORD, UNTOLD, End, Event, Kind, of_records
+from vabgrot.recovered import Recovered
 
 ENUMS = "vabgrot_kind", "vabgrot_event_kind"
 HEADER = (TOP / "library" / "vabgrot.h").read_text("utf-8")
 LEFT = [(4, 0, 4, 0, 0, Kind.RUN, 0, 0), (43, 14, 0, 0, 0, Kind.CUT, 0, 0), (0, 437, 0, 0, 0, Kind.SLIP, 2, 0)]
 LEFT += [(0, 620, 0, 0, 0, Kind.RELOCKED, 0, 0)]
-EVENTS = [Run(4, 0, 4), Cut(43, 14), Slip(0, 2, 437), Relocked(0, 620)]
+EVENTS = [Event(Kind.RUN, 0, 4, 0, 4, 0, 0), Event(Kind.CUT, 0, 43, 14, 0, 0, 0), Event(Kind.SLIP, 0, 0, 437, 0, 2, 0)]
+EVENTS += [Event(Kind.RELOCKED, 1, 0, 620, 0, 0, 0)]
 ROOM = {"link": (104, 12327), "dvi": (104, 12327), "track": (400, 12622), "relock": (400, 12622)}
 
 
@@ -73,33 +73,33 @@ def test_numbers():
     assert len(events) >= 19 and [(name, int(it)) for name, it in events] == [(it.name, it.value) for it in Kind][: len(events)]
 
 
+def of(rows):
+    return of_records(np.array(rows, RECORD), np.zeros(0, np.uint8))
+
+
 def test_slips():
-    slip, relocked = (event_of(numbers, b"") for numbers in LEFT[2:])
-    assert (slip, relocked) == (Slip(0, 2, 437), Relocked(0, 620)) and (slip.kind, relocked.kind) == (Kind.SLIP, Kind.RELOCKED)
-    assert (slip.line, relocked.line) == ("! slip 2 437", "! relock 620")
-    assert str(slip) == "bit 437 on lane 2 (red): slip, a lane lost bits; from here on the lanes were searched anew"
+    found = of(LEFT)
+    assert [*found] == EVENTS and (found[2].line, found[3].line) == ("! slip 2 437", "! relock 620")
+    assert str(found[2]) == "bit 437 on lane 2 (red): slip, a lane lost bits; from here on the lanes were searched anew"
     said = "relock, the alignment was let go, since later guard bands came at another skew; from here on the lanes were searched anew"
-    assert str(relocked) == f"bit 620: {said}"
-    assert not isinstance(slip, Fault) and [*Arrays(np.array(LEFT, RECORD), b"").events()] == EVENTS
+    assert str(found[3]) == f"bit 620: {said}"
 
 
 def test_faults_are_no_slips():
-    """Among records those between WORD and GUARD, each by its name."""
-    rows = [(5, 5, 0, 0, 0, kind, 0, 0) for kind in Kind]
-    names = faults_of(np.array(rows, RECORD))["kind"].tolist()
+    """Among events those between WORD and GUARD, each by its name."""
+    found = Recovered(of([(5, 5, 0, 0, 0, kind, 0, 0) for kind in (Kind.WORD, *range(Kind.SHORT, Kind.SLIP))]), End(9, 1, 1))
+    names = found.faults["kind"].tolist()
     assert len(names) == 13 and (names[0], names[-1]) == ("word", "guard")
 
 
 @pytest.mark.parametrize("kind", ROOM)
 def test_kinds(calls, kind):
     """The End of lanes that may lose bits counts epochs."""
-    end = EpochsEnd(UNTOLD, True, 7, 1) if kind in ("track", "relock") else End(7, True)
+    end = End(UNTOLD, 7, 1) if kind in ("track", "relock") else End(7, 1, 1)
     with vabgrot.Receiver(kind) as receiver:
-        assert receiver.feed(b"abc", b"abc", b"ab") == EVENTS[:1] * 3
-        assert receiver.finish() == [*EVENTS[1:], end]
-        records, last = receiver.finish_arrays()[0].records, receiver.finish()[-1]
-    assert records["named"].tolist() == [14, 437, 620] and records["value"].tolist() == [0, 2, 0]
-    assert isinstance(last, End) and last.columns == last.column and bool(last.aligned)
+        assert [*receiver.feed(b"abc", b"abc", b"ab")] == EVENTS[:1] * 3
+        rest, last = receiver.finish()
+    assert [*rest] == EVENTS[1:] and last == end and last.aligned
     assert [*vabgrot.receive(b"", b"", b"", kind=kind)] == [*EVENTS[1:], end]
     assert calls.opened == [library.KINDS[kind]] * 2 and calls.closed == 2
 

@@ -128,5 +128,5 @@ def test_weaving():
 
 def test_lines_down():
     assert lines_down(100, [1000, 1200, 1400]) == Fraction(9, 2)
-    for change, firsts in ((None, [1, 2]), (0, [1]), (0, [None, 2]), (0, [1, None]), (5, [7, 7])):
+    for change, firsts in ((None, [1, 2]), (0, [1]), (0, [-1, 2]), (0, [1, -1]), (5, [7, 7])):
         assert lines_down(change, firsts) is None

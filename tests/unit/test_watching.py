@@ -5,23 +5,16 @@ import os
 import random
 import threading
 
-import numpy as np
 import pytest
 
-from tests.models import feeding, hearing
+from tests.heard import events_of
+from tests.models import feeding, hearing, model
 from vabgrot import capture, listing
-from vabgrot.events import Kind
+from vabgrot.events import IS_OF_PACKET
 from vabgrot.lanes import repeating
-from vabgrot.receiving import RECORD
-from vabgrot.recovery import ListedRecords, Told
-from vabgrot.watching import records
 from vabgrot.watching.blocks import LONGEST, Blocks
 from vabgrot.watching.counting import Count
-from vabgrot.watching.lines import Lines, Pieces
 from vabgrot.watching.looking import Look
-from vabgrot.watching.records import Recorded
-
-CAPTURES = 12
 
 
 def poured(pieces):
@@ -37,78 +30,53 @@ def poured(pieces):
     return reads
 
 
-def batches_of_text(text, rng):
-    """The batches of a listing that comes in pieces of a size."""
-    size = rng.choice((61, 1000, 1 << 16))
-    file = poured(text[at : at + size] for at in range(0, len(text), size))
-    pieces = Pieces(file)
-    while not pieces.is_ended:
-        yield pieces.read()
-    os.close(file)
-
-
-def batches_of_records(text, rng):
-    """The batches of the same as records, some at a time, and whether the listing tells all columns."""
-    listed, told, size = ListedRecords(), Told(is_dvi=False), rng.choice((1, 7, 1000))
-    for thing in told.things(listing.lines(io.BytesIO(text), listing.LINK, is_whole=False)):
-        listed.take(thing)
-    found, data = np.array(listed.found, RECORD), np.frombuffer(bytes(listed.data), np.uint8)
-    at, parts = 0, []
-    while at < len(found):
-        stop = at + size
-        while stop < len(found) and found["kind"][stop] >= Kind.WORD:  # which the receiver reports with what they are of
-            stop += 1
-        parts.append(Recorded(found[at:stop], data))
-        at = stop
-    return parts, (found["column"] >= 0).all()
-
-
-def counted(batches):
-    """What is counted of some batches, what the ear heard, and what a look saw."""
-    count, look, heard = Count(), Look(False, None), []
-    for batch in batches:
-        count.take(batch, heard.append)
-        look.take(batch)
+def counted(parts):
+    """What is counted of some events, what the ear heard, and what a look saw."""
+    count, look, heard = Count(), Look(), []
+    for part in parts:
+        count.take(part, heard.append)
+        look.take(part)
     return count, look, heard
 
 
-@pytest.mark.parametrize("few", (1, 8, records.FEW))
-def test_text_and_records(compare, monkeypatch, few):
-    """Faults, columns, frames, packets as they stand, and what is looked at, also where as few events as may be are taken at once."""
-    monkeypatch.setattr(records, "FEW", few)
+def pieces_of(events, size):
+    """Some events at a time, each with the faults of its packet."""
+    at = 0
+    while at < len(events):
+        stop = at + size
+        while stop < len(events) and IS_OF_PACKET[events.kind[stop]]:
+            stop += 1
+        yield events[at:stop]
+        at = stop
+
+
+def test_pieces_of_any_size(compare):
+    """Faults, columns, frames, packets as they stand, and what is looked at, are the same however the events come."""
 
     def cases():
-        for case in range(CAPTURES):
+        for case in range(12):
             rng = random.Random(f"watching {case}")
-            _, text = hearing.link_of(feeding.made_capture(rng)[1])
+            _, text = model.tracked(feeding.made_capture(rng)[1], hearing.link_of)
             if not text:
                 continue
-            batches, is_exact = batches_of_records(text, rng)
-            (one, seen, heard), (other, shown, told) = counted(batches_of_text(text, rng)), counted(batches)
-            yield case, told, heard
-            yield case, (other.faults, other.last, other.standing), (one.faults, one.last, one.standing)
-            for its in (one, other, seen, shown):
-                its.syncs.streak = 0  # which the line `end` ends
-            yield case, (other.syncs, shown.syncs, shown.sound), (one.syncs, seen.syncs, seen.sound)
-            if is_exact:
-                yield case, other.columns, one.columns
-                yield case, vars(shown.meter), vars(seen.meter)
-            if one.syncs.frames:
-                rows = [[*map(it.last.pixels, it.last.rows)] for it in (shown, seen)]
-                yield case, rows[0], rows[1]
+            events = listing.parsed(listing.lines(io.BytesIO(text), listing.LINK), is_dvi=False)
+            lines = [line for line in text.decode().splitlines() if line.startswith("! ")]
+            (one, seen, told), (other, shown, heard) = (counted(pieces_of(events, size)) for size in (len(events), rng.choice((1, 7, 100))))
+            yield case, [fault.line for fault in heard], lines
+            yield case, (other.faults, other.last, other.standing, other.frames), (one.faults, one.last, one.standing, one.frames)
+            yield case, (other.total, other.columns, shown.rows, shown.whole), (len(lines), one.columns, seen.rows, seen.whole)
 
     compare(cases())
 
 
 def test_the_last_of_each_type_stands():
     """Of two packets of a type the last that no block is lost of; those of sound do not stand."""
-    packets = [f"p {kind:02x}0000 {at:014x} {'00' * 7} {'00' * 7} {'00' * 7} {'0' * 32}\n" for at, kind in enumerate((0x82, 2, 0x82, 0x84))]
-    packets.insert(3, "! lost 90 0\n")
-    lines = Lines("".join(packets).encode())
+    packets = [("p", f"{kind:02x}0000", f"{at:014x}", *["00" * 7] * 3, "0" * 32) for at, kind in enumerate((0x82, 2, 0x82, 0x84))]
+    packets.insert(3, ("!", "lost", "64", "0"))
     count = Count()
-    count.take(lines)
+    count.take(events_of(packets))
     assert {kind: data[9] for kind, data in count.standing.items()} == {0x82: 0, 0x84: 3}
-    assert count.last[0][:4] == ("lost", None, 0, 90)
+    assert count.last[0].line == "! lost 64 0"
 
 
 @pytest.mark.parametrize("sizes", ((0, 0, 0), (1, 1, 1), (4096, 4096, 4096), (9000, 100, 4097), (LONGEST + 5000, LONGEST, 3 * LONGEST)))
@@ -163,4 +131,5 @@ def test_raw_blocks(compare):
     compare(cases())
     endless = repeating.pieces([b"abc", b"def", b"ghi"], 24, None)
     first = b"".join(bytes(next(endless)) for _ in range(3))
-    assert first == raw_of([b"abc", b"def", b"ghi"], 24, 3 * LONGEST)[: len(first)]
+    lanes = [lane * (len(first) // 9 + 1) for lane in (b"abc", b"def", b"ghi")]
+    assert first == b"".join(lane[at : at + 4096] for at in range(0, len(lanes[0]), 4096) for lane in lanes)[: len(first)]

@@ -5,7 +5,7 @@ from __future__ import annotations
 import tempfile
 import zlib
 from collections import Counter
-from collections.abc import Iterator, Sequence
+from collections.abc import Iterable, Iterator, Sequence
 from contextlib import contextmanager
 from dataclasses import dataclass, field
 from pathlib import Path
@@ -14,17 +14,17 @@ from typing import IO, NamedTuple
 import numpy as np
 import numpy.typing as npt
 from PIL import Image
-from tqdm import tqdm
 
-from vabgrot import link, listing, packets, pcm, program
+from vabgrot import pcm
+from vabgrot import reading as reader
+from vabgrot.content import SAMPLE, Content, Flow, Frame, Packets, picture_of
 from vabgrot.errors import Refused
+from vabgrot.events import Events, Ints
 from vabgrot.formats.layouts import Type
-from vabgrot.judging.record import Gatherer
-from vabgrot.judging.spans import check_end
-from vabgrot.recovery import array_of_rows
+from vabgrot.library import Grammar
+from vabgrot.reading import Reading
 from vabgrot.video.images import colours_of, shallow
 from vabgrot.video.signals import Signals
-from vabgrot.video.timings import Ints
 
 Picture = npt.NDArray[np.uint8]  # rows, pixels, and red, green and blue
 SMALL = 16  # pixels of a small picture across and down
@@ -55,6 +55,7 @@ class Carried:
     lost: int = 0
     is_reference: bool = False
     has_sound: bool = False
+    first: list[str] = field(default_factory=list)  # what is said before all else: slips, a reading anew, a capture that is cut off
     notes: dict[str, None] = field(default_factory=dict)  # what was done with the pixels, and assumed for it, once each
 
     def add(self, picture: Picture) -> None:
@@ -63,6 +64,10 @@ class Carried:
         height, width = picture.shape[:2]
         self.frames.append(Still(width, height, zlib.crc32(data), small_of(picture), self.file.seek(0, 2)))
         self.file.write(data)
+
+    def forget(self) -> None:
+        """Lets go of all frames, before a capture is read anew."""
+        self.frames.clear()
 
     def picture(self, number: int) -> Picture:
         """The pixels of a frame."""
@@ -90,14 +95,14 @@ def carried(paths: Sequence[Path], converts: bool = False) -> Iterator[Carried]:
         found = Carried(" ".join(map(str, paths)), file)
         kinds = [kind_of(path) for path in paths]
         if CAPTURE in kinds and len(paths) > 1:
-            raise Refused(f"{paths[kinds.index(CAPTURE)]}: a capture is compared alone, and not with other files beside it")
+            raise Refused(f"{paths[kinds.index(CAPTURE)]}: a capture can only be compared alone. Leave the other files out")
         for path, kind in zip(paths, kinds):
             if kind == CAPTURE:
                 take_capture(found, path, converts)
             elif kind == WAV:
                 take_sound(found, path)
             else:
-                found.add(picture_of(path))
+                found.add(picture_in(path))
         found.is_reference = CAPTURE not in kinds
         yield found
 
@@ -109,13 +114,14 @@ def kind_of(path: Path) -> bytes:
     return next((kind for kind in (CAPTURE, WAV) if head.startswith(kind)), b"")
 
 
-def picture_of(path: Path) -> Picture:
+def picture_in(path: Path) -> Picture:
     """The pixels of a picture file."""
     try:
         with Image.open(path) as image:
             return np.asarray(image.convert("RGB"))
     except (OSError, SyntaxError, ValueError, Image.DecompressionBombError) as why:
-        raise Refused(f"{path}: neither a capture nor a picture nor sound ({getattr(why, 'strerror', None) or why})") from None
+        cause = getattr(why, "strerror", None) or why
+        raise Refused(f"{path}: not a capture, a picture or a WAV file ({cause}). Give one of these") from None
 
 
 def take_sound(found: Carried, path: Path) -> None:
@@ -126,53 +132,58 @@ def take_sound(found: Carried, path: Path) -> None:
     found.has_sound = True
 
 
-@dataclass
-class Converter:
-    """Has the packets that were gathered so far tell how a frame's pixels are sent, and converts them."""
+class Taking:
+    """Keeps the whole frames of a capture while it is read; `converts`: their pixels are converted to colours, as the packets before the
+    end of each say."""
 
-    gatherer: Gatherer
-    name: str
-    signals: Signals = field(default_factory=Signals)
-    taken: int = 0
+    def __init__(self, found: Carried, grammar: Grammar, converts: bool) -> None:
+        found.forget()
+        self.found, self.converts, self.flow = found, converts, Flow()
+        self.signals = Signals(has_packets=grammar != "dvi")
 
-    def picture(self, frame: link.Frame, is_dvi: bool, notes: dict[str, None]) -> Picture:
-        """The colours of a frame; what was done is noted where its bytes are none."""
-        for one in self.gatherer.packets[self.taken :]:
-            if one.is_whole:
-                self.signals.take_packet(one.packet)
-        self.taken = len(self.gatherer.packets)
-        self.signals.has_packets = not is_dvi
-        reading = self.signals.reading(frame.width)
-        if reading.signal.is_plain:
-            return array_of(frame)
-        notes.update(dict.fromkeys((CONVERTED.format(name=self.name), *reading.notes)))
+    def take(self, events: Events) -> None:
+        """The next events."""
+        self.keep(self.flow.take(events))
+
+    def keep(self, known: Iterable[Packets | Frame]) -> None:
+        """What is known now."""
+        for it in known:
+            if isinstance(it, Frame):
+                if it.is_whole:
+                    self.found.add(self.picture(it))
+            elif self.converts:
+                self.signals.take_packets(it)
+
+    def picture(self, frame: Frame) -> Picture:
+        """The colours of a frame; what was done is noted if they are not its bytes."""
+        reading = self.signals.reading(frame.width) if self.converts else None
+        if reading is None or reading.signal.is_plain:
+            return picture_of(frame.rows)
+        self.found.notes.update(dict.fromkeys((CONVERTED.format(name=self.found.name), *reading.notes)))
         return shallow(colours_of(frame.rows, frame.width, reading.signal))
 
 
 def take_capture(found: Carried, path: Path, converts: bool) -> None:
     """Keeps the whole frames, the packets and the samples of a capture."""
-    words = ["recover", "link"]
-    frames, gatherer = link.Frames(is_dvi=None), Gatherer()
-    converter = Converter(gatherer, found.name) if converts else None
-    with program.Run(words, path) as run:
-        lines = listing.lines(run.output, listing.LINK, is_whole=False)
-        for line in tqdm(lines, unit="line", disable=None):
-            thing = frames.columns.take(*line)
-            ended = frames.take(thing)
-            gatherer.take(thing)
-            if ended and ended.is_whole:
-                is_dvi = bool(frames.columns.is_dvi)
-                found.add(converter.picture(ended, is_dvi, found.notes) if converter else array_of(ended))
-    check_end(run, words, path)
-    heard = gatherer.finish().packets
-    found.lost = sum(not one.is_whole for one in heard)
-    whole = [one.packet for one in heard if one.is_whole]
-    found.packets = Counter((it.header, it.bytes) for it in whole if it.kind not in (Type.NULL, Type.SAMPLES))
-    samples = [it for packet in whole if packet.kind == Type.SAMPLES for it in packets.samples(packet).samples]
-    both = [int.from_bytes(it.left, "little") << 24 | int.from_bytes(it.right, "little") for it in samples]
-    found.samples, found.has_sound = np.array(both, np.int64), True
+    taken: list[Taking] = []
+
+    def taking(grammar: Grammar) -> Taking:
+        taken[:] = [Taking(found, grammar, converts)]
+        return taken[0]
+
+    it = reader.read(path, taker=taking)
+    it.refuse_unaligned()
+    taken[0].keep(taken[0].flow.finish())
+    take_packets(found, it)
+    found.first = [f"{path.name}: {note}" for note in it.notes]
 
 
-def array_of(frame: link.Frame) -> Picture:
-    """The pixels of a frame; rows that are too short end in black."""
-    return array_of_rows(frame.rows)
+def take_packets(found: Carried, it: Reading) -> None:
+    """Keeps the packets and the samples of a reading."""
+    content = Content(it)
+    known = content.packets.known
+    found.lost = int(content.packets.lost.sum())
+    others = known[(known.kind != Type.NULL) & (known.kind != Type.SAMPLES)]
+    found.packets = Counter((packet.header, packet.bytes) for packet in others)
+    pairs = [SAMPLE["left"].numbers(bodies) << 24 | SAMPLE["right"].numbers(bodies) for bodies in content.samples.bodies]
+    found.samples, found.has_sound = np.concatenate(pairs), True

@@ -8,7 +8,7 @@ import numpy as np
 import numpy.typing as npt
 
 from vabgrot.compared.carried import Carried, Still
-from vabgrot.video.timings import Ints
+from vabgrot.events import Ints
 
 APART = 0.3  # the cost of a frame that has no like one
 UNLIKE = 40.0  # the mean difference of small pictures from which on two frames are nothing alike

@@ -16,7 +16,7 @@ from typing import Literal, NamedTuple
 import numpy as np
 import numpy.typing as npt
 
-from vabgrot.formats.names import DEPTHS, FORUM, HDMI
+from vabgrot.formats.names import DEPTHS, DOLBY, FORUM, HDMI, HDR10_PLUS
 
 HEADER, BODIES, BODY = 3, 4, 7  # bytes of a header, the bodies of a packet, and bytes of each
 SIZE = BODIES * BODY
@@ -39,6 +39,7 @@ class Type(IntEnum):
     DST = 0x08
     HIGH_RATE = 0x09
     GAMUT = 0x0A
+    EXTENDED = 0x7F  # HDMI 2.1, section 8.8
     INFOFRAMES = 0x80  # the types from here on are InfoFrames
     VENDOR = 0x81
     AVI = 0x82
@@ -61,6 +62,7 @@ NAMES: dict[int, str] = {
     Type.DST: "DST audio",
     Type.HIGH_RATE: "High bit rate audio",
     Type.GAMUT: "Gamut metadata",
+    Type.EXTENDED: "Extended metadata",
     Type.VENDOR: "Vendor InfoFrame",
     Type.AVI: "AVI InfoFrame",
     Type.PRODUCT: "Source product InfoFrame",
@@ -300,6 +302,8 @@ DYNAMIC_LINES = (
 VENDOR_LINES = (
     Line("registered to", "HDMI Licensing", "IEEE {IEEE:06x}", {"IEEE": (HDMI,)}),
     Line("registered to", "HDMI Forum", "IEEE {IEEE:06x}", {"IEEE": (FORUM,)}),
+    Line("registered to", "Dolby Laboratories", "IEEE {IEEE:06x}", {"IEEE": (DOLBY,)}),
+    Line("registered to", "HDR10+ Technologies", "IEEE {IEEE:06x}", {"IEEE": (HDR10_PLUS,)}),
     Line("registered to", "IEEE {IEEE:06x}", "IEEE {IEEE:06x}"),
 )
 FORMAT = {"HDMI_Video_Format": Field(4, 5, 3)}
@@ -384,6 +388,45 @@ GAMUT_LINES = (
     Line("space", "{GBD_Color_Space:GAMUT_SPACES}", "GBD_Color_Space {GBD_Color_Space}", P0),
     Line("payload", "{payload:hex}"),
 )
+DOLBY_FIELDS = {"Low_Latency": Field(4, 0, 1), "Dolby_Vision_Signal": Field(4, 1, 1)}
+HDR10_PLUS_FIELDS = {
+    **{"Application_Version": Field(4, 6, 2), "Targeted_System_Display_Maximum_Luminance": Field(4, 1, 5)},
+    "Average_Maxrgb": Field(5, 0, 8),
+}
+LUMINANCE = "Targeted_System_Display_Maximum_Luminance"
+EXTENDED_FIELDS = {
+    **{"First": _header(1, 7, 1), "Last": _header(1, 6, 1), "Sequence_Index": _header(2, 0, 8)},
+    **{"New": Field(0, 7, 1), "End": Field(0, 6, 1), "DS_Type": Field(0, 4, 2), "AFR": Field(0, 3, 1), "VFR": Field(0, 2, 1)},
+    **{"Sync": Field(0, 1, 1), "Organization_ID": Field(2, 0, 8), "Data_Set_Tag": Field(3, 0, 16, is_big=True)},
+    "Data_Set_Length": Field(5, 0, 16, is_big=True),
+}
+FIRST = {"First": (1,)}
+ORDER = "First {First}, Last {Last}, Sequence_Index {Sequence_Index}"
+EXTENDED_LINES = (
+    Line("packet", "the only one", ORDER, {"First": (1,), "Last": (1,)}),
+    Line("packet", "first", ORDER, FIRST),
+    Line("packet", "last, number {Sequence_Index}", ORDER, {"Last": (1,)}),
+    Line("packet", "number {Sequence_Index}", ORDER),
+    Line("organization", "{Organization_ID:OWNERS}", "Organization_ID {Organization_ID}", FIRST),
+    Line("data set", "tag {Data_Set_Tag}", "Data_Set_Tag {Data_Set_Tag}", FIRST),
+    Line("bytes", "{Data_Set_Length}", "Data_Set_Length {Data_Set_Length}", FIRST),
+    Line("kind", "{DS_Type:DATA_SETS}", "DS_Type {DS_Type}", FIRST),
+    Line("new", "{New:YES}", "New {New}, End {End}, AFR {AFR}, VFR {VFR}, Sync {Sync}", FIRST),
+)
+REFRESH_FIELDS = {  # video timing extended metadata
+    **{"VRR_EN": Field(7, 0, 1), "M_CONST": Field(7, 1, 1), "FVA_Factor_M1": Field(7, 4, 4), "Base_Vfront": Field(8, 0, 8)},
+    **{"RB": Field(9, 2, 1), "Base_Refresh_Rate": Field(9, 0, 10, is_big=True)},
+}
+REFRESH_LINES = (
+    *_alike("variable refresh rate|VRR_EN|YES"),
+    *_alike("constant M|M_CONST|YES"),
+    Line("fast vertical active", "no", "FVA_Factor_M1 0", {"FVA_Factor_M1": (0,)}),
+    Line("fast vertical active", "M1 {FVA_Factor_M1}", "FVA_Factor_M1 {FVA_Factor_M1}", {"FVA_Factor_M1": range(1, 16)}),
+    Line("base front porch", "{Base_Vfront} lines", "Base_Vfront {Base_Vfront}"),
+    Line("base rate", "{Base_Refresh_Rate} Hz", "Base_Refresh_Rate {Base_Refresh_Rate}"),
+    *_alike("reduced blanking|RB|YES"),
+    *EXTENDED_LINES,
+)
 NOTHING = (0, 0)  # no byte is judged: what stands there follows from other fields, or is sound
 LAYOUTS = {
     "null": Layout((Type.NULL, 0, 0), "HDMI 1.4, 5.3.2"),
@@ -459,6 +502,34 @@ LAYOUTS = {
         judged=NOTHING,
         is_offered=True,
     ),
+    "dolby": Layout(
+        (Type.VENDOR, 1, 27),
+        "Dolby Vision",
+        DOLBY_FIELDS,
+        (*VENDOR_LINES, *_alike("Dolby Vision|Dolby_Vision_Signal|YES\nlow latency|Low_Latency|YES"), Line("payload", "{payload:hex}")),
+        {"payload": Octets(5)},
+        where={"IEEE": DOLBY},
+        least=4,
+        judged=NOTHING,
+        is_offered=True,
+    ),
+    "hdr10+": Layout(
+        (Type.VENDOR, 1, 27),
+        "HDR10+",
+        HDR10_PLUS_FIELDS,
+        (
+            *VENDOR_LINES,
+            Line("HDR10+ version", "{Application_Version}", "Application_Version {Application_Version}"),
+            Line("display luminance", f"code {{{LUMINANCE}}}", f"{LUMINANCE} {{{LUMINANCE}}}"),
+            Line("average", "code {Average_Maxrgb}", "Average_Maxrgb {Average_Maxrgb}"),
+            Line("payload", "{payload:hex}"),
+        ),
+        {"payload": Octets(6)},
+        where={"IEEE": HDR10_PLUS},
+        least=5,
+        judged=NOTHING,
+        is_offered=True,
+    ),
     "vendor": Layout(
         (Type.VENDOR, 1, 3),
         "CTA-861, 6.1",
@@ -521,6 +592,18 @@ LAYOUTS = {
         judged=NOTHING,
         is_offered=True,
     ),
+    "refresh": Layout(
+        (Type.EXTENDED, 0, 0),
+        "HDMI 2.1, 8.8 and 10.10",
+        REFRESH_FIELDS,
+        REFRESH_LINES,
+        where={"Organization_ID": 1, "Data_Set_Tag": 1},
+        further=EXTENDED_FIELDS,
+        preset={"First": 1, "Last": 1, "New": 1, "End": 1, "Sync": 1, "Data_Set_Length": 4},
+        judged=NOTHING,
+        is_offered=True,
+    ),
+    "extended": Layout((Type.EXTENDED, 0, 0), "HDMI 2.1, 8.8", EXTENDED_FIELDS, EXTENDED_LINES, judged=NOTHING, is_offered=True),
 }
 OFFERED = {name: layout for name, layout in LAYOUTS.items() if layout.is_offered}
 OTHER = (Reserved(True, 2, 0xE0, "HB2"),)  # the reserved bits of an InfoFrame that no layout has

@@ -72,6 +72,7 @@ SPEAKERS = _listed(*map(speakers.words, range(len(speakers.ALLOCATIONS))), other
 
 # Other InfoFrames (CTA-861, sections 6.1, 6.5, 6.7 and 6.9; HDMI 1.4, section 8.2.3).
 HDMI, FORUM = 0x000C03, 0xC45DD8  # the identifiers of vendor InfoFrames
+DOLBY, HDR10_PLUS = 0x00D046, 0x90848B
 SOURCES = _listed(
     *("unknown", "digital set-top box", "DVD player", "D-VHS", "hard disk recorder", "DVC", "digital still camera", "Video CD"),
     *("game console", "PC", "Blu-ray player", "Super Audio CD", "HD DVD", "PMP"),
@@ -114,6 +115,8 @@ PROTECTIONS = _listed("generic audio", "audio identified by IEC 60958", "DVD-Aud
 ISRC_STATES = Words({1: "starting", 2: "in the midst", 4: "ending"})
 ISRC_ENDS = _listed("no", "in a second packet")
 YES = _listed("no", "yes")
+OWNERS = _listed("a vendor", "HDMI", "CTA-861", "VESA")  # of the data sets of extended metadata
+DATA_SETS = _listed("periodic pseudo-static", "periodic dynamic", "unique", "reserved")
 SEQUENCES = _listed("in the midst", "first", "last", "the only one")
 PRECISIONS = _listed("8 bits", "10 bits", "12 bits", "reserved")
 GAMUT_SPACES = _listed("BT.709", "xvYCC601", "xvYCC709", "XYZ")

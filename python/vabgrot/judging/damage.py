@@ -10,17 +10,18 @@ from typing import NamedTuple
 import numpy as np
 import numpy.typing as npt
 
+from vabgrot.events import Ints
 from vabgrot.formats.characters import CONTROL, ISLAND_GUARD, ISLAND_GUARDS_0, PACKET, TERC4, VIDEO_GUARD
 from vabgrot.judging.spans import Spans
-from vabgrot.lanes.coding import BITS, damage_of
+from vabgrot.lanes.coding import BITS
 from vabgrot.lanes.columns import Columns
 from vabgrot.lanes.looking import IS_CONTROL
-from vabgrot.video.timings import Ints
+from vabgrot.lanes.search import damage_of
 
 KINDS = ("control", "guard", "packet", "video")
 IS_TERC4 = np.isin(np.arange(1024), TERC4)
 TO_TERC4 = BITS[np.arange(1024)[:, None] ^ np.array(TERC4)[None, :]].min(axis=1)
-TOGETHER = 256  # rows that are looked at together
+TOGETHER = 1024  # rows that are looked at together
 FEW = 2  # characters of a preamble that are wrong by damage; more are the source's
 
 
@@ -37,12 +38,6 @@ def exposed(spans: Spans) -> dict[str, int]:
     """How many characters of each kind a lane has."""
     guards = sum(2 * len(pairs) for pairs in spans.guards)
     return dict(zip(KINDS, (int(spans.runs[1].sum()), guards, PACKET * len(spans.packets), int(spans.rows[1].sum()))))
-
-
-def unread(spans: Spans, columns: Columns) -> int:
-    """How many columns nothing is known of."""
-    count = columns.count if spans.is_cut else min(columns.count, spans.columns)
-    return max(0, count - sum(exposed(spans).values()))
 
 
 def in_control(spans: Spans, columns: Columns) -> Iterator[Hit]:

@@ -1,25 +1,150 @@
-"""All rules over one capture."""
+"""All rules over one capture, and who is to blame for a failure: the source, or the damage of the link.
+
+The damage is measured in control periods, where it is seen at once. A kind of fault is the source's if it comes LEAST times, and TIMES as
+often as that damage makes it."""
 
 from __future__ import annotations
 
-from dataclasses import replace
+from dataclasses import dataclass, replace
+from functools import cached_property
 
+import numpy as np
+
+from vabgrot.content import Content
+from vabgrot.formats.characters import PACKET
 from vabgrot.formats.rules import OF_DVI, RULES
 from vabgrot.judging import of_link, of_packets, of_sound
-from vabgrot.judging.record import Record
-from vabgrot.judging.verdicts import Case, Verdict, unjudged
-from vabgrot.video.matching import Rate, Timing
+from vabgrot.judging.damage import in_rows
+from vabgrot.judging.diagnosis import Physician
+from vabgrot.judging.record import record_of
+from vabgrot.judging.spans import epoch_spans
+from vabgrot.judging.verdicts import DAMAGED, FAIL, Case, Verdict, unjudged
+from vabgrot.reading import openings_of
+
+LEAST, TIMES = 3, 4  # how many things, and how many times as many as the link's damage makes, until they are the source's
+UNSEEN = 3  # events: with 95 % confidence no more happened in what was looked at, if none was seen
+LOOKED, SINGLE = 64, 2  # rows whose characters are looked at, and the most damaged ones of a row on the average
+OF_OPENING = 60  # characters of an opening: preamble and guard bands, before and after
+OFTEN = 1e-3  # damaged characters, from which on some damaged blocks of packets pass as right
+OF_CONTENTS = frozenset(("InfoFrame length", "checksum", "reserved bits", "general control", "clock regeneration", "sample parity"))
+OF_RASTER = frozenset(("format", "AVI format"))
+OF_PRESENCE = frozenset(("AVI InfoFrame", "audio InfoFrame", "samples a line"))  # a mended packet came, whatever it says
 
 
-def verdicts(record: Record, rate: Rate = Rate(), measured: list[Timing] | None = None) -> list[Verdict]:
-    """The verdict on each rule, in the order of the rules; `measured` is the timing of the record, where it is known already."""
-    case = Case(record, rate, measured)
-    found = {one.rule.name: one for judge in (of_link, of_packets, of_sound) for one in judge.judged(case)}
-    return [found[name] for name in RULES]
+@dataclass(frozen=True, eq=False)
+class Damage:
+    """How much of a capture the link damaged."""
+
+    case: Case
+
+    @cached_property
+    def rate(self) -> float:
+        """At most which part of all characters is damaged, by control periods."""
+        control = 3 * int(self.case.record.periods[1].sum())
+        return min(1.0, (len(self.case.record.flaws.get("word", [])) + UNSEEN) / control) if control else 1.0
+
+    @cached_property
+    def is_astray(self) -> bool:
+        """Whether openings fit first, and none does from some place on: a lane lost whole characters, and nothing was aligned anew."""
+        _, whole = openings_of(self.case.content.reading.events)
+        right = np.flatnonzero(whole)
+        return bool(len(right)) and len(whole) - 1 - int(right[-1]) >= 10 * LEAST
+
+    @cached_property
+    def makes_rasters(self) -> bool:
+        """Whether something was lost, and all numbers of the raster that no format has were seen once."""
+        if not self.case.timings or not len(self.case.lost):
+            return False
+        raster = self.case.timings[0].raster
+        figures = {f"H {name}": one for name, one in raster.across.items()}
+        figures |= {f"V {name}": one for part in raster.down for name, one in part.items()}
+        wrong = [figures[one.name] for one in self.case.timings[0].matched.differences if one.name in figures]
+        return bool(wrong) and all(one.times == 1 for one in wrong)
+
+    @cached_property
+    def has_single_characters(self) -> bool:
+        """Whether rows with a wrong code are right but for single characters, so that a coder's mistake does not explain them."""
+        reading = self.case.content.reading
+        epoch = reading.epochs[0]
+        columns = reading.characters(epoch) if reading.path.is_file() else None
+        if columns is None:
+            return False
+        spans = epoch_spans(reading, epoch)
+        spans = replace(spans, faults=[(kind, *more) for kind, *more in spans.faults if kind == "code"][:LOOKED])
+        if not spans.faults or any(Physician(spans, columns).of_rows()):
+            return False
+        return sum(1 for _ in in_rows(spans, columns)) <= SINGLE * len(spans.faults)
+
+    def is_source(self, name: str, kinds: tuple[str, ...], of: str) -> bool:
+        """Whether fault lines are more than the damage makes."""
+        if self.is_astray or name == "video coding" and self.has_single_characters:
+            return False
+        flaws = [flaw for kind in kinds for flaw in self.case.record.flaws.get(kind, [])]
+        items, characters = self.exposed(name, of)
+        places = len({(flaw.at, flaw.lane) for flaw in flaws})
+        by_link = 1 - (1 - self.rate) ** characters
+        return places >= LEAST and places > TIMES * by_link * max(items, 1)
+
+    def exposed(self, name: str, of: str) -> tuple[int, float]:
+        """How many things may fail a rule, and how many characters each has."""
+        record = self.case.record
+        if name == "video coding":
+            widths = record.spans.rows[1]
+            return 3 * len(widths), float(widths.mean()) if len(widths) else 0.0
+        if name == "control characters":
+            return 3 * int(record.periods[1].sum()), 1.0
+        return of_link.counts_of(self.case)[of], 3.0 * PACKET if of == "packets" else OF_OPENING
+
+    def blamed(self, one: Verdict, intact: dict[str, Verdict]) -> Verdict:
+        """A failure with who made it. `intact` are the verdicts by packets without damage alone."""
+        name, why = one.rule.name, ""
+        if one.state != FAIL:
+            return one
+        if name in intact and intact[name].state != FAIL:
+            why = "by packets with damage alone"
+        elif name in OF_CONTENTS and one.times < LEAST and self.rate > OFTEN:
+            why = "too few to be told from the damage of the link"
+        elif name in OF_RASTER and self.makes_rasters:
+            why = "seen once, beside the damage of the link"
+        for rule, kinds, of in of_link.OF_FAULTS:
+            if rule == name and not self.is_source(name, kinds, of):
+                why = self.link_of(name)
+        return replace(one, state=DAMAGED, words=f"{one.words}; {why}") if why else one
+
+    def link_of(self, name: str) -> str:
+        """Why a kind of fault is the link's."""
+        if self.is_astray:
+            return "the lanes are aligned wrongly from some place on"
+        is_single = name == "video coding" and self.has_single_characters
+        return "single characters are damaged" if is_single else "no more than the damage of the link makes"
 
 
-def dvi_verdicts(record: Record, rate: Rate = Rate()) -> list[Verdict]:
-    """The same of a stream of DVI: what it has none of is not judged."""
-    found = {one.rule.name: one for one in of_link.judged(Case(record, rate))}
-    said = {name: replace(found[name], rule=replace(found[name].rule, clause=clause)) for name, clause in OF_DVI.items()}
-    return [said.get(name) or unjudged(name, "a stream of DVI has none of it") for name in RULES]
+def of_contents(case: Case) -> dict[str, Verdict]:
+    """The verdicts on packets and sound."""
+    return {one.rule.name: one for judge in (of_packets, of_sound) for one in judge.judged(case)}
+
+
+def intact_of(case: Case) -> dict[str, Verdict]:
+    """The same by the packets that came without damage; nothing if all did."""
+    packets = case.content.packets
+    if packets.intact[~packets.lost].all():
+        return {}
+    content = Content(case.content.reading, is_intact=True)
+    only = Case(content, record_of(content, case.record.meter), case.timings, case.rate)
+    only.fields = case.fields
+    return {name: one for name, one in of_contents(only).items() if name not in OF_PRESENCE}
+
+
+def judged(case: Case) -> list[Verdict]:
+    """The verdict on each rule, in the order of the rules."""
+    is_dvi, intact = case.record.spans.is_dvi, dict[str, Verdict]()
+    found = {one.rule.name: one for one in of_link.judged(case)}
+    if not is_dvi:
+        contents = of_contents(case)
+        intact = intact_of(case) if any(one.state == FAIL for one in contents.values()) else {}
+        found |= contents
+    damage = Damage(case)
+    found = {name: damage.blamed(one, intact) for name, one in found.items()}
+    if is_dvi:
+        found = {name: replace(found[name], rule=replace(found[name].rule, clause=clause)) for name, clause in OF_DVI.items()}
+    return [found.get(name) or unjudged(name, "a stream of DVI has none of it") for name in RULES]

@@ -17,13 +17,16 @@ from vabgrot.formats.characters import (
     VIDEO_GUARD,
     VIDEO_PREAMBLE,
 )
+from vabgrot.judging.places import place_at, rows_of
 from vabgrot.judging.spans import Spans
-from vabgrot.lanes.coding import BALANCE, BYTES, CODES
+from vabgrot.lanes.coding import BYTES
 from vabgrot.lanes.columns import Columns, Words
 from vabgrot.lanes.looking import IS_CONTROL
+from vabgrot.lanes.search import Explained
 
 SIGNALS = (("HSYNC", "VSYNC"), ("CTL0", "CTL1"), ("CTL2", "CTL3"))  # D0 and D1 of a control character, by lanes
 GAP = 4  # control columns behind a preamble within which its guard band is still looked for
+MOST_KEPT = 64  # rows whose explanation is kept
 NOT_KNOWN = "nothing is known of this column"
 
 
@@ -99,6 +102,8 @@ class Namer:
         pairs = [(begins, np.full(len(begins), 2)) for begins in spans.guards]
         self.parts = [(runs, counts), *pairs, (packets, np.full(len(packets), PACKET)), spans.rows]
         self.told = spans.of_kind("mended")
+        self.rows = rows_of(spans.rows[0])
+        self.kept: dict[tuple[int, int], Explained] = {}
 
     def at(self, column: int, count: int) -> list[Column]:
         """So many columns from one on, or as many as there are."""
@@ -186,16 +191,28 @@ class Namer:
         return f"bit {2 * place + lane - 1} of bodies 0 to 3 is {', '.join(str(value >> body & 1) for body in range(4))}"
 
     def pixel(self, column: int, words: Words, at: int) -> Column:
-        """A pixel: each character must code its byte at the disparity of those before it in the row."""
+        """A pixel. What was sent is what the least damage of the row leaves; it is named if only one character does so."""
         first = int(self.spans.rows[0][at])
         names, wanted = [], []
         for lane, word in enumerate(words.tolist()):
-            disparity = int(BALANCE[self.columns.words(lane, first, column - first)].sum())
-            byte = int(BYTES[word])
-            code = int(CODES[int(np.sign(disparity)) + 1, byte])
-            names.append(f"byte {byte:02x}{' at' if code == word else ', not at'} disparity {disparity:+d}")
-            wanted.append("" if code == word else wanted_code(word, byte, code))
-        return self.made(column, f"pixel {column - first:,} of row {at:,}", words, names, wanted)
+            row = self.explained(at, lane)
+            fitting, disparity = row.fitting(column - first), row.disparity(column - first)
+            is_right = word in fitting
+            doubt = ", or damaged" if is_right and len(fitting) > 1 else ""
+            names.append(f"byte {int(BYTES[word]):02x}{' at' if is_right else ', not at'} disparity {disparity:+d}{doubt}")
+            wanted.append("" if is_right else wanted_code(fitting))
+        where = place_at(column, *self.spans.rows, self.rows)
+        says = f"pixel {column - first:,} of row {at:,}" + (f", {where} as frame:row:pixel" if where else "")
+        return self.made(column, says, words, names, wanted)
+
+    def explained(self, row: int, lane: int) -> Explained:
+        """The explanation of a row of a lane; the last ones are kept."""
+        if (row, lane) not in self.kept:
+            if len(self.kept) >= MOST_KEPT:
+                self.kept.clear()
+            firsts, widths = self.spans.rows
+            self.kept[row, lane] = Explained(self.columns.words(lane, int(firsts[row]), int(widths[row])))
+        return self.kept[row, lane]
 
     def unknown(self, column: int, words: Words) -> Column:
         """A column that no line of the listing tells."""
@@ -211,8 +228,8 @@ class Namer:
         return self.made(column, "the first column behind a control period, and no guard band", words, names, wanted)
 
 
-def wanted_code(word: int, byte: int, code: int) -> str:
-    """What was wanted in place of a character that does not code its byte where it stands."""
-    sides = [name for side, name in enumerate(("below 0", "0", "above 0")) if CODES[side, byte] == word]
-    right = f"; it is right at a disparity {' or '.join(sides)}" if sides else "; no disparity asks for it"
-    return f"{code:03x}{right}"
+def wanted_code(fitting: list[int]) -> str:
+    """What was sent in place of a damaged pixel, if that is known."""
+    if len(fitting) == 1:
+        return f"{fitting[0]:03x}, byte {int(BYTES[fitting[0]]):02x}"
+    return f"one of {len(fitting)} characters that fit"

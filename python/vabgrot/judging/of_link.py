@@ -18,7 +18,7 @@ OF_FAULTS = (  # a rule, the kinds of fault lines that break it, and what there 
     ("preamble", ("preamble",), "openings"),
     ("opening", ("noise",), "control columns"),
     ("guard band", ("guard",), "openings"),
-    ("whole periods", ("empty", "broken"), "openings"),
+    ("whole periods", ("empty", "broken", "longline"), "openings"),
     ("island length", ("longisland",), "islands"),
     ("video coding", ("code",), "rows"),
     ("TERC4", ("symbols",), "packets"),

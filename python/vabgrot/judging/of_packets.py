@@ -3,22 +3,23 @@
 from __future__ import annotations
 
 from collections.abc import Callable, Iterator
+
 import numpy as np
 
+from vabgrot.events import Ints
 from vabgrot.formats.layouts import LAYOUTS, MOST_LENGTH, OTHER, Reserved, Type
 from vabgrot.formats.names import DEPTHS
 from vabgrot.infoframes import form_of, layout_of
-from vabgrot.judging.record import Heard
+from vabgrot.judging.record import Placed
 from vabgrot.judging.verdicts import Case, Verdict, counted, every_two, failed, passed, unjudged
 from vabgrot.packets import STRICT, Packet
-from vabgrot.video.timings import Ints
 
 MUTE_WINDOW = 384  # columns
 GROUPS = {5: 5, 6: 3, 7: 2}  # columns of a group of whole pixels, by the depth that general control says
 PHASES = {5: {0: 0, 2: 1, 3: 2, 4: 3}, 6: {0: 2, 2: 1}, 7: {0: 1}}  # of the last pixel, by what is left of whole groups
 
 
-def first_of(name: str, found: list[tuple[Heard, str]], count: int, unit: str) -> Verdict:
+def first_of(name: str, found: list[tuple[Placed, str]], count: int, unit: str) -> Verdict:
     """Fails with the first of these packets and what is wrong with it; else passes, where there are such."""
     if found:
         one, words = found[0]
@@ -27,7 +28,7 @@ def first_of(name: str, found: list[tuple[Heard, str]], count: int, unit: str) -
     return passed(name, counted(count, unit)) if count else unjudged(name, f"there is no {unit}")
 
 
-def wrong_of(packets: list[Heard], wrong: Callable[[Packet], str]) -> list[tuple[Heard, str]]:
+def wrong_of(packets: list[Placed], wrong: Callable[[Packet], str]) -> list[tuple[Placed, str]]:
     """The packets with which something is wrong, and what, in words. Like packets are looked at once."""
     known: dict[tuple[bytes, bytes], str] = {}
     found = []
@@ -83,7 +84,7 @@ def reserved_of(packet: Packet) -> str:
     return "; ".join(found[:3])
 
 
-def reserved(case: Case) -> list[tuple[Heard, str]]:
+def reserved(case: Case) -> list[tuple[Placed, str]]:
     """The packets with reserved bits that are not 0. Of samples, of which there are many, the header alone has such."""
     its = LAYOUTS["samples"].reserved
     wrong = [one for one in case.whole if one.packet.kind != Type.SAMPLES or any(it.of(one.packet.header, b"")[1] for it in its)]
@@ -103,7 +104,7 @@ def control_of(packet: Packet) -> str:
 def mutes(case: Case) -> Verdict:
     """Whether mute is set and cleared within 384 columns from VSYNC on."""
     name = "mute"
-    which = [one for one in case.of_kind(Type.CONTROL) if (one.packet.number("Set_AVMUTE") or one.packet.number("Clear_AVMUTE"))]
+    which = [one for one in case.controls if (one.packet.number("Set_AVMUTE") or one.packet.number("Clear_AVMUTE"))]
     if not which:
         return unjudged(name, "no packet sets or clears mute")
     leads = np.array(sorted({edge for span in case.fields for edge in (span.begin, span.end)}), np.int64)
@@ -121,7 +122,7 @@ def mutes(case: Case) -> Verdict:
 
 def depths(case: Case) -> Iterator[Verdict]:
     """The rules of deep colour: general control in each field, whole groups of pixels, and the phase."""
-    deep = [one for one in case.of_kind(Type.CONTROL) if one.packet.number("CD") in GROUPS]
+    deep = [one for one in case.controls if one.packet.number("CD") in GROUPS]
     if not deep:
         yield unjudged("deep colour", "no packet says more than 24 bits a pixel")
         yield unjudged("pixel packing phase", "no packet says more than 24 bits a pixel")
@@ -140,13 +141,13 @@ def depths(case: Case) -> Iterator[Verdict]:
         words = f"no general control packet with a depth in {counted(len(missing), 'field')}"
         yield failed("deep colour", words, missing[0].begin, len(missing))
     elif doubtful or not where:
-        yield unjudged("deep colour", "no whole field was seen, or a packet was lost in one")
+        yield unjudged("deep colour", "no whole field was seen, or the link may have lost a packet in one")
     else:
         yield passed("deep colour", f"{DEPTHS[depth]} bits a pixel, {counted(len(where), 'field')}")
     yield phases(deep, first, widths)
 
 
-def phases(deep: list[Heard], first: Ints, widths: Ints) -> Verdict:
+def phases(deep: list[Placed], first: Ints, widths: Ints) -> Verdict:
     """Whether each general control packet says the phase of the last pixel that was sent before it."""
     wrong, judged = [], 0
     for one in deep:

@@ -1,38 +1,42 @@
-"""What is gathered of a link listing, so that it can be judged."""
+"""What is gathered of a capture, so that it can be judged. Columns count over all epochs."""
 
 from __future__ import annotations
 
+from dataclasses import dataclass
 from functools import cached_property
 from typing import NamedTuple
 
 import numpy as np
 
-from vabgrot import link, packets
-from vabgrot.formats.faults import OF_PACKET
-from vabgrot.judging.spans import Spans
-from vabgrot.video.timings import Ints, Meter
+from vabgrot.content import Content
+from vabgrot.events import Ints
+from vabgrot.judging.spans import Spans, spans_of
+from vabgrot.packets import Packet
+from vabgrot.video.timings import Meter
 
 
-class Heard(NamedTuple):
+class Placed(NamedTuple):
     """A packet: its first column, and whether no block of it was lost."""
 
     at: int
-    packet: packets.Packet
+    packet: Packet
     is_whole: bool
 
 
 class Flaw(NamedTuple):
-    """A fault line: its column, and its lane (-1 where it has none)."""
+    """A fault line: its column, and its lane (-1 if it has none)."""
 
     at: int
     lane: int
 
 
+@dataclass(frozen=True, eq=False)
 class Record:
-    """What a link listing says: where HSYNC, VSYNC and rows change, which columns are what, and the packets."""
+    """Where HSYNC, VSYNC and rows change, which columns are what, and the packets."""
 
-    def __init__(self, meter: Meter, spans: Spans, heard: list[Heard]) -> None:
-        self.meter, self.spans, self.packets = meter, spans, heard
+    meter: Meter
+    spans: Spans
+    packets: list[Placed]
 
     @property
     def columns(self) -> int:
@@ -47,7 +51,7 @@ class Record:
     @property
     def islands(self) -> Ints:
         """The first columns of islands."""
-        return self.spans.guards[1]
+        return self.spans.opens
 
     @cached_property
     def periods(self) -> tuple[Ints, Ints]:
@@ -65,32 +69,8 @@ class Record:
         return found
 
 
-class Gatherer:
-    """Takes the things of a link listing (those of `link.Columns`), one after another."""
-
-    def __init__(self, is_dvi: bool = False) -> None:
-        self.meter, self.spans, self.packets = Meter(), Spans(is_dvi), list[Heard]()
-        self.pending: link.Thing | None = None
-        self.is_lost = False
-
-    def take(self, thing: link.Thing) -> None:
-        """The next thing of the listing."""
-        if self.pending is not None and thing.fault not in OF_PACKET:
-            self.settle()
-        self.meter.take(thing)
-        self.spans.take(thing)
-        if thing.kind == "packet":
-            self.pending, self.is_lost = thing, False
-        elif thing.kind == "fault":
-            self.is_lost |= thing.fault == "lost"
-
-    def settle(self) -> None:
-        """Keeps the last packet, now that all is said of it."""
-        thing, self.pending = self.pending, None
-        if thing is not None:
-            self.packets.append(Heard(thing.at, packets.packet_of(thing.texts, thing.line), not self.is_lost))
-
-    def finish(self) -> Record:
-        """The record, once no more lines come."""
-        self.settle()
-        return Record(self.meter, self.spans, self.packets)
+def record_of(content: Content, meter: Meter) -> Record:
+    """The record that the rules are asked of."""
+    reading, packets = content.reading, content.packets
+    heard = [Placed(at, packet, not lost) for at, packet, lost in zip(packets.at.tolist(), packets, packets.lost.tolist())]
+    return Record(meter, spans_of(reading.events, reading.at, reading.columns, reading.is_dvi), heard)

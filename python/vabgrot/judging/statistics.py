@@ -9,6 +9,7 @@ import numpy as np
 from scipy import stats
 
 from vabgrot.judging.damage import Hit
+from vabgrot.judging.places import rows_of as row_numbers
 from vabgrot.judging.spans import Spans
 from vabgrot.lanes.coding import Ints
 
@@ -69,7 +70,7 @@ def rows_of(columns: Ints, spans: Spans) -> list[str]:
         return []
     row = np.searchsorted(firsts, columns, "right") - 1
     inside = (row >= 0) & (columns < firsts[row] + widths[row])
-    number = numbers_of(firsts)
+    number = row_numbers(firsts).numbers
     count = int(inside.sum())
     found = []
     for name, places, groups in (
@@ -82,10 +83,3 @@ def rows_of(columns: Ints, spans: Spans) -> list[str]:
             if times[at] > 2 and is_more(int(times[at]), count, 1 / groups, groups):
                 found.append(f"closer than chance: {name} {int(values[at]):,} of the picture has {int(times[at]):,} of {count:,}")
     return found
-
-
-def numbers_of(firsts: Ints) -> Ints:
-    """The number of each row in its frame, from 0: a new one begins behind a gap that is wider than those of most rows."""
-    gaps = np.diff(firsts)
-    begins: Ints = np.append(0, np.flatnonzero(gaps > 1.5 * np.median(gaps)) + 1)
-    return np.asarray(np.arange(len(firsts)) - begins[np.searchsorted(begins, np.arange(len(firsts)), "right") - 1])

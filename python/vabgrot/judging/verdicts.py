@@ -1,4 +1,4 @@
-"""The verdict on a rule, and what the judges share."""
+"""The verdict on a rule, and the capture that is judged."""
 
 from __future__ import annotations
 
@@ -9,17 +9,24 @@ from typing import Any
 
 import numpy as np
 
+from vabgrot.content import Content
+from vabgrot.events import Ints
+from vabgrot.formats.characters import PACKET
+from vabgrot.formats.layouts import BODIES, Type
 from vabgrot.formats.rules import RULES, Rule
-from vabgrot.judging.record import Heard, Record
-from vabgrot.video.matching import Rate, Timing, timings
-from vabgrot.video.timings import DEPTH, LOST, Ints, edges, ints, spans
+from vabgrot.judging.record import Placed, Record
+from vabgrot.video.matching import Rate, Timing
+from vabgrot.video.timings import DEPTH, LOST, edges, held, period_of, spans, without_pulses
 
-PASS, FAIL, OPEN = "pass", "fail", "not judged"
+PASS, FAIL, DAMAGED, OPEN = "pass", "fail", "damaged", "not judged"
+ORDER = (FAIL, DAMAGED, OPEN, PASS)  # as verdicts are shown
+TWO = 2  # fields
 
 
 @dataclass(frozen=True)
 class Verdict:
-    """What is said of a rule: pass, fail or not judged; in words, and of a failure the first column and how often."""
+    """What is said of a rule: pass; fail (the source is wrong); damaged (the damage of the link explains it); or not judged. In words,
+    and for a failure the first column and how often."""
 
     rule: Rule
     state: str
@@ -57,15 +64,11 @@ class Span:
 
 
 class Case:
-    """A capture that is judged: what was gathered of it, and what is given or found of its rate."""
+    """A capture that is judged: what is known of it, its timing, and what is given of its rate."""
 
-    def __init__(self, record: Record, rate: Rate = Rate(), measured: list[Timing] | None = None) -> None:
-        self.record, self.rate, self.measured = record, rate, measured
-
-    @cached_property
-    def timings(self) -> list[Timing]:
-        """What is said of each raster."""
-        return timings(self.record.meter, self.rate) if self.measured is None else self.measured
+    def __init__(self, content: Content, record: Record, timings: list[Timing], rate: Rate = Rate()) -> None:
+        self.content, self.record, self.timings, self.rate = content, record, timings, rate
+        self.lost: Ints = content.losses.at  # columns at which something may be missing
 
     @cached_property
     def clock(self) -> float | None:
@@ -80,14 +83,17 @@ class Case:
 
     @cached_property
     def fields(self) -> list[Span]:
-        """The whole fields: what lies between two leading edges of VSYNC, with nothing between them that could not be counted."""
+        """The whole fields: what lies between two leading edges of VSYNC, with nothing between them that could not be read. VSYNC is as
+        the raster has it: one damaged character makes no field."""
         meter = self.record.meter
         tall = next((one.raster.tall for one in self.timings if one.raster.tall is not None), None)
         if tall is None:
             return []
-        words = spans(ints(meter.words), ints(meter.known))
-        damaged = spans(ints(meter.damaged), ints(meter.damaged) + 32)
-        vsync = edges(ints(meter.vsync), words, damaged)
+        words, damaged = spans(meter.words, meter.known), spans(meter.damaged, meter.damaged + PACKET)
+        period, changes = period_of(edges(meter.hsync, words, damaged)), meter.vsync
+        if period:
+            changes = held(without_pulses(changes, words, np.iinfo(np.int64).max), period, meter.slips)
+        vsync = edges(changes, words, damaged)
         found: list[Span] = []
         begin: int | None = None
         for column, level, seen in zip(vsync.columns.tolist(), vsync.levels.tolist(), vsync.seen.tolist()):
@@ -105,27 +111,44 @@ class Case:
         return [Span(one.begin, other.end) for one, other in zip(self.fields, self.fields[1:]) if one.end == other.begin]
 
     @cached_property
+    def field(self) -> float | None:
+        """The columns of a field: as they were measured, or as the format has them that the raster is; None if neither is known."""
+        if not self.timings:
+            return None
+        first = self.timings[0]
+        wanted = first.matched.wanted
+        pixels = first.raster.columns or (float(wanted.columns) if wanted and not first.matched.differences else None)
+        return pixels * first.raster.bits / DEPTH if pixels else None
+
+    def longest(self, begin: int, end: int) -> Span:
+        """The longest stretch between two columns in which nothing may be missing."""
+        losses = self.lost[(self.lost >= begin) & (self.lost < end)]
+        begins, ends = np.append(begin, losses), np.append(losses, end)
+        at = int((ends - begins).argmax())
+        return Span(int(begins[at]), int(ends[at]))
+
+    @cached_property
     def line(self) -> float | None:
         """The columns of a line, None where they were not seen."""
         totals = [one.raster.across["total"].value for one in self.timings if "total" in one.raster.across and one.raster.bits == DEPTH]
         return totals[0] if totals else None
 
     @cached_property
-    def whole(self) -> list[Heard]:
+    def whole(self) -> list[Placed]:
         """The packets without a lost block."""
         return [one for one in self.record.packets if one.is_whole]
 
-    def of_kind(self, kind: int) -> list[Heard]:
+    def of_kind(self, kind: int) -> list[Placed]:
         """The whole packets of a type."""
         return [one for one in self.whole if one.packet.kind == kind]
 
-    @cached_property
-    def lost(self) -> Ints:
-        """The columns of the packets with a lost block."""
-        return np.array([one.at for one in self.record.packets if not one.is_whole], np.int64)
+    @property
+    def controls(self) -> list[Placed]:
+        """The General Control packets that are known: those with four equal bodies."""
+        return [one for one in self.of_kind(Type.CONTROL) if one.packet.bodies.count(one.packet.bodies[0]) == BODIES]
 
     def without(self, places: list[int], among: list[Span]) -> tuple[list[Span], int]:
-        """The spans in which none of these columns lies, and how many of these may have one in a packet that was lost."""
+        """The spans in which none of these columns lies, and how many of these may have one that the link lost."""
         columns = np.array(places, np.int64)
         found, doubtful = [], 0
         for span in among:
@@ -139,9 +162,9 @@ class Case:
 
 
 def total_of(found: list[Verdict]) -> str:
-    """How many rules are kept and how many are not, in words."""
+    """How many rules are in which state, in words."""
     counts = Counter(one.state for one in found)
-    return f"{counts[PASS]} pass, {counts[FAIL]} fail, {counts[OPEN]} are not judged"
+    return f"{counts[PASS]} pass, {counts[FAIL]} fail, {counts[DAMAGED]} damaged by the link, {counts[OPEN]} not judged"
 
 
 def is_seen(timing: Timing) -> bool:
@@ -160,9 +183,24 @@ def counted(count: int, name: str) -> str:
     return f"{count:,} {name}{'s' * (count != 1)}"
 
 
-def every_two(case: Case, name: str, what: str, places: list[int], among: list[Span] | None = None) -> Verdict:
-    """Whether in each two fields (of `among`, if given) one of these columns lies."""
-    pairs = case.pairs if among is None else among
+def absent(case: Case, name: str, what: str, begin: int, end: int) -> Verdict:
+    """The verdict on what has to come in each two fields, and did not come between two columns: a failure from two fields' time on."""
+    stretch, length = case.longest(begin, end), case.field
+    if length is None:
+        return unjudged(name, f"no {what} came, and no whole field was seen")
+    fields = (stretch.end - stretch.begin) / length
+    if fields < TWO:
+        why = case.content.losses.between(begin, end)
+        return unjudged(name, f"no {what} came in the time of {fields:.1f} fields{f'; {why}' if why else ''}")
+    return failed(name, f"no {what} came in {stretch.end - stretch.begin:,} columns, the time of {fields:.1f} fields", stretch.begin)
+
+
+def every_two(case: Case, name: str, what: str, places: list[int], within: Span | None = None) -> Verdict:
+    """Whether in each two fields one of these columns lies; of those that `within` touches, if it is given."""
+    whole = within or Span(0, case.record.columns)
+    if not places:
+        return absent(case, name, what, whole.begin, whole.end)
+    pairs = [pair for pair in case.pairs if whole.begin < pair.end and pair.begin < whole.end]
     if not pairs:
         return unjudged(name, f"no two whole fields were seen; {counted(len(places), what)} came")
     found, doubtful = case.without(places, pairs)
@@ -170,5 +208,5 @@ def every_two(case: Case, name: str, what: str, places: list[int], among: list[S
         words = f"none in {len(found):,} of {counted(len(pairs), 'pair')} of fields; {counted(len(places), what)} in all"
         return failed(name, words, found[0].begin, len(found))
     if doubtful:
-        return unjudged(name, f"{doubtful:,} of {counted(len(pairs), 'pair')} of fields have none, but a packet that was lost")
+        return unjudged(name, f"{doubtful:,} of {counted(len(pairs), 'pair')} of fields have none, but the link may have lost it")
     return passed(name, f"{counted(len(places), what)}, and one in each of {counted(len(pairs), 'pair')} of fields")

@@ -1,10 +1,8 @@
-"""The video coding of a lane (DVI 1.0, section 3.2.2; HDMI 1.4, section 5.4.4) as tables, and which characters of a row were
-damaged."""
+"""The video coding of a lane (DVI 1.0, section 3.2.2; HDMI 1.4, section 5.4.4) as tables."""
 
 from __future__ import annotations
 
 import functools
-from typing import NamedTuple
 
 import numpy as np
 import numpy.typing as npt
@@ -15,7 +13,6 @@ Ints = npt.NDArray[np.int64]
 COUNT = 1 << TEN
 BITS = np.array([word.bit_count() for word in range(COUNT)], np.int64)  # the ones of each character
 BALANCE = 2 * BITS - TEN  # ones less zeros
-FAR = 1 << 20  # a cost that nothing has
 
 
 def made_of(byte: int) -> tuple[int, bool]:
@@ -55,55 +52,6 @@ def disparities() -> tuple[int, ...]:
             known.add(other)
             left.append(other)
     return tuple(sorted(known))
-
-
-@functools.cache
-def distances() -> npt.NDArray[np.int32]:
-    """By how many bits a received character differs at least from one that is sent at a disparity and leads to another one: three
-    axes, the disparity before it, the character, the disparity behind it. FAR where none does."""
-    states = disparities()
-    table = np.full((len(states), COUNT, len(states)), FAR, np.int32)
-    for before, here in enumerate(states):
-        sent = CODES[int(np.sign(here)) + 1]
-        behind = here + BALANCE[sent]
-        unlike = BITS[np.arange(COUNT)[:, None] ^ sent[None, :]]
-        for number, there in enumerate(states):
-            at = np.flatnonzero(behind == there)
-            if len(at):
-                table[before, :, number] = unlike[:, at].min(axis=1)
-    return table
-
-
-class Damage(NamedTuple):
-    """The characters of rows that were damaged: the numbers of the row and of the pixel, and by how many bits at least."""
-
-    rows: Ints
-    pixels: Ints
-    bits: Ints
-
-
-def damage_of(rows: npt.NDArray[np.uint16], start: int = 0) -> Damage:
-    """The least damage that makes of rows of one length, coded from the disparity `start` on, the rows that were received."""
-    states, table = disparities(), distances()
-    count, width = rows.shape
-    cost = np.full((count, len(states)), FAR, np.int32)
-    cost[:, states.index(start)] = 0
-    came = np.zeros((width, count, len(states)), np.int8)
-    for pixel in range(width):
-        steps = cost[:, :, None] + table[:, rows[:, pixel], :].transpose(1, 0, 2)
-        best = steps.argmin(axis=1)
-        came[pixel] = best
-        cost = np.take_along_axis(steps, best[:, None, :], axis=1)[:, 0, :]
-    state = cost.argmin(axis=1)
-    found: list[tuple[int, int, int]] = []
-    every = np.arange(count)
-    for pixel in range(width - 1, -1, -1):
-        before = came[pixel, every, state].astype(np.int64)
-        bits = table[before, rows[:, pixel], state]
-        found += [(int(row), pixel, int(bits[row])) for row in np.flatnonzero(bits)]
-        state = before
-    found.sort()
-    return Damage(*(np.array([one[axis] for one in found], np.int64) for axis in range(3)))
 
 
 def first_unlike(words: npt.NDArray[np.uint16], start: int = 0) -> int | None:

@@ -9,13 +9,12 @@ import numpy as np
 import numpy.typing as npt
 
 from vabgrot import capture
-from vabgrot.errors import Refused
 from vabgrot.formats.characters import ISLAND_GUARDS_0, LEAST_CONTROL, TEN
 from vabgrot.lanes.looking import GUARD, IS_CONTROL, OTHER, Bits, characters_of, lock_of
 from vabgrot.lanes.openings import beginnings, first_alignment
 
 Words = npt.NDArray[np.uint16]
-LOOKED = 1 << 22  # bits of each lane among which the first alignment is looked for first
+LOOKED = 1 << 17  # bits of each lane among which the first alignment is looked for first
 PART = 1 << 17  # the same, where it is looked for often
 GUARDS = 2  # columns of a guard band
 BANDS = (((GUARD,), (OTHER,), (GUARD,)), (ISLAND_GUARDS_0, (OTHER,), (OTHER,)))  # of a line, of an island
@@ -60,35 +59,30 @@ def confirmed_edges(lanes: Sequence[Bits]) -> list[int] | None:
     return None
 
 
-def alignment_of(path: Path, by_guards: bool = False) -> list[int] | None:
-    """The place of each lane at which the first aligned column begins, of the alignment that a guard band confirms where that is asked;
-    None where there is no full alignment."""
+def alignment_of(path: Path, place: int, by_guards: bool) -> list[int] | None:
+    """The place of each lane at which the first aligned column begins, of the first alignment from a place on, or of the first one that a
+    guard band confirms (`by_guards`); None if there is none."""
     most = LOOKED
     while True:
-        lanes = beginnings(path, most)
+        lanes = beginnings(path, most, place)
         edges = confirmed_edges(lanes) if by_guards else first_alignment([edges_of(lane) for lane in lanes])
         if edges is not None:
-            return [edge - TEN * LEAST_CONTROL for edge in edges]
+            return [place + edge - TEN * LEAST_CONTROL for edge in edges]
         if max(map(len, lanes)) < most:
             return None
         most *= 8
 
 
 class Columns:
-    """The characters of the three lanes of a capture from its first full alignment on, or from the first one that a guard band confirms
-    (`by_guards`). `starts` are the places of the first ones, `count` is how many columns all three lanes have. Refused where the file is
-    no capture; ValueError where nothing aligns."""
+    """The characters of the three lanes of a capture from the places `starts` on, as far as each lane has so many bits. `count` is how
+    many columns there are."""
 
-    def __init__(self, path: Path, by_guards: bool = False) -> None:
+    def __init__(self, path: Path, starts: Sequence[int], bits: Sequence[int]) -> None:
         with open(path, "rb") as file:
-            self.bits, self.first = capture.header_of(file.read(16))
-        starts = alignment_of(path, by_guards)
-        if starts is None:
-            raise ValueError("no alignment")
-        self.starts = starts
-        self.lengths = [(bits + 7) // 8 for bits in self.bits]
+            counts, self.first = capture.header_of(file.read(capture.HEADER))
+        self.starts, self.lengths = starts, [(count + 7) // 8 for count in counts]
         self.data = np.memmap(path, np.uint8, "r")
-        self.count = min((bits - start) // TEN for bits, start in zip(self.bits, starts))
+        self.count = max(0, min((count - start) // TEN for count, start in zip(bits, starts)))
 
     def bytes_of(self, lane: int, begin: int, end: int) -> npt.NDArray[np.uint8]:
         """The bytes of a lane from `begin` to before `end`, from the blocks in which they lie."""
@@ -116,11 +110,3 @@ class Columns:
     def place(self, lane: int, column: int) -> int:
         """The place of the lane's bits at which a column begins."""
         return self.starts[lane] + TEN * column
-
-
-def columns_of(path: Path, by_guards: bool = False) -> Columns:
-    """The columns of a capture; refused where nothing aligns too."""
-    try:
-        return Columns(path, by_guards)
-    except ValueError as why:
-        raise Refused(f"{path}: {why}") from None

@@ -1,15 +1,12 @@
 """What a capture's lanes look like: control characters, what control periods end in, and the lanes' bit order, order and
 polarity."""
 
-import shlex
 from collections.abc import Sequence
 from itertools import permutations, product
-from pathlib import Path
 from typing import NamedTuple
 
 import numpy as np
 import numpy.typing as npt
-from tqdm import tqdm
 
 from vabgrot.formats.characters import (
     ALL,
@@ -129,20 +126,6 @@ def looked(bits: Bits) -> tuple[Turn, Ends] | None:
     return (turn, ends) if ends else None
 
 
-def lane_line(number: int, count: int, found: tuple[Turn, Ends] | None) -> str:
-    """The line on a lane of so many bits."""
-    if not found:
-        return f"lane {number}: {count} bits, no twelve control characters in a row in any bit order"
-    turn, ends = found
-    kinds = {"2cc": GUARD, "133": OTHER}
-    counts = ", ".join(f"{int((ends.guards == kind).sum())} in {text}" for text, kind in kinds.items())
-    islands = int(np.isin(ends.guards, ISLAND_GUARDS_0).sum())
-    return (
-        f"lane {number}: {count} bits, locks {turn} at place {ends.lock}; of {len(ends.places)} control periods "
-        f"{counts} and {islands} in an island's guard of lane 0"
-    )
-
-
 def openings(found: Sequence[Ends]) -> Words:
     """The preambles and guards of the three lanes at each end that all three have within 70 bits: lanes by ends by the two."""
     first = found[0].places
@@ -192,66 +175,3 @@ def fit_of(rows: Words) -> tuple[Fit, int]:
         fits.append(Fit(right_openings(turned[list(order)]), order, inverts))
     best = max(fits, key=lambda fit: (fit.right, -len(fit.inverts) - 2 * (fit.order != (0, 1, 2))))
     return best, sum(fit.right == best.right for fit in fits) - 1
-
-
-def changes(fit: Fit, turns: Sequence[Turn]) -> str:
-    """The words that pack the lanes as they are wanted, each of which is of one bit order."""
-    order = [fit.order.index(lane) for lane in range(3)]
-    words = ["--order " + ",".join(map(str, order))] if order != [0, 1, 2] else []
-    if fit.inverts:
-        words.append("--invert " + ",".join(map(str, sorted(order[lane] for lane in fit.inverts))))
-    units = {turn.unit for turn in turns}
-    if units == {TEN}:
-        words.append("--words 16")
-    if units in ({TEN}, {BYTES.unit}):
-        words.append("--msb")
-    return " ".join(words)
-
-
-def commands(tool: str, path: str, words: str, turns: Sequence[Turn], counts: Sequence[int]) -> str:
-    """The commands that pack a capture anew, to be pasted, by the tool as it was called."""
-    tool = shlex.quote(tool)
-    stem = Path(path).with_suffix("")
-    files = " ".join(shlex.quote(f"{stem}.lane{lane}") for lane in range(3))
-    unit = turns[0].unit
-    bits = ",".join(str((count - turn.start) // unit * unit) for count, turn in zip(counts, turns))
-    kind, source = " --words 16" if unit == TEN else "", f" < {shlex.quote(path)}"
-    unpack = f"{tool} unpack{kind} {files}"
-    if any(turn.start for turn in turns):
-        starts = ",".join(str(turn.start) for turn in turns)
-        unpack, source = f"{tool} cut {shlex.quote(path)} --from {starts} | {unpack}", ""
-    again = shlex.quote(f"{stem}.again.tmc")
-    return f"{unpack}{source} && {tool} pack {words} --bits {bits} {files} > {again}"
-
-
-def judged(tool: str, path: str, lanes: Sequence[bytes | bytearray], counts: Sequence[int]) -> tuple[list[str], bool]:
-    """The lines that say what was found of the lanes of the capture in a file, and whether it is right as it is; `tool` is
-    how `lanes` was called."""
-    each = []
-    for lane, count in zip(tqdm(lanes, unit="lane", disable=None), counts):
-        each.append(looked(np.unpackbits(np.frombuffer(lane, np.uint8), bitorder="little")[:count]))
-    lines = [lane_line(number, *pair) for number, pair in enumerate(zip(counts, each))]
-    found = [it for it in each if it is not None]
-    if len(found) < len(each):
-        return lines + ["no alignment: not all lanes lock"], False
-    turns = [turn for turn, _ in found]
-    rows = openings([ends for _, ends in found])
-    if not rows.shape[1]:
-        return lines + [f"no alignment: no control periods of the three lanes end within {MOST_SKEW} bits"], False
-    fit, others = fit_of(rows)
-    if not fit.right:
-        text = "no guards: order and polarity cannot be told (DVI has none), or a wire of another lane is here"
-        return lines + [text], False
-    words, share, units = changes(fit, turns), f"{fit.right} of {rows.shape[1]} openings", {turn.unit for turn in turns}
-    if not words and units == {AS_IT_IS.unit}:
-        return lines + [f"right as it is: {share}"], True
-    if units == {TEN}:
-        doubt = "" if any(turn.start for turn in turns) else ", or its words were packed without --msb"
-        lines.append(f"the serialiser sends the highest bit first{doubt}")
-    turned = [f"lane {number} {turn}" for number, turn in enumerate(turns) if turn != AS_IT_IS]
-    besides = f" and {', '.join(turned)}" if len(units) > 1 else ""
-    doubt = f"; so they are with {others} other orders and polarities" if others else ""
-    lines.append(f"with `{' '.join(['lanes pack', words]).strip()}`{besides}: {share} are right{doubt}")
-    if not besides:
-        lines.append(f"to be pasted: {commands(tool, path, words, turns, counts)}")
-    return lines, False

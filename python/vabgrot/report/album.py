@@ -11,7 +11,7 @@ from typing import Any
 import numpy as np
 from PIL import Image
 
-from vabgrot.link import Frame
+from vabgrot.content import Frame
 from vabgrot.report.alike import Alike
 from vabgrot.video.colours import Signal
 from vabgrot.video.images import colours_of, shallow

@@ -52,7 +52,7 @@ def burst_of(faults: Faults, group: list[int]) -> Burst | None:
 def standing_alone(periods: Periods, faulty: list[int]) -> Iterator[int]:
     """The first columns of the rows and islands without a fault that stand after twelve control columns and before one."""
     quiet, first = 0, None
-    for kind, at, columns in zip(periods["kind"], periods["at"], periods["columns"]):
+    for kind, at, columns in zip(periods["kind"].tolist(), periods["at"].tolist(), periods["columns"].tolist()):
         if kind == CONTROL:
             if first is not None and bisect_left(faulty, first) == bisect_left(faulty, at):
                 yield first

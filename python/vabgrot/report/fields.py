@@ -5,7 +5,7 @@ from dataclasses import dataclass, field
 from fractions import Fraction
 from typing import NamedTuple, TypedDict
 
-from vabgrot.link import Frame
+from vabgrot.content import Frame
 from vabgrot.video.weaving import Pair, Weaver, lines_down
 
 WOVEN = """The video is interlaced: {fields} fields are woven into {frames}, since half a line lies between them from VSYNC to their first

@@ -1,85 +1,46 @@
-"""What a link listing tells, gathered for a page: periods, faults, frames, packets, samples, and the lines
-themselves."""
+"""What a capture carried, gathered for a page: frames and lines while it is read, then periods, faults and packets."""
 
 from __future__ import annotations
 
-from array import array
-from collections import Counter
+from collections.abc import Iterable
 from dataclasses import dataclass, field
+from functools import cached_property
 from typing import Generic, Protocol, TypedDict, TypeVar
 
 import numpy as np
 
-from vabgrot import packets
-from vabgrot.batch import CARRIED, Batch, Gathering
-from vabgrot.contents import READ_AVI, Contents, odd_sides, sides_of
+from vabgrot.content import Content, Flow, Frame, Packets, bodies_of, odd_sides
+from vabgrot.events import ENDS, UNTOLD, WORDS, Event, Events, Ints, Kind
 from vabgrot.formats.characters import TEN
-from vabgrot.formats.faults import ANEW, LANED, OF_PACKET, UNCOUNTED
-from vabgrot.formats.layouts import Type
-from vabgrot.link import CLOSE, ISLAND_PACKET, KINDS as LISTED, OPEN, VIDEO, Columns, Doubts, Frame, Frames, Ints, Thing
+from vabgrot.formats.layouts import BODIES, Type
+from vabgrot.packets import Content as Carried
+from vabgrot.packets import Packet, content_of, is_other_size
+from vabgrot.reading import Reading
 from vabgrot.report.fields import Fields
-from vabgrot.report.sound import Sound
 from vabgrot.report.text import Text
+from vabgrot.verdict import READ_AVI
 from vabgrot.video import images
 from vabgrot.video.colours import Signal
 from vabgrot.video.signals import Signals
-from vabgrot.video.timings import Meter
 
 PERIODS = ("control", "video", "packet", "open", "close", "unknown", "unaligned")
-NUMBERS = {name: number for number, name in enumerate(PERIODS)}
+OF_KIND = np.array([PERIODS.index(name) for name in ("control", "video", "open", "packet", "close")], np.int64)  # by Kind
+UNKNOWN, UNALIGNED = map(PERIODS.index, ("unknown", "unaligned"))
 MOST_KNOWN = 4096  # unlike packets whose content is kept
-KINDS = {name: PERIODS.index(name) for name in ("control", "video", "packet", "open", "close")}
-OF_KIND = np.array([KINDS.get(name, 0) for name in LISTED], np.int64)  # the period that a line of a batch is
-
-
-class Told:
-    """What packets carry, each once: of those of samples without a wrong parity in words alone."""
-
-    def __init__(self) -> None:
-        self.known: dict[bytes, packets.Content] = {}
-
-    def of(self, packet: packets.Packet) -> packets.Content:
-        """What a packet carries."""
-        is_plain = packet.kind == Type.SAMPLES and are_even(packet)
-        return self.of_samples(packet) if is_plain else self.by(packet.header + packet.bytes, packet)
-
-    def of_samples(self, packet: packets.Packet) -> packets.Content:
-        """What a packet of samples carries without a wrong parity, in words."""
-        return self.by(packet.header, packet)
-
-    def by(self, key: bytes, packet: packets.Packet) -> packets.Content:
-        """What a packet carries, and all that are alike by this key."""
-        found = self.known.get(key)
-        if found is None:
-            found = packets.content_of(packet)
-            if len(self.known) < MOST_KNOWN:
-                self.known[key] = found
-        return found
-
-
-def are_even(packet: packets.Packet) -> bool:
-    """Whether each side of each sample of a packet of these has an even number of ones."""
-    return not any(sample.uneven() for sample in packets.samples_of(packet))
+CLEAN = ["clean"] * (BODIES + 1)  # of the blocks of a packet
 
 
 @dataclass
 class Received:
-    """A packet with its place, and what the listing says of it: what was found of its five blocks, and how many of its
-    characters are none of TERC4."""
+    """A packet with its place, what it carries (None if a block is lost), what was found of its five blocks, and how many of its characters
+    are none of TERC4."""
 
     line: int
-    epoch: int
-    column: int
     at: int
-    packet: packets.Packet
-    content: packets.Content | None = None
-    verdicts: list[str] = field(default_factory=lambda: ["clean"] * 5)
-    symbols: int = 0
-
-    def read(self, told: Told) -> None:
-        """Reads the content, where no block is lost."""
-        if "lost" not in self.verdicts:
-            self.content = told.of(self.packet)
+    packet: Packet
+    content: Carried | None
+    verdicts: list[str]
+    symbols: int
 
     @property
     def words(self) -> str:
@@ -87,15 +48,15 @@ class Received:
         return self.content.words if self.content else "not read, since a block is lost"
 
 
-@dataclass
-class Epoch:
-    """The bits from a slip on, or from the beginning of the capture: its first column, its place in the capture, whether its
-    lanes were aligned, and where they were not, how many bits of each lane it has: they have no line of the listing."""
+@dataclass(frozen=True)
+class Stretch:
+    """An epoch as a page shows it: its first column, its place in the capture, whether its lanes were aligned, and if they were not, how
+    many bits of each lane it has: they have no line of the listing."""
 
-    at: int = 0
-    place: int = 0
-    is_aligned: bool = False
-    hidden: int = 0
+    at: int
+    place: int
+    is_aligned: bool
+    hidden: int
 
     @property
     def hidden_columns(self) -> int:
@@ -107,21 +68,16 @@ class Periods(TypedDict):
     """A table of periods, column by column: its kind as a number of PERIODS, its first column, how many it has, its line of the
     listing, and what it has: the value of control columns, the pixels of a row, the first byte of a packet."""
 
-    kind: array[int]
-    at: array[int]
-    columns: array[int]
-    line: array[int]
-    value: array[int]
-
-
-def tables_of(periods: Periods) -> list[array[int]]:
-    """The columns of the table."""
-    return [periods["kind"], periods["at"], periods["columns"], periods["line"], periods["value"]]
+    kind: Ints
+    at: Ints
+    columns: Ints
+    line: Ints
+    value: Ints
 
 
 class Faults(TypedDict):
-    """A table of faults, column by column: the lane (-1 where it has none), the column of the capture, the epoch and the column in
-    it, the line of the listing, its other numbers, and the frame, the pixel and the colour there (-1 where they are not known)."""
+    """A table of faults, column by column: the lane (-1 if it has none), the column of the capture, the epoch and the column in
+    it, the line of the listing, its other numbers, and the frame, the pixel and the colour there (-1 if they are not known)."""
 
     kind: list[str]
     lane: list[int]
@@ -141,301 +97,198 @@ Shows = TypeVar("Shows", covariant=True)
 
 
 class Show(Protocol[Shows]):
-    """Turns a frame that ended at a column into what is kept of it: `ragged` rows have another width, and `vic` is the code of its
-    InfoFrame where that says another size; `signal` is how its pixels are sent."""
+    """Turns a frame into what is kept of it. `part` is how much of the capture was read at its end, `vic` the code of its InfoFrame if
+    that says another size, and `signal` how its pixels are sent."""
 
-    def __call__(self, frame: Frame, at: int, ragged: int, vic: int | None, signal: Signal) -> Shows: ...
+    def __call__(self, frame: Frame, part: float, vic: int | None, signal: Signal) -> Shows: ...
 
 
+@dataclass
 class Findings(Generic[Shown]):
-    """Takes the lines of a link listing in batches, and gives each frame to `show` when it ends."""
+    """Takes the events of a capture while it is read, and gives each frame to `show` when it ends. `columns` is how many come, about."""
 
-    def __init__(self, show: Show[Shown], is_dvi: bool | None = None, counter: Columns | None = None) -> None:
-        self.show, self.frames_of, self.text, self.sound = show, Frames(is_dvi), Text(), Sound()
-        self.frames_of.columns = counter or self.frames_of.columns
-        self.meter, self.signals, self.contents = Meter(), Signals(), Contents()
-        self.fields = Fields()
-        self.colour_notes: dict[str, None] = {}  # what is assumed of whole frames, once each
-        self.periods = Periods(kind=array("q"), at=array("q"), columns=array("q"), line=array("q"), value=array("q"))
-        self.faults = Faults(kind=[], lane=[], at=[], epoch=[], column=[], line=[], more=[], frame=[], x=[], y=[], rgb=[])
-        self.counts: Counter[tuple[str, int | None]] = Counter()  # of a link's faults, by kind and lane
-        self.content_counts: Counter[str] = Counter()
-        self.packets: list[Received] = []
-        self.frames: list[Shown] = []
-        self.pending: list[int] = []  # the faults among the rows of the frame that has not ended
-        self.last: Received | None = None  # the packet of which more may be said
-        self.told = Told()
-        self.epochs, self.rows, self.vic = [Epoch()], 0, 0
-        self.cut: Thing | None = None
-        self.unknown = -1  # the last period whose length is not known
-        self.is_certain = True
-        self.columns = 0  # so far, over all epochs
+    show: Show[Shown]
+    is_dvi: bool = False
+    columns: int = 1
+    flow: Flow = field(default_factory=Flow)
+    text: Text = field(default_factory=Text)
+    fields: Fields = field(default_factory=Fields)
+    frames: list[Shown] = field(default_factory=list)
+    notes: dict[str, None] = field(default_factory=dict)  # what is assumed of whole frames, once each
+    marks: list[tuple[Ints, int]] = field(default_factory=list)  # the numbers of the faults of each frame, and its number
+    pixels: dict[int, tuple[int, int, str]] = field(default_factory=dict)  # of faults, by their numbers: pixel, row and colour
+    vic: int = 0
+    covered: int = 0
 
-    @property
-    def counter(self) -> Columns:
-        """What counts the columns of a text."""
-        return self.frames_of.columns
+    def __post_init__(self) -> None:
+        self.signals = Signals(has_packets=not self.is_dvi)
 
-    @property
-    def doubts(self) -> Doubts:
-        """Which columns are not certain, since some before them could not be counted."""
-        return self.counter.doubts
-
-    @property
-    def aligned_columns(self) -> int:
-        """The columns without those of epochs that were not aligned."""
-        return self.columns - sum(epoch.hidden_columns for epoch in self.epochs)
-
-    def take(self, line: int, name: str, fields: list[str]) -> None:
-        """The next line of a text, given its number, its name and its fields."""
-        gathering, columns = Gathering(), self.counter
-        gathering.take(columns.take(line, name, fields), columns.missed)
-        self.take_batch(gathering.batch(columns.before + columns.column))
-
-    def take_batch(self, batch: Batch) -> None:
-        """The next lines. Frames end, and faults are told, at single places; what stands between two of them is taken together."""
-        self.columns = batch.end
-        self.text.take(batch)
-        self.meter.take_batch(batch)
-        self.contents.take(batch)
-        changes, special, missed = dict(self.frames_of.vsync.changes(batch)), dict(batch.special), dict(batch.missed)
-        begin = 0
-        for place in sorted({*changes, *special, *missed}):
-            thing = special.get(place)
-            self.regular(batch, begin, place)
-            if thing is None or thing.fault not in OF_PACKET:
-                self.settle()
-            begin = place
-            if place in missed:
-                self.shift(missed[place])
-            if place in changes:
-                self.change(batch, place, changes[place])
-            elif thing:
-                self.take_special(thing)
-                begin = place + 1
-        self.regular(batch, begin, len(batch))
-
-    def change(self, batch: Batch, place: int, streak: int) -> None:
-        """VSYNC changed among control columns, of which so many have its value."""
-        behind = int(batch.at[place] + batch.columns[place]) - batch.before
-        ended = self.frames_of.begin(behind - streak if batch.certain[place] else None)
-        if ended:
-            self.end_frame(ended, int(batch.at[place]))
-
-    def take_special(self, thing: Thing) -> None:
-        """A fault, a slip or a cut."""
-        if thing.kind != "slip":
-            self.epochs[-1].is_aligned = True
-        ended = self.frames_of.special(thing)
-        if ended:
-            self.end_frame(ended, thing.at)
-        if thing.kind == "cut":
-            self.cut = thing
-        else:
-            self.fault(thing)
-
-    def regular(self, batch: Batch, begin: int, stop: int) -> None:
-        """Lines of a batch among which no frame ends and no fault stands."""
-        if begin == stop:
-            return
-        self.epochs[-1].is_aligned = True
-        lines = slice(begin, stop)
-        kinds = batch.kinds[lines]
-        rows = begin + np.flatnonzero(kinds == VIDEO)
-        self.rows += len(rows)
-        self.frames_of.rows(batch, rows)
-        self.take_packets(batch, begin + np.flatnonzero(kinds == ISLAND_PACKET))
-        if kinds[-1] != ISLAND_PACKET:
-            self.settle()
-        values = np.where((kinds == OPEN) | (kinds == CLOSE), 0, batch.values[lines])
-        lists = OF_KIND[kinds], batch.at[lines], batch.columns[lines], np.arange(batch.first + begin, batch.first + stop), values
-        for table, numbers in zip(tables_of(self.periods), lists):
-            table.frombytes(numbers.tobytes())
-
-    def take_packets(self, batch: Batch, places: Ints) -> None:
-        """Packets that follow one another, with no fault between them: what is said of the last one may follow."""
-        if not len(places):
-            return
-        self.settle()
-        octets = batch.octets(places, 0, CARRIED)
-        samples = octets[:, 0] == Type.SAMPLES
-        samples[-1] = False
-        together = not odd_sides(*sides_of(octets[samples])).any()
-        if together:
-            self.sound.take_samples(octets[samples])
-        for place, column, is_sample in zip(places.tolist(), batch.at[places].tolist(), samples.tolist()):
-            self.settle()
-            self.last = Received(batch.first + place, batch.epoch, column - batch.before, column, batch.packet(place))
-            if together and is_sample:
-                self.keep(self.last, self.told.of_samples(self.last.packet))
-
-    def keep(self, received: Received, content: packets.Content) -> None:
-        """Keeps a packet of samples that are taken already."""
-        received.content, self.last = content, None
-        self.packets.append(received)
-        if content.faults:
-            self.content_counts.update(fault.split()[0] for fault in content.faults)
-
-    def shift(self, columns: int) -> None:
-        """The last period whose length is not known has so many columns more, and all behind it begins as much later."""
-        if columns and self.unknown >= 0:
-            for number in range(self.unknown + 1, len(self.periods["at"])):
-                self.periods["at"][number] += columns
-
-    def add_period(self, kind: str, at: int, columns: int, line: int, value: int) -> None:
-        """A row of the table of periods."""
-        periods = self.periods
-        periods["kind"].append(NUMBERS[kind])
-        periods["at"].append(at)
-        periods["columns"].append(columns)
-        periods["line"].append(line)
-        periods["value"].append(value)
-
-    def add_fault(self, thing: Thing, at: int, lane: int, more: list[int]) -> None:
-        """A row of the table of faults; its frame is not known as long as that has not ended."""
-        x, y, rgb = self.pixel() if thing.fault == "code" else (-1, -1, "")
-        self.faults["kind"].append(thing.fault)
-        self.faults["lane"].append(lane)
-        self.faults["at"].append(at)
-        self.faults["epoch"].append(thing.epoch)
-        self.faults["column"].append(thing.column)
-        self.faults["line"].append(thing.line)
-        self.faults["more"].append(more)
-        self.faults["frame"].append(-1)
-        self.faults["x"].append(x)
-        self.faults["y"].append(y)
-        self.faults["rgb"].append(rgb)
-
-    def settle(self) -> None:
-        """Reads the last packet, now that all is said of it."""
-        received, self.last = self.last, None
-        if received is None:
-            return
-        received.read(self.told)
-        self.packets.append(received)
-        content, packet = received.content, received.packet
-        if content is None:
-            if packet.kind == Type.SAMPLES:
-                self.sound.lose()
-            return
-        self.signals.take_packet(packet)
-        self.content_counts.update(fault.split()[0] for fault in content.faults)
-        if packet.kind == Type.CLOCK and not content.faults and not self.sound.clock:
-            self.sound.clock = packets.clock_numbers(packet)
-        elif packet.kind == Type.AVI and packet.version == READ_AVI and not content.faults:
-            self.vic = packet.number("VIC")
-            self.sound.vic = self.sound.vic or self.vic
-        elif packet.kind == Type.AUDIO and not content.faults:
-            self.sound.infoframe(packet)
-        self.sound.take(packet)
-
-    def fault(self, thing: Thing) -> None:
-        """A fault or a slip, with all that follows from it."""
-        kind, numbers = thing.fault, [*thing.numbers]
-        self.counts[kind, numbers[0] if kind in LANED else None] += 1
-        lane = numbers.pop(0) if kind in LANED else -1
-        if kind in ANEW:
-            self.hide(numbers[0])
-        if self.frames_of.frame.rows:
-            self.pending.append(len(self.faults["kind"]))
-        more = numbers if kind in ANEW else numbers[1:]
-        self.add_fault(thing, self.columns if kind in ANEW else thing.at, lane, more)
-        if kind in OF_PACKET and self.last:
-            self.judge(self.last, kind, more)
-        elif kind in ANEW:
-            self.is_certain &= thing.is_exact
-            self.epochs.append(Epoch(self.columns, numbers[0]))
-            self.sound.lose()
+    def take(self, events: Events) -> None:
+        """The next events."""
+        self.text.take(events)
+        self.keep(self.flow.take(events))
+        self.covered += int(events.width.sum())
+        if len(events.of(*ENDS)):
             self.fields.end()
-            self.cut, self.unknown = None, -1
-        elif thing.columns or kind in UNCOUNTED:
-            self.unknown = len(self.periods["at"])
-            self.add_period("unknown", thing.at, thing.columns, thing.line, 0)
 
-    def hide(self, end: int) -> None:
-        """The last epoch ends at this place of the capture. Where it was not aligned its bits are columns that no line tells."""
-        epoch = self.epochs[-1]
-        if not epoch.is_aligned and end > epoch.place:
-            epoch.hidden = end - epoch.place
-            self.add_period("unaligned", self.columns, epoch.hidden_columns, 0, 0)
-            self.counter.leave_out(epoch.hidden_columns)
-            self.columns += epoch.hidden_columns
-
-    @staticmethod
-    def judge(packet: Received, kind: str, more: list[int]) -> None:
-        """What a fault says of a packet."""
-        if kind == "symbols":
-            packet.symbols = more[0]
-        elif kind in ("mended", "lost"):
-            packet.verdicts[more[0]] = f"mended, bit {more[1]}" if kind == "mended" else "lost"
-
-    def pixel(self) -> tuple[int, int, str]:
-        """The place of the last `! code` in its frame, and the colour that was read there."""
-        frame = self.frames_of.frame
-        x = frame.marks[-1].pixel if frame.marks else None
-        if x is None:
-            return -1, len(frame.rows) - 1, ""
-        y = frame.marks[-1].row
-        return x, y, frame.rows[y][3 * x : 3 * x + 3].hex()
-
-    def end_frame(self, frame: Frame, at: int) -> None:
-        """Shows a frame that ended, and gives the faults that came among its rows to it."""
-        number, signal = len(self.frames), self.signal(frame)
-        for fault in self.pending:
-            self.faults["frame"][fault] = number
-            self.convert(fault, frame, signal)
-        self.pending = []
-        sizes = [*map(len, frame.rows)]
-        ragged = len(sizes) - sizes.count(sizes[0])
-        other = frame.is_whole and packets.is_other_size(self.vic, signal.sent(frame.width), len(frame.rows))
-        self.content_counts.update({"ragged": ragged * frame.is_whole, "vic": int(other)})
-        self.fields.take(number, frame, signal.pixels(frame.width))
-        self.frames.append(self.show(frame, at, ragged, self.vic if other else None, signal))
-
-    def signal(self, frame: Frame) -> Signal:
-        """How the pixels of a frame are sent; what is assumed of whole ones is noted."""
-        self.signals.has_packets = not self.frames_of.columns.is_dvi
-        reading = self.signals.reading(frame.width)
-        if frame.is_whole:
-            self.colour_notes.update(dict.fromkeys(reading.notes))
-        return reading.signal
-
-    def convert(self, fault: int, frame: Frame, signal: Signal) -> None:
-        """Has a fault of a frame name the pixel and the colour that its column is shown as."""
-        x, y = self.faults["x"][fault], self.faults["y"][fault]
-        if signal.is_plain or x < 0:
-            return
-        pixel, colours = signal.pixel(x), images.shallow(images.colours_of([frame.rows[y]], len(frame.rows[y]) // 3, signal))
-        known = pixel < colours.shape[1]
-        self.faults["x"][fault] = pixel if known else -1
-        self.faults["rgb"][fault] = colours[0, pixel].tobytes().hex() if known else ""
-
-    def finish(self, is_whole: bool, bits: int) -> None:
-        """No more lines come; a whole listing has its line `end`. `bits` are those of the longest lane."""
-        if is_whole:
-            self.text.end()
-        self.settle()
-        self.is_certain &= self.counter.is_exact
-        self.stretch()
-        frame = self.frames_of.finish()
-        if frame:
-            self.end_frame(frame, self.columns)
+    def finish(self) -> None:
+        """No more events come."""
+        self.text.end()
+        self.keep(self.flow.finish())
         self.fields.end()
-        if is_whole and len(self.epochs) > 1:
-            self.hide(bits)
-        if len(self.epochs) == 1 and not self.counter.is_dvi:
-            self.count_contents()
 
-    def count_contents(self) -> None:
-        """The faults of the contents of a capture without slips are those of `recover content`, which knows of no slips and reads HDMI
-        alone; frames of deep colour, of which it counts the columns, are compared with their InfoFrame by their pixels."""
-        sizes = self.content_counts["vic"]
-        self.content_counts = self.contents.told
-        if self.signals.depth:
-            self.content_counts["vic"] = sizes
+    def keep(self, known: Iterable[Packets | Frame]) -> None:
+        """What is known now."""
+        for it in known:
+            if isinstance(it, Frame):
+                self.end_frame(it)
+                continue
+            self.signals.take_packets(it)
+            for packet in it.of(Type.AVI):
+                if packet.version == READ_AVI and not content_of(packet).faults:
+                    self.vic = packet.number("VIC")
 
-    def stretch(self) -> None:
-        """What could not be counted goes on until the next period."""
-        at, columns = self.periods["at"], self.periods["columns"]
-        for number in np.flatnonzero(np.array(self.periods["kind"]) == NUMBERS["unknown"]).tolist():
-            columns[number] = max(1, (at[number + 1] if number + 1 < len(at) else self.columns) - at[number])
+    def end_frame(self, frame: Frame) -> None:
+        """Shows a frame that ended."""
+        number, it = len(self.frames), self.signals.reading(frame.width)
+        if frame.is_whole:
+            self.notes.update(dict.fromkeys(it.notes))
+        self.marks.append((frame.marks.place, number))
+        for place, _, row, pixel in frame.marks.of(Kind.CODE):
+            self.pixels[place] = coloured(frame, row, pixel, it.signal)
+        other = frame.is_whole and is_other_size(self.vic, it.signal.sent(frame.width), len(frame.rows))
+        self.fields.take(number, frame, it.signal.pixels(frame.width))
+        part = min(1.0, self.covered / max(self.columns, 1))
+        self.frames.append(self.show(frame, part, self.vic if other else None, it.signal))
+
+
+def coloured(frame: Frame, row: int, pixel: int, signal: Signal) -> tuple[int, int, str]:
+    """The pixel, the row and the colour that a fault of a frame is shown as."""
+    if pixel == UNTOLD:
+        return -1, row, ""
+    if signal.is_plain:
+        return pixel, row, frame.rows[row][3 * pixel : 3 * pixel + 3].hex()
+    shown, colours = signal.pixel(pixel), images.shallow(images.colours_of([frame.rows[row]], len(frame.rows[row]) // 3, signal))
+    known = shown < colours.shape[1]
+    return (shown, row, colours[0, shown].tobytes().hex()) if known else (-1, row, "")
+
+
+class Contents:
+    """What packets carry, each once."""
+
+    def __init__(self) -> None:
+        self.known: dict[bytes, Carried] = {}
+
+    def of(self, packet: Packet, is_even: bool) -> Carried:
+        """What a packet carries; of samples without a wrong parity in words alone."""
+        key = packet.header if packet.kind == Type.SAMPLES and is_even else packet.header + packet.bytes
+        found = self.known.get(key)
+        if found is None:
+            found = content_of(packet)
+            if len(self.known) < MOST_KNOWN:
+                self.known[key] = found
+        return found
+
+
+@dataclass(frozen=True, eq=False)
+class Page:
+    """What a page shows of a reading. Its columns count over all epochs, with those of epochs that were not aligned: they have no line."""
+
+    reading: Reading
+    content: Content
+
+    @cached_property
+    def stretches(self) -> list[Stretch]:
+        """The epochs."""
+        epochs, found, more = self.reading.epochs, list[Stretch](), 0
+        ends = [*(one.searched for one in epochs[1:]), max(self.reading.bits.read)]
+        for epoch, end in zip(epochs, ends):
+            is_hidden = len(epochs) > 1 and not epoch.columns and end > epoch.searched
+            found.append(Stretch(epoch.before + more, epoch.searched, epoch.columns > 0, end - epoch.searched if is_hidden else 0))
+            more += found[-1].hidden_columns
+        return found
+
+    @property
+    def columns(self) -> int:
+        """How many there are."""
+        return self.stretches[-1].at + self.reading.epochs[-1].columns + self.stretches[-1].hidden_columns
+
+    @cached_property
+    def at(self) -> Ints:
+        """The column of each event."""
+        more = np.array([one.at - epoch.before for one, epoch in zip(self.stretches, self.reading.epochs)], np.int64)
+        return self.reading.at + more[self.reading.events.epoch]
+
+    def place(self, column: int) -> int:
+        """A column of the reading as one of the page."""
+        epochs = self.reading.epochs
+        number = max((one.number for one in epochs if one.before <= column), default=0)
+        return column + self.stretches[number].at - epochs[number].before
+
+    @cached_property
+    def periods(self) -> Periods:
+        """The periods, also those that nothing is known of."""
+        events = self.reading.events
+        places = events.covering
+        kinds = OF_KIND[events.kind[places]]
+        bounds = (kinds == PERIODS.index("open")) | (kinds == PERIODS.index("close"))
+        rows = [np.column_stack([kinds, self.at[places], events.width[places], places + 1, np.where(bounds, 0, events.value[places])])]
+        gaps = self.reading.gaps
+        if len(gaps):
+            before = np.append(-1, places)[np.searchsorted(self.reading.at[places], gaps[:, 0])]
+            starts, nothing = np.array([self.place(at) for at in gaps[:, 0].tolist()], np.int64), np.zeros(len(gaps), np.int64)
+            rows.append(np.column_stack([nothing + UNKNOWN, starts, gaps[:, 1] - gaps[:, 0], before + 2, nothing]))
+        hidden = [(UNALIGNED, one.at, one.hidden_columns, 0, 0) for one in self.stretches if one.hidden]
+        rows.append(np.array(hidden, np.int64).reshape(-1, 5))
+        table = np.concatenate(rows)
+        kind, at, columns, line, value = table[np.argsort(table[:, 1], kind="stable")].T
+        return {"kind": kind, "at": at, "columns": columns, "line": line, "value": value}
+
+    def faults(self, found: Findings[Shown]) -> Faults:
+        """The faults, with the pixels that were found."""
+        events = self.reading.events
+        places = events.faults
+        views = [*events.views(places)]
+        frames = np.full(len(events) + 1, -1, np.int64)
+        for those, number in found.marks:
+            frames[those] = number
+        pixels = [found.pixels.get(place, (-1, -1, "")) for place in places.tolist()]
+        columns = [self.reading.epochs[one.epoch].columns if one.kind in ENDS else one.first for one in views]
+        return {
+            "kind": [WORDS[one.kind] for one in views],
+            "lane": [-1 if one.lane is None else one.lane for one in views],
+            "at": self.at[places].tolist(),
+            "epoch": [one.epoch for one in views],
+            "column": columns,
+            "line": (places + 1).tolist(),
+            "more": [[one.first] if one.kind in ENDS else [*one.more] for one in views],
+            "frame": frames[places].tolist(),
+            "x": [x for x, _, _ in pixels],
+            "y": [y for _, y, _ in pixels],
+            "rgb": [rgb for _, _, rgb in pixels],
+        }
+
+    @cached_property
+    def packets(self) -> list[Received]:
+        """The packets."""
+        its, events, contents = self.content.packets, self.reading.events, Contents()
+        even = ~odd_sides(its.octets, bodies_of(its.octets)).any(axis=(1, 2))
+        at = self.at[its.place].tolist()
+        found = []
+        for place, column, packet, is_lost, is_even, wrong in zip(
+            its.place.tolist(), at, its, its.lost.tolist(), even.tolist(), its.wrong.tolist()
+        ):
+            content = None if is_lost else contents.of(packet, is_even)
+            found.append(Received(place + 1, column, packet, content, CLEAN, wrong))
+        faults = events.of(Kind.MENDED, Kind.LOST)
+        for fault, number in zip(events.views(faults), (np.searchsorted(its.place, faults) - 1).tolist()):
+            received = found[number]
+            received.verdicts = [*CLEAN] if received.verdicts is CLEAN else received.verdicts
+            received.verdicts[fault.value] = f"mended, bit {fault.second}" if fault.kind == Kind.MENDED else "lost"
+        return found
+
+    @property
+    def cut(self) -> Event | None:
+        """Where the capture ends within a row, an island or an opening."""
+        cuts = self.reading.events.of(Kind.CUT)
+        return self.reading.events.view(int(cuts[-1])) if len(cuts) else None

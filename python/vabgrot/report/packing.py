@@ -6,7 +6,7 @@ from typing import TypedDict
 
 import numpy as np
 
-from vabgrot.link import Ints
+from vabgrot.events import Ints
 from vabgrot.report.findings import Periods
 
 KIND, VALUE = 3, 16  # bits of a key that are the kind, and with these the value
@@ -24,11 +24,8 @@ class Packed(TypedDict):
 
 def packed(periods: Periods) -> Packed:
     """The table."""
-    kinds, at, columns, lines, values = (
-        np.array(column, np.int64)
-        for column in (periods["kind"], periods["at"], periods["columns"], periods["line"], periods["value"])
-    )
-    keys, of = np.unique(columns << VALUE | values << KIND | kinds, return_inverse=True)
+    kinds, at, columns, lines = periods["kind"], periods["at"], periods["columns"], periods["line"]
+    keys, of = np.unique(columns << VALUE | periods["value"] << KIND | kinds, return_inverse=True)
     unlike = np.column_stack([keys & (1 << KIND) - 1, keys >> VALUE, (keys & (1 << VALUE) - 1) >> KIND])
     return {"unlike": unlike.tolist(), "of": of.tolist(), "at": steps(at, columns), "line": steps(lines, np.ones_like(lines))}
 

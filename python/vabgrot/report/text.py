@@ -8,9 +8,9 @@ from typing import TypedDict
 
 import numpy as np
 
-from vabgrot.batch import CARRIED, Batch
+from vabgrot.events import Events, Ints, Kind
 from vabgrot.formats.characters import PACKET
-from vabgrot.link import CLOSE, CONTROL, ISLAND_PACKET, OPEN, VIDEO, Ints
+from vabgrot.formats.layouts import CARRIED
 
 FULL_TEXT = 1_000_000  # bytes up to which the listing is kept whole
 FIRST_DIGITS = 48  # of a long row
@@ -36,21 +36,22 @@ class Text:
         self.keys: dict[int, tuple[int, int]] = {}  # of control columns and guards: the number of each line, and its bytes
         self.heads: dict[tuple[bytes, int], int] = {}  # of rows: the number of each, by its first pixels and how many it has
 
-    def take(self, batch: Batch) -> None:
-        """The next lines."""
-        kinds = batch.kinds
+    def take(self, events: Events) -> None:
+        """The next events, each of which is a line."""
+        kinds = events.kind
         numbers = np.empty(len(kinds), np.int64)
-        short = np.flatnonzero((kinds == CONTROL) | (kinds == OPEN) | (kinds == CLOSE))
-        numbers[short] = self.short(kinds[short].astype(np.int64), batch.values[short], batch.columns[short])
-        islands = np.flatnonzero(kinds == ISLAND_PACKET)
-        numbers[islands] = [self.add(line) for line in packet_lines(batch, islands)]
-        for place, thing in batch.special:
-            numbers[place] = self.add(f"cut {thing.column}" if thing.kind == "cut" else " ".join(("!", *map(str, thing.fields))))
-        rows = np.flatnonzero(kinds == VIDEO)
-        self.size += len(kinds) + int((len("v ") + 6 * batch.values[rows]).sum())
-        numbers[rows] = [*self.heads_of(batch, rows)]
+        short = events.of(Kind.RUN, Kind.OPEN, Kind.CLOSE)
+        numbers[short] = self.short(events[short])
+        islands = events.of(Kind.PACKET)
+        numbers[islands] = [self.add(line) for line in packet_lines(events, islands)]
+        for place in np.flatnonzero(kinds >= Kind.CUT).tolist():
+            event = events.view(place)
+            numbers[place] = self.add(event.line if event.is_fault else f"cut {event.first}")
+        rows = events.of(Kind.LINE)
+        self.size += len(kinds) + int((len("v ") + 6 * events.value[rows]).sum())
+        numbers[rows] = [*self.heads_of(events, rows)]
         if self.is_whole:
-            self.rows |= {len(self.of) + place: row_line(batch.row(place)) for place in rows.tolist()}
+            self.rows |= {len(self.of) + place: row_line(events.row(place).tobytes()) for place in rows.tolist()}
         else:
             self.rows.clear()
         self.of.frombytes(numbers.tobytes())
@@ -64,11 +65,13 @@ class Text:
         self.size += len(text)
         return self.number(text)
 
-    def short(self, kinds: Ints, values: Ints, columns: Ints) -> Ints:
+    def short(self, events: Events) -> Ints:
         """The numbers of lines of control columns and of guards."""
-        keys, places, counts = np.unique(kinds << KIND | values << VALUE | columns, return_inverse=True, return_counts=True)
-        found = np.empty(len(keys), np.int64)
-        for place, (key, times) in enumerate(zip(keys.tolist(), counts.tolist())):
+        values = np.where(events.kind == Kind.RUN, events.value, events.value + 4 * events.second)
+        keys = events.kind.astype(np.int64) << KIND | values << VALUE | events.width
+        unlike, places, counts = np.unique(keys, return_inverse=True, return_counts=True)
+        found = np.empty(len(unlike), np.int64)
+        for place, (key, times) in enumerate(zip(unlike.tolist(), counts.tolist())):
             if key not in self.keys:
                 text = short_line(key)
                 self.keys[key] = self.number(text), len(text)
@@ -76,12 +79,12 @@ class Text:
             self.size += times * size
         return found[places]
 
-    def heads_of(self, batch: Batch, rows: Ints) -> Iterator[int]:
-        """The numbers of rows, without most of their digits where they are long."""
-        data, known = batch.data, self.heads
-        for at, pixels in zip(batch.offsets[rows].tolist(), batch.values[rows].tolist()):
+    def heads_of(self, events: Events, rows: Ints) -> Iterator[int]:
+        """The numbers of rows, without most of their digits if they are long."""
+        data, known = events.data.data, self.heads
+        for at, pixels in zip(events.offset[rows].tolist(), events.value[rows].tolist()):
             is_short = 6 * pixels <= MOST_DIGITS
-            key = data[at : at + (3 * pixels if is_short else FIRST_DIGITS // 2)], pixels
+            key = bytes(data[at : at + (3 * pixels if is_short else FIRST_DIGITS // 2)]), pixels
             number = known.get(key)
             if number is None:
                 number = known[key] = self.number(row_line(key[0]) if is_short else f"{row_line(key[0])}.. ({pixels} pixels)")
@@ -120,12 +123,12 @@ def row_line(data: bytes) -> str:
 def short_line(key: int) -> str:
     """A line of control columns or of guards, by its key."""
     kind, value = key >> KIND, key >> VALUE & 255
-    return f"c {value:02x} {key & (1 << VALUE) - 1}" if kind == CONTROL else f"{'i' if kind == OPEN else 'e'} {value & 3}{value >> 2}"
+    return f"c {value:02x} {key & (1 << VALUE) - 1}" if kind == Kind.RUN else f"{'i' if kind == Kind.OPEN else 'e'} {value & 3}{value >> 2}"
 
 
-def packet_lines(batch: Batch, places: Ints) -> Iterator[str]:
+def packet_lines(events: Events, places: Ints) -> Iterator[str]:
     """The lines of packets."""
-    octets = batch.octets(places)
+    octets = events.octets(places)
     digits, syncs = octets[:, :CARRIED].tobytes().hex(), (octets[:, CARRIED:] & 3 | ord("0")).tobytes().decode()
     for number in range(len(places)):
         it = digits[2 * CARRIED * number : 2 * CARRIED * (number + 1)]

@@ -8,7 +8,7 @@ from base64 import b64encode
 from collections.abc import Iterator
 from pathlib import Path
 
-from vabgrot import place
+from vabgrot import building, place
 from vabgrot.errors import Refused
 from vabgrot.report import words
 
@@ -41,7 +41,9 @@ def read(name: str) -> bytes:
     except FileNotFoundError:
         if name != MODULE:
             raise
-        raise Refused(f"{FOLDER / name}: the receiver is missing; page/build makes it") from None
+        if not building.made("page", FOLDER / name):
+            raise Refused(f"{FOLDER / name}: the receiver of the page is missing. {building.how('page')}") from None
+        return place_of(name).read_bytes()
 
 
 def used(name: str) -> Iterator[str]:

@@ -7,7 +7,7 @@ import json
 from typing import Any
 
 from vabgrot import infoframes, packets, program
-from vabgrot.contents import READ_AVI
+from vabgrot.verdict import READ_AVI
 from vabgrot.formats import audio, layouts, modes, names, speakers
 from vabgrot.formats.faults import BY_ROW, CONTENT
 from vabgrot.hearing import NAMED

@@ -1,26 +1,30 @@
-"""The characters of a capture at a place, with their names, and what was wanted there."""
+"""The tool `characters`: the characters of a capture at a place, with their names and what was expected there."""
 
 from __future__ import annotations
 
 import argparse
 import json
 from collections.abc import Sequence
-from pathlib import Path
 
 from vabgrot import command
 from vabgrot.formats.characters import LANES
 from vabgrot.judging.diagnosis import causes_of
 from vabgrot.judging.naming import Column, Namer
-from vabgrot.judging.spans import spans_of
-from vabgrot.lanes.columns import columns_of
+from vabgrot.judging.places import PLACE, Place, column_of
+from vabgrot.judging.spans import epoch_spans, spans_of
+from vabgrot.lanes.encryption import Runs, encryption_of
+from vabgrot.reading import Reading, read
 
-TEXT = """Shows columns of a capture as they are counted by `recover link`, `check`, `tools/conform` and the page of `tools/report`: of each
-lane the ten bits, in hexadecimal digits and as q[9] to q[0], the name that the standard has for them where they stand, and what
-was wanted there. Without --at the first fault is shown. Behind the columns stands, where faults are alike, what makes them so:
-lanes that are exchanged, a coder that does not start at disparity 0, a missing guard band, a parity in reverse."""
+TEXT = """Shows columns of a capture, character by character. For each lane it prints the ten bits, in hexadecimal digits
+and as q[9] to q[0], the standard's name of the character at this place, and which character was expected.
+
+Columns are counted as by `recover link`, `check`, `tools/conform` and the page of `tools/report`. Without --at, the tool
+begins at the first fault. If the faults have a common cause, the last line names it: exchanged lanes, a coder that does not
+start at disparity 0, a missing guard band, or an inverted parity."""
 FAULTY = "done, and the capture has a fault"
 EXAMPLES = """./vabgrot make content < examples/bars.content > bars.tmc
-tools/characters bars.tmc --at 500 --count 8"""
+tools/characters bars.tmc --at 500 --count 8
+tools/characters bars.tmc --at 1:12:30"""
 BEFORE = 2  # columns that are shown before the first fault, where no column is given
 MOST = 100_000
 
@@ -28,14 +32,16 @@ MOST = 100_000
 def count(text: str) -> int:
     """A number of columns of the command line."""
     if not text.isdecimal() or not 1 <= int(text) <= MOST:
-        raise argparse.ArgumentTypeError(f"a number of 1 to {MOST} is wanted")
+        raise argparse.ArgumentTypeError(f"{text}: write a number of columns from 1 to {MOST}")
     return int(text)
 
 
-def place(text: str) -> int:
-    """A column of the command line."""
+def place(text: str) -> int | Place:
+    """A column of the command line, or a frame, a row and a pixel."""
+    if found := PLACE.fullmatch(text):
+        return Place(*map(int, found.groups()))
     if not text.replace(",", "").isdecimal():
-        raise argparse.ArgumentTypeError("the number of a column is wanted")
+        raise argparse.ArgumentTypeError(f"{text}: write the number of a column, or FRAME:ROW:PIXEL, as the report shows them")
     return int(text.replace(",", ""))
 
 
@@ -48,29 +54,52 @@ def lines_of(column: Column) -> list[str]:
     return lines
 
 
+def parser() -> argparse.ArgumentParser:
+    """The parser of the tool's words."""
+    found = command.parser("characters", TEXT, FAULTY, EXAMPLES)
+    command.add_capture(found)
+    text = "the first column, or its pixel: frame, row of the picture and pixel, each from 0 (default: the first fault)"
+    found.add_argument("--at", type=place, metavar="COLUMN|FRAME:ROW:PIXEL", help=text)
+    found.add_argument("--count", type=count, default=8, metavar="N", help="the number of columns (default: %(default)s)")
+    command.add_dvi(found)
+    command.add_json(found)
+    return found
+
+
 def work(argv: Sequence[str] | None) -> int:
-    parser = command.parser("characters", TEXT, FAULTY, EXAMPLES)
-    parser.add_argument("capture", metavar="CAPTURE", type=Path, help="the capture, as `make`, `damage` or `lanes pack` write it")
-    parser.add_argument("--at", type=place, metavar="COLUMN", help="the first column; if left out, that of the first fault")
-    parser.add_argument("--count", type=count, default=8, metavar="N", help="how many columns; if left out, %(default)s")
-    parser.add_argument("--dvi", action="store_true", help="the source is one of DVI, without guard bands and islands")
-    parser.add_argument("--json", action="store_true", help="write JSON in place of text")
-    args = parser.parse_args(argv)
-    spans = spans_of(args.capture, args.dvi)
-    columns = columns_of(args.capture)
-    first = args.at
+    words = parser()
+    args = words.parse_args(argv)
+    it = read(args.capture, args.dvi)
+    it.refuse_unaligned()
+    first = first_of(it, args.at)
     if first is None:
-        first = max(0, min((at for _, at, _ in spans.faults), default=0) - BEFORE)
-    if first >= columns.count:
-        parser.error(f"--at {first}: the capture has {columns.count} columns")
-    shown = Namer(spans, columns).at(first, args.count)
-    causes = causes_of(args.capture, spans, columns)
+        words.error(f"--at {args.at}: the capture has no such pixel. Choose one of a row that was received")
+    epoch = next((one for one in it.epochs if one.before <= first < one.behind), None)
+    columns = it.characters(epoch) if epoch else None
+    if epoch is None or columns is None:
+        words.error(f"--at {first}: the capture ends before this column. Choose one from 0 to {it.columns - 1}")
+    spans = epoch_spans(it, epoch, is_trusted=False)
+    shown = [one._replace(column=one.column + epoch.before) for one in Namer(spans, columns).at(first - epoch.before, args.count)]
+    encryption = encryption_of(Runs(*spans.runs))
+    causes = [str(encryption)] if encryption else causes_of(args.capture, spans, columns)
+    faulty = bool(len(it.events.faults))
     if args.json:
-        said = {"capture": str(args.capture), "faulty": bool(spans.faults), "columns": [one.plain() for one in shown], "alike": causes}
-        print(json.dumps(said, indent=1))
+        said = {"capture": str(args.capture), "faulty": faulty, "notes": it.notes}
+        print(json.dumps(said | {"columns": [one.plain() for one in shown], "alike": causes}, indent=1))
     else:
-        print("\n".join([line for one in shown for line in lines_of(one)] + [f"alike: {cause}" for cause in causes]))
-    return command.FAULTY if spans.faults else command.DONE
+        lines = [*it.notes, *(line for one in shown for line in lines_of(one)), *(f"alike: {cause}" for cause in causes)]
+        print("\n".join(lines))
+    return command.FAULTY if faulty else command.DONE
+
+
+def first_of(it: Reading, at: int | Place | None) -> int | None:
+    """The first column that is shown: a place of the command line, or a little before the first fault. None if there is no such pixel."""
+    if isinstance(at, Place):
+        return column_of(at, *spans_of(it.events, it.at, it.columns, it.is_dvi).rows)
+    if at is not None:
+        return at
+    faults = it.at[it.events.faults]
+    return max(0, int(faults.min()) - BEFORE) if len(faults) else 0
 
 
 def main(argv: Sequence[str] | None = None) -> int:

@@ -1,7 +1,8 @@
-"""Whether two captures carry the same, or a capture and the pictures and the sound that were sent."""
+"""The tool `compare`: whether two captures carry the same, or a capture and the pictures and sound that were sent."""
 
 from __future__ import annotations
 
+import argparse
 import json
 import math
 from collections.abc import Iterator, Sequence
@@ -19,13 +20,16 @@ from vabgrot.compared.matching import Pair, alone, offset_of, pairs_of
 from vabgrot.errors import Refused
 from vabgrot.replacing import replacing
 
-TEXT = """Compares what a capture carries with what another one does, or with pictures and a WAV file. Frames are matched by their
-content. Of each pair it writes whether it is equal, else the first unlike pixel, how many there are, PSNR and SSIM, and the CRC-32
-of both frames (of red, green and blue of each pixel, row by row); then the packets that came in one alone, and the samples that
-differ. Against pictures the pixels of a capture are converted to the colours that its InfoFrames tell, as `tools/pictures` does; of
-two captures bytes are compared. Of captures whole frames alone are compared; frames by which one of two captures begins earlier or
-ends later are named, and are no difference. Packets that were lost are not compared."""
-FAULTY = "done, and the two differ"
+TEXT = """Compares what two captures carry, or what a capture carries with pictures and a WAV file that were sent.
+
+Frames are matched by their content. For each pair of frames the tool says that they are equal, or it prints the first pixel
+that differs, the number of such pixels, PSNR and SSIM. It also prints the CRC-32 of both frames, over red, green and blue
+of each pixel, row by row. Then it lists the packets that only one side has, and the samples that differ.
+
+Against pictures, the pixels of a capture are converted to the colours that its InfoFrames name, as `tools/pictures` does.
+Two captures are compared byte by byte. Only whole frames of a capture are compared. If one capture begins earlier or ends
+later, its extra frames are named but are no difference. Lost packets are not compared."""
+FAULTY = "done, and there is a difference"
 EXAMPLES = """tools/content examples/sent.png examples/sent.png > sent.content
 ./vabgrot make content < sent.content > sent.tmc
 tools/compare sent.tmc examples/sent.png"""
@@ -50,7 +54,7 @@ class Compared:
 
 
 @dataclass(frozen=True)
-class Samples:
+class Together:
     """What came of the samples: how many were compared, from which on in each; how many differ, and the first of them in the first
     one; None for what is not known."""
 
@@ -96,25 +100,25 @@ def write_difference(folder: Path, number: int, first: Picture, second: Picture)
         Image.fromarray(shown).save(file, "PNG")
 
 
-def samples_of(mine: Carried, other: Carried) -> Samples | None:
+def samples_of(mine: Carried, other: Carried) -> Together | None:
     """The samples compared where they run together; None where nothing of one is found in the other."""
     offset = offset_of(mine.samples, other.samples)
     if offset is None:
         return None
     begin, end = max(0, -offset), min(len(mine.samples), len(other.samples) - offset)
     unlike = np.flatnonzero(mine.samples[begin:end] != other.samples[begin + offset : end + offset])
-    return Samples(end - begin, begin, begin + offset, len(unlike), begin + int(unlike[0]) if len(unlike) else None)
+    return Together(end - begin, begin, begin + offset, len(unlike), begin + int(unlike[0]) if len(unlike) else None)
 
 
 @dataclass
-class Verdict:
+class Outcome:
     """All that was compared: the frames, those that have no like one, the packets of one alone, and the samples. `says` are lines
     of text, and `differs` whether the two differ."""
 
     frames: list[Compared]
     lonely: list[Pair]
     packets: list[dict[str, Any]]
-    samples: Samples | None
+    samples: Together | None
     says: list[str]
     differs: bool
 
@@ -153,7 +157,7 @@ def packets_of(mine: Carried, other: Carried) -> list[dict[str, Any]]:
     return found
 
 
-def sample_lines(mine: Carried, other: Carried, samples: Samples | None) -> Iterator[str]:
+def sample_lines(mine: Carried, other: Carried, samples: Together | None) -> Iterator[str]:
     """What is said of the samples."""
     if samples is None:
         yield f"samples: nothing of the {len(mine.samples):,} of A is found among the {len(other.samples):,} of B"
@@ -163,9 +167,9 @@ def sample_lines(mine: Carried, other: Carried, samples: Samples | None) -> Iter
         yield f"samples: {samples.unlike:,} of {samples.count:,} differ, the first is sample {samples.first:,} of A"
 
 
-def verdict_of(mine: Carried, other: Carried, folder: Path | None) -> Verdict:
+def outcome_of(mine: Carried, other: Carried, folder: Path | None) -> Outcome:
     """All that is compared."""
-    found = Verdict([], [], packets_of(mine, other), None, [], False)
+    found = Outcome([], [], packets_of(mine, other), None, [*mine.first, *other.first], False)
     pairs = pairs_of(mine, other) if mine.frames or other.frames else []
     if other.is_reference and not other.frames:
         pairs = []
@@ -193,22 +197,27 @@ def verdict_of(mine: Carried, other: Carried, folder: Path | None) -> Verdict:
     return found
 
 
+def parser() -> argparse.ArgumentParser:
+    """The parser of the tool's words."""
+    found = command.parser("compare", TEXT, FAULTY, EXAMPLES, "done, and there is no difference")
+    found.add_argument("mine", metavar="A", type=Path, help="a capture, as `make`, `damage` or `lanes pack` writes it")
+    text = "another capture; or the pictures that the frames should show, and a WAV file"
+    found.add_argument("other", metavar="B", type=Path, nargs="+", help=text)
+    text = "draw the difference of each unequal pair of frames into this folder, as difference0000.png and so on"
+    found.add_argument("--pictures", metavar="DIR", type=Path, help=text)
+    command.add_json(found)
+    return found
+
+
 def work(argv: Sequence[str] | None) -> int:
-    parser = command.parser("compare", TEXT, FAULTY, EXAMPLES)
-    parser.add_argument("mine", metavar="A", type=Path, help="a capture, as `make`, `damage` or `lanes pack` write it")
-    text = "another capture; or pictures, with each of which frames are compared, and a WAV file"
-    parser.add_argument("other", metavar="B", type=Path, nargs="+", help=text)
-    text = "write the difference of each unlike pair of frames into this folder, as difference0000.png and so on"
-    parser.add_argument("--pictures", metavar="DIR", type=Path, help=text)
-    parser.add_argument("--json", action="store_true", help="write JSON in place of text")
-    args = parser.parse_args(argv)
+    args = parser().parse_args(argv)
     if args.pictures:
         args.pictures.mkdir(parents=True, exist_ok=True)
     is_picture = not any(kind_of(path) == CAPTURE for path in args.other)
     with carried([args.mine], converts=is_picture) as mine, carried(args.other) as other:
         if not mine.frames and other.frames and other.is_reference:
-            raise Refused(f"{args.mine}: it has no whole frame")
-        found = verdict_of(mine, other, args.pictures)
+            raise Refused(f"{args.mine}: it has no whole frame to compare. Record two frames or more")
+        found = outcome_of(mine, other, args.pictures)
     if args.json:
         said = {"a": mine.name, "b": other.name, "differ": found.differs, "frames": [asdict(one) for one in found.frames]}
         said |= {"alone": [pair._asdict() for pair in found.lonely], "packets": found.packets}

@@ -1,50 +1,31 @@
-"""Whether a capture is as HDMI 1.4, CTA-861 and IEC 60958 ask: pass or fail, rule by rule."""
+"""The tool `conform`: whether a capture obeys HDMI 1.4, CTA-861 and IEC 60958, rule by rule."""
 
 from __future__ import annotations
 
+import argparse
 import json
 from collections.abc import Sequence
 from pathlib import Path
 
-from tqdm import tqdm
-
-from vabgrot import command, link, listing, place, program
+from vabgrot import command
 from vabgrot.errors import Refused
-from vabgrot.judging.diagnosis import causes_of
-from vabgrot.judging.judge import dvi_verdicts, verdicts
-from vabgrot.judging.record import Gatherer, Record
-from vabgrot.judging.verdicts import FAIL, OPEN, PASS, Verdict, total_of
-from vabgrot.lanes.columns import Columns
+from vabgrot.judging.verdicts import DAMAGED, FAIL, OPEN, PASS, Verdict
 from vabgrot.replacing import replacing
 from vabgrot.tools.timing import positive
+from vabgrot.verdict import judge
 from vabgrot.video.matching import Rate
 
-TEXT = """Holds a capture of HDMI against the rules of HDMI 1.4, CTA-861 and IEC 60958, and writes a line for each: pass, fail or
-not judged, what was found, of a failure the first column, and the clause that asks it; then, where faults are alike, what makes
-them so. Not judged is what a capture cannot show:
-it is too short, has no sound, or its pixel clock is not known. The pixel clock is the one that is given, or that of the format
-that the raster is. `tools/characters` shows what stands at a column."""
+TEXT = """Checks an HDMI capture against the rules of HDMI 1.4, CTA-861 and IEC 60958. It prints one line for each rule:
+pass, FAIL or not judged, what it found, the first column of a failure, and the clause of the standard.
+
+A rule is not judged if the capture cannot show it: the capture is too short, it has no sound, or its pixel clock is not
+known. The pixel clock is the one that you give, or that of the video format that the tool recognises.
+
+If faults have a common cause, the last lines name it. `tools/characters` shows what is at a column."""
 FAULTY = "done, and a rule is broken"
 EXAMPLES = """./vabgrot make content < examples/bars.content > bars.tmc
 tools/conform bars.tmc --clock 25200000"""
-MARKS = {PASS: "pass", FAIL: "FAIL", OPEN: "not judged"}
-
-
-def gathered(path: Path, is_dvi: bool) -> tuple[Record, program.Run]:
-    """What the program's listing of a capture says, and the run that wrote it."""
-    words = ["recover", "dvi" if is_dvi else "link"]
-    if is_dvi and not program.has(*words):
-        raise Refused("the program has no `recover dvi`")
-    gatherer, columns = Gatherer(is_dvi), link.Columns(is_dvi=is_dvi)
-    with program.Run(words, path) as run:
-        lines = listing.lines(run.output, listing.LINK, is_whole=False, raw_rows=True)
-        for line in tqdm(lines, unit="line", disable=None):
-            gatherer.take(columns.take(*line))
-    if run.status not in (0, 1, program.NO_CAPTURE, program.NO_ALIGNMENT):
-        raise Refused(f"`{' '.join(words)}` of {path}: {run.note or f'status {run.status}'}")
-    if run.status == program.NO_CAPTURE:
-        raise Refused(f"{path}: {program.explained(run.note)}")
-    return gatherer.finish(), run
+MARKS = {PASS: "pass", FAIL: "FAIL", DAMAGED: "damaged", OPEN: "not judged"}
 
 
 def line_of(one: Verdict) -> str:
@@ -58,11 +39,11 @@ def write_junit(path: Path, capture: Path, found: list[Verdict]) -> None:
     try:
         from junitparser import Failure, JUnitXml, Skipped, TestCase, TestSuite
     except ImportError as why:
-        raise Refused(f"{why}; Debian's package python3-junitparser has it") from None
+        raise Refused(f"--junit: {why}. Install it: apt-get install python3-junitparser") from None
     suite = TestSuite(f"conform {capture.name}")
     for one in found:
         case = TestCase(one.rule.name, classname=one.rule.clause)
-        if one.state == FAIL:
+        if one.state in (FAIL, DAMAGED):
             case.result = [Failure(line_of(one))]
         elif one.state == OPEN:
             case.result = [Skipped(one.words)]
@@ -73,33 +54,34 @@ def write_junit(path: Path, capture: Path, found: list[Verdict]) -> None:
         file.write(xml.tostring())
 
 
-def work(argv: Sequence[str] | None) -> int:
-    parser = command.parser("conform", TEXT, FAULTY, EXAMPLES)
-    parser.add_argument("capture", metavar="CAPTURE", type=Path, help="the capture, as `make`, `damage` or `lanes pack` write it")
-    of_rate = parser.add_mutually_exclusive_group()
-    of_rate.add_argument("--clock", type=positive, metavar="HZ", help="the pixel clock; if left out, that of the format that the raster is")
-    text = "the frames a second, or the fields where it is interlaced"
+def parser() -> argparse.ArgumentParser:
+    """The parser of the tool's words."""
+    found = command.parser("conform", TEXT, FAULTY, EXAMPLES)
+    command.add_capture(found)
+    of_rate = found.add_mutually_exclusive_group()
+    of_rate.add_argument("--clock", type=positive, metavar="HZ", help="the pixel clock (default: that of the recognised video format)")
+    text = "the frames per second, or fields per second of interlaced video"
     of_rate.add_argument("--rate", type=positive, metavar="FIELDS_PER_SECOND", help=text)
-    text = "the source is one of DVI, without guard bands and islands: it has four of the rules"
-    parser.add_argument("--dvi", action="store_true", help=text)
-    parser.add_argument("--json", action="store_true", help="write JSON in place of text")
-    parser.add_argument("--junit", type=Path, metavar="FILE.xml", help="write the verdicts as JUnit XML too")
-    args = parser.parse_args(argv)
-    record, run = gathered(args.capture, args.dvi)
-    if run.status == program.NO_ALIGNMENT:
-        raise Refused(place.named(f"{args.capture}: no alignment: `tools/lanes look` says what the lanes have"))
-    rate = Rate(args.clock, args.rate)
-    found = dvi_verdicts(record, rate) if args.dvi else verdicts(record, rate)
+    text = "read a DVI source, which has no guard bands and no data islands; four rules apply to it"
+    found.add_argument("--dvi", action="store_true", help=text)
+    command.add_json(found)
+    found.add_argument("--junit", type=Path, metavar="FILE.xml", help="also write the verdicts as JUnit XML, for a build server")
+    return found
+
+
+def work(argv: Sequence[str] | None) -> int:
+    args = parser().parse_args(argv)
+    found = judge(args.capture, Rate(args.clock, args.rate), args.dvi)
     if args.junit:
-        write_junit(args.junit, args.capture, found)
-    faulty = any(one.state == FAIL for one in found)
-    causes = causes_of(args.capture, record.spans, Columns(args.capture)) if record.spans.faults else []
+        write_junit(args.junit, args.capture, found.rules)
+    causes = found.causes()
     if args.json:
-        said = {"capture": str(args.capture), "faulty": faulty, "columns": record.columns}
-        print(json.dumps(said | {"rules": [one.plain() for one in found], "alike": causes}, indent=1))
+        said = {"capture": str(args.capture), "verdict": found.plain(), "faulty": found.is_faulty, "columns": found.reading.columns}
+        print(json.dumps(said | {"rules": [one.plain() for one in found.rules], "alike": causes}, indent=1))
     else:
-        print("\n".join([*map(line_of, found), *(f"alike: {cause}" for cause in causes), total_of(found)]))
-    return command.FAULTY if faulty else command.DONE
+        lines = [found.headline, *found.reading.notes, *map(line_of, found.sorted_rules), *(f"alike: {cause}" for cause in causes)]
+        print("\n".join([*lines, found.total]))
+    return command.FAULTY if found.is_faulty else command.DONE
 
 
 def main(argv: Sequence[str] | None = None) -> int:

@@ -1,4 +1,4 @@
-"""Images and a WAV file into a content listing."""
+"""The tool `content`: makes a content listing from images and a WAV file."""
 
 import sys
 from argparse import ArgumentParser, ArgumentTypeError, Namespace
@@ -19,15 +19,17 @@ from vabgrot.video.colours import BT601, BT709, MATRICES, Encoding, Signal
 from vabgrot.video.signals import HD
 from vabgrot.video.sources import CODES, ENCODINGS, RANGES, Sender, size_of
 
-TEXT = """Writes the content listing of one frame an image to standard output, for `vabgrot make content`. Each frame
-has its AVI InfoFrame; with a sound it has the audio InfoFrame, a clock packet and as many samples as the rate asks
-for, with their channel status. A capture that begins within a frame shows the pictures from the next one on: give an
-image twice to see it come back. In place of files test patterns and a tone may be given.
+TEXT = """Writes a content listing to standard output, for `./vabgrot make content`: one frame for each image.
 
-Pixels are RGB of full range and 24 bits. --encoding, --matrix, --range, --depth and --repeat send others, which the AVI InfoFrame and
-a general control packet tell; a PNG file of 16 bits a component keeps as many of them as are sent. A sound of more than two
-channels is sent in layout 1, its speakers by the channel allocation of the audio InfoFrame. --packet adds InfoFrames and other
-packets to each frame: the names of their fields are those of CTA-861 and HDMI 1.4."""
+Each frame has its AVI InfoFrame. With a sound, it also has the audio InfoFrame, a clock packet and as many samples as the
+rate needs, with their channel status. Test patterns and a tone can take the place of files. A capture that begins within a
+frame shows the pictures from the next frame on, so give an image twice if you want to see it.
+
+Pixels are 24-bit RGB of full range. --encoding, --matrix, --range, --depth and --repeat change this, and the AVI InfoFrame
+and a General Control packet say so. A PNG file with 16 bits per component keeps as many of them as are sent.
+
+A sound of more than two channels is sent in layout 1, and the channel allocation of the audio InfoFrame names its speakers.
+--packet adds InfoFrames and other packets to each frame. Their fields have the names of CTA-861 and HDMI 1.4."""
 EXAMPLES = """tools/content examples/sent.png examples/sent.png > sent.content
 ./vabgrot make content < sent.content > sent.tmc
 tools/content pattern:bars pattern:moving*2 --vic 1 --sound tone:1000 | ./vabgrot make content > bars.tmc
@@ -41,10 +43,10 @@ def mode_of(text: str) -> Mode:
     """The value of --mode."""
     numbers = command.numbers(text, 65_535)
     if len(numbers) != 9 or numbers[8] > 1:
-        raise ArgumentTypeError("nine numbers with commas between them are wanted, the last 0 or 1")
+        raise ArgumentTypeError(f"{text}: write nine numbers with commas between them, the last one 0 or 1")
     for at, number in enumerate(numbers[:8]):
         if not LEAST.get(at, 1) <= number <= MOST_LENGTH:
-            raise ArgumentTypeError(f"number {at + 1}, {number}, is not {LEAST.get(at, 1)} to {MOST_LENGTH}")
+            raise ArgumentTypeError(f"number {at + 1} is {number}; write one from {LEAST.get(at, 1)} to {MOST_LENGTH}")
     return Mode(*numbers)
 
 
@@ -54,7 +56,7 @@ def timing_of(args: Namespace, size: tuple[int, int]) -> tuple[int, Timing, int]
         return 0, Timing(args.mode, 0, ""), args.clock or CUSTOM_CLOCK
     vic = args.vic or next((vic for vic in sorted(VICS) if VICS[vic].mode.size == size), None)
     if vic is None:
-        raise Refused(f"no video identification code has {size[0]} x {size[1]} pixels: give --vic V and --fit scale")
+        raise Refused(f"no video identification code has {size[0]} x {size[1]} pixels. Give --vic V and --fit scale")
     return vic, VICS[vic], args.clock or VICS[vic].clock
 
 
@@ -63,7 +65,7 @@ def signal_of(args: Namespace, vic: int, mode: Mode) -> tuple[Signal, int]:
     encoding = ENCODINGS[args.encoding]
     size = args.depth // 3
     if encoding == Encoding.YCC422 and args.depth > 36:
-        raise Refused("YCbCr 4:2:2 has 24, 30 or 36 bits")
+        raise Refused(f"--depth {args.depth}: YCbCr 4:2:2 cannot have so many bits. Give 24, 30 or 36")
     bits = 24 if encoding == Encoding.YCC422 else args.depth
     if encoding == Encoding.RGB:
         return Signal(encoding, None, args.range != "limited", bits, args.repeat), size
@@ -77,8 +79,8 @@ def refuse_unfit(paths: list[str], size: tuple[int, int]) -> None:
     for path in paths:
         width, height = size_of(path)
         if (width, height) != size:
-            wanted = f"the mode {size[0]} x {size[1]}; --fit scale makes it fit"
-            raise Refused(f"{path}: it has {width} x {height} pixels, and {wanted}")
+            wanted = f"the mode has {size[0]} x {size[1]}. Add --fit scale"
+            raise Refused(f"{path}: it has {width} x {height} pixels, but {wanted}")
 
 
 def refuse_crowded(mode: Mode, clock: int, sound: Sound | Wide | None, others: int) -> None:
@@ -89,7 +91,7 @@ def refuse_crowded(mode: Mode, clock: int, sound: Sound | Wide | None, others: i
         samples = min(sound.samples, -(-sound.rate * mode.columns // clock))
         wanted += 2 + (samples if isinstance(sound, Wide) else -(-samples // 4))
     if wanted > mode.room:
-        raise Refused(f"a frame of the mode has room for {mode.room} packets, and {wanted} are wanted")
+        raise Refused(f"a frame of the mode has room for {mode.room} packets, but needs {wanted}. Choose a mode with longer blanking")
 
 
 def avi_line(vic: int, aspect: str, sender: Sender, told: tuple[str, dict[str, int]]) -> str:
@@ -107,7 +109,7 @@ def sound_lines(sound: Sound | Wide, clock: int) -> list[str]:
     rate = RATES[sound.rate]
     cycles = round(clock * rate.n / (128 * rate.hertz))
     if not 1 <= cycles < 1 << 20:
-        raise Refused(f"a pixel clock of {clock} Hz and a rate of {rate.hertz} Hz have no clock packet")
+        raise Refused(f"a pixel clock of {clock} Hz and a rate of {rate.hertz} Hz have no clock packet. Choose another --clock")
     told = (sound.used - 1, sound.allocation) if isinstance(sound, Wide) else (1, 0)
     return [f"acr {rate.n} {cycles}\n", f"audio {told[0]} 0 0 0 {told[1]} 0 0\n"]
 
@@ -186,52 +188,50 @@ def frame_packets(args: Namespace, vic: int, aspect: str, sender: Sender) -> lis
 
 def signal_words(parser: ArgumentParser) -> None:
     """The words that say how pixels are sent, and which packets are."""
-    text = "the encoding of pixels: %(choices)s; if left out, rgb"
+    text = "the encoding of pixels: %(choices)s (default: rgb)"
     parser.add_argument("--encoding", choices=list(ENCODINGS), default="rgb", help=text)
-    text = "of YCbCr: BT.%(choices)s; if left out, 709 from 1,280 pixels a row on, and else 601"
+    text = "the matrix of YCbCr: BT.%(choices)s (default: 709 for rows of 1,280 pixels or more, otherwise 601)"
     parser.add_argument("--matrix", choices=list(MATRICES), help=text)
-    text = "the range of pixels: %(choices)s; if left out, full of RGB and limited of YCbCr"
+    text = "the range of pixels: %(choices)s (default: full for RGB, limited for YCbCr)"
     parser.add_argument("--range", choices=RANGES, help=text)
-    text = (
-        "the bits of a pixel: %(choices)s; if left out, 24. A component has a third of them; a PNG file of 16 bits keeps them"
-    )
+    text = "the bits of a pixel, a third of them for each component: %(choices)s (default: %(default)s)"
     parser.add_argument("--depth", type=int, choices=sorted(CODES), default=24, help=text)
-    text = "send each pixel N times, 1 to 10: the images have so many fewer pixels a row than the mode"
+    text = "send each pixel N times (1 to 10); a row of the image has 1/N of the pixels of the mode"
     parser.add_argument("--repeat", type=int, choices=range(1, 11), default=1, metavar="N", help=text)
-    text = f"a packet of each frame: one of {', '.join(making.OFFERED)}, and the numbers of its fields; `text` is that of ISRC packets"
+    text = f"add a packet to each frame. KIND is {', '.join(making.OFFERED)}. The field `text` is the text of ISRC packets"
     parser.add_argument("--packet", action="append", default=[], metavar="KIND:FIELD=N,..", help=text)
 
 
-def words() -> ArgumentParser:
-    """The tool's words."""
-    parser = command.parser("content", TEXT, examples=EXAMPLES)
-    text = f"a picture file, one a frame; or pattern:NAME[*N], N frames of a test pattern: {', '.join(patterns.PATTERNS)}"
-    parser.add_argument("images", nargs="+", metavar="IMAGE", help=text)
-    mode = parser.add_mutually_exclusive_group()
-    text = "a video identification code: %(choices)s; if left out, the first of the first image's size"
+def parser() -> ArgumentParser:
+    """The parser of the tool's words."""
+    found = command.parser("content", TEXT, examples=EXAMPLES)
+    text = f"an image file for each frame; or pattern:NAME[*N], N frames of a test pattern: {', '.join(patterns.PATTERNS)}"
+    found.add_argument("images", nargs="+", metavar="IMAGE", help=text)
+    mode = found.add_mutually_exclusive_group()
+    text = "the video identification code: %(choices)s (default: the first one with the size of the first image)"
     mode.add_argument("--vic", type=int, choices=sorted(VICS), metavar="V", help=text)
-    text = "a mode of your own: active, front, sync and back, across and down, and 1 for positive sync pulses"
+    text = "a mode of your own: active pixels, front porch, sync and back porch, first across, then down; P is 1 for positive sync pulses"
     mode.add_argument("--mode", type=mode_of, metavar="HA,HF,HS,HB,VA,VF,VS,VB,P", help=text)
-    text = f"the pixel clock; if left out, the code's at 60 or 50 frames a second, and {CUSTOM_CLOCK} with --mode"
-    parser.add_argument("--clock", type=int, metavar="HZ", help=text)
-    text = "what is done with an image of another size than the mode's; if left out, it is refused"
-    parser.add_argument("--fit", choices=["refuse", "scale"], default="refuse", help=text)
-    text = "the sound: one to eight channels of linear PCM; or tone:HZ[@RATE], a sine"
-    parser.add_argument("--sound", metavar="FILE.wav", help=text)
-    text = "the channel allocation of the sound, a number of CTA-861; if left out, the one with the file's speakers"
-    parser.add_argument("--allocation", type=int, choices=range(len(speakers.ALLOCATIONS)), metavar="CA", help=text)
-    signal_words(parser)
-    return parser
+    text = f"the pixel clock (default: that of the code at 60 or 50 frames per second; {CUSTOM_CLOCK} with --mode)"
+    found.add_argument("--clock", type=int, metavar="HZ", help=text)
+    text = "what to do with an image that does not have the size of the mode (default: %(default)s)"
+    found.add_argument("--fit", choices=["refuse", "scale"], default="refuse", help=text)
+    text = "the sound: a file with one to eight channels of linear PCM, or tone:HZ[@RATE] for a sine"
+    found.add_argument("--sound", metavar="FILE.wav", help=text)
+    text = "the channel allocation of the sound, a number of CTA-861 (default: the one with the speakers of the file)"
+    found.add_argument("--allocation", type=int, choices=range(len(speakers.ALLOCATIONS)), metavar="CA", help=text)
+    signal_words(found)
+    return found
 
 
 def work(argv: list[str] | None) -> int:
     """The tool's work: its status."""
-    parser = words()
-    args = parser.parse_args(argv)
+    words = parser()
+    args = words.parse_args(argv)
     if args.clock is not None and args.clock < 1:
-        parser.error("--clock is at least 1")
+        words.error(f"--clock {args.clock}: give a pixel clock of at least 1 Hz")
     if args.allocation is not None and not args.sound:
-        parser.error("--allocation is of use with --sound alone")
+        words.error("--allocation: there is no sound. Add --sound, or leave it out")
     with patterns.as_files(args.images, pattern_size(args)) as args.images:
         return write(args)
 
@@ -243,7 +243,7 @@ def pattern_size(args: Namespace) -> tuple[int, int]:
         return max(1, mode.active_across // args.repeat), mode.active_down
     files = [word for word in args.images if not patterns.wanted_of(word)]
     if not files:
-        raise Refused(f"{args.images[0]}: --vic or --mode tells the size of a pattern")
+        raise Refused(f"{args.images[0]}: the size of the pattern is not known. Give --vic or --mode")
     return size_of(files[0])
 
 
@@ -269,10 +269,10 @@ def write(args: Namespace) -> int:
     print("end")
     if sound and sound.samples > room and not args.sound.startswith(patterns.TONE):
         left = f"{sound.samples - room} of {sound.samples} samples are left out"
-        print(f"content: {left}, since the frames end before", file=sys.stderr)
+        command.say(f"content: {left}, since the frames end before")
     if not sender.is_exact:
         wanted = float(sender.mode.across * sender.signal.packed / 8)
-        print(f"content: lines have {sender.columns.across} columns, since {wanted} are no whole number", file=sys.stderr)
+        command.say(f"content: lines have {sender.columns.across} columns, since {wanted} are no whole number")
     return command.DONE
 
 
@@ -280,16 +280,16 @@ def refuse_long(args: Namespace, sender: Sender) -> None:
     """Refuses images that do not fit the mode, and more columns than a row or a listing has."""
     if sender.mode.active_across % args.repeat:
         raise Refused(
-            f"the {sender.mode.active_across} pixels of a row are no whole number of pixels that are sent {args.repeat} times"
+            f"--repeat {args.repeat}: a row has {sender.mode.active_across} pixels, which it does not divide. Give another number"
         )
     if args.fit == "refuse":
         refuse_unfit(args.images, sender.picture)
     if sender.columns.active_across > MOST_LENGTH:
-        raise Refused(f"a row has {sender.columns.active_across} columns, and a listing's has at most {MOST_LENGTH}")
+        raise Refused(f"a row has {sender.columns.active_across} columns, but a listing has at most {MOST_LENGTH}. Choose a smaller mode")
     columns = len(args.images) * sender.columns.columns + 32
     if columns > listing.MOST_COLUMNS:
-        most = f"a listing has at most {listing.MOST_COLUMNS}"
-        raise Refused(f"{len(args.images)} frames have {columns} columns, and {most}")
+        most = f"a listing has at most {listing.MOST_COLUMNS}. Give fewer images"
+        raise Refused(f"{len(args.images)} frames have {columns} columns, but {most}")
 
 
 def main(argv: list[str] | None = None) -> int:

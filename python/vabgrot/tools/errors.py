@@ -1,4 +1,4 @@
-"""How many characters and bits of a capture are wrong, how often that is, and where they lie."""
+"""The tool `errors`: how many characters and bits of a capture are wrong, how often, and where."""
 
 from __future__ import annotations
 
@@ -7,27 +7,32 @@ import json
 import math
 from collections import Counter
 from collections.abc import Sequence
-from dataclasses import dataclass
+from dataclasses import dataclass, field
 from pathlib import Path
 from typing import Any
-
 
 from vabgrot import command
 from vabgrot.errors import Refused
 from vabgrot.formats.characters import LANES, TEN
-from vabgrot.judging.damage import KINDS, Hit, compared, exposed, hits_of, offset_of, unread
-from vabgrot.judging.spans import Spans, spans_of
-from vabgrot.judging.statistics import Limits, clusters_of, limits_of
-from vabgrot.lanes.columns import columns_of
-from vabgrot.reading import ANEW, RELOCK
+from vabgrot.judging.damage import KINDS, Compared, Hit, compared, exposed, hits_of, offset_of
+from vabgrot.judging.estimates import Rate, Video, rate_of, video_of, words_of_video
+from vabgrot.judging.estimates import plain_of as video_plain
+from vabgrot.judging.spans import Spans, epoch_spans, spans_of
+from vabgrot.judging.statistics import clusters_of, limits_of
+from vabgrot.lanes.columns import Columns
+from vabgrot.lanes.encryption import Runs, encryption_of
+from vabgrot.reading import Reading, read
 
-TEXT = """Counts the damaged characters and bits of a capture, a lane at a time: by what is known of control periods, guards, packets and
-the video coding, or against a capture of the same that is right (--reference). It writes the rate of wrong bits with its limits of
-confidence (Clopper and Pearson), and where damage lies closer than chance: on a lane, in a kind of period, in a row of the picture, in
-bursts. Columns are counted up to the first slip; where an alignment was wrong the capture is read anew, where the program has
-`recover relock`. Without a reference a damaged bit that makes another right character is not seen, and of a damaged character the
-fewest bits that explain it are counted."""
-FAULTY = "done, and a character is damaged, or with --at-most the rate is not shown to be as low"
+TEXT = """Counts the damaged characters and wrong bits of a capture, lane by lane, and prints the bit error rate with its
+limits of confidence. It also says where damage is denser than chance allows: on a lane, in a kind of period, in a row of
+the picture, or in bursts. Each epoch is counted by its own alignment.
+
+With --reference, the tool compares the capture with one that is right. Otherwise it uses what is known about control
+periods, guard bands, packets and the video coding. Then some damage is not seen, because wrong bits can make other valid
+characters. The table has the least damage that explains what was received. The rate is an estimate of all damage: the tool
+plants damage into rows of this capture and counts how much of it is seen. It says `at least` if that is not possible: in
+flat pictures, in bursts, and over two wrong bits in a hundred."""
+FAULTY = "done, and a character is damaged; with --at-most: the rate is not shown to be that low"
 EXAMPLES = """./vabgrot make content < examples/bars.content > bars.tmc
 ./vabgrot damage 2:5035:0ab 0:28450:3a5 < bars.tmc > hurt.tmc
 tools/errors hurt.tmc --reference bars.tmc --at-most 1e-3"""
@@ -41,7 +46,7 @@ def share(text: str) -> float:
     except ValueError:
         value = 0.0
     if not 0 < value < 1:
-        raise argparse.ArgumentTypeError("a number between 0 and 1 is wanted")
+        raise argparse.ArgumentTypeError(f"{text}: write a number between 0 and 1, such as 1e-9")
     return value
 
 
@@ -53,7 +58,8 @@ class Counted:
     exposed: dict[str, int]
     unread: int
     spans: Spans
-    is_anew: bool  # an alignment was wrong
+    reading: Reading
+    videos: list[Video] = field(default_factory=list)  # what is known of the rows of each lane without a reference
 
     @property
     def bits(self) -> int:
@@ -71,28 +77,62 @@ class Counted:
         bits: Counter[tuple[int, str]] = Counter()
         for hit in self.hits:
             bits[hit.lane, hit.kind] += hit.bits
+        for lane, video in enumerate(self.videos):
+            times[lane, "video"] = video.seen[1]
         return [
             {"lane": lane, "kind": kind, "characters": self.exposed[kind], "damaged": times[lane, kind], "bits": bits[lane, kind]}
             for lane in range(3)
             for kind in KINDS
         ]
 
+    def rate(self, confidence: float) -> Rate:
+        """The rate of wrong bits: that of the bits that were counted, or without a reference the estimate of all."""
+        if not self.videos:
+            return Rate(self.wrong / max(self.bits, 1), *limits_of(self.wrong, max(self.bits, 1), confidence)[:2])
+        outside = sum(hit.bits for hit in self.hits if hit.kind != "video")
+        characters = 3 * sum(count for kind, count in self.exposed.items() if kind != "video")
+        return rate_of((self.wrong, self.bits // TEN), (outside, characters), self.videos, confidence)
+
 
 def counted_of(path: Path, reference: Path | None, is_dvi: bool) -> Counted:
-    """What is counted of a capture, against a reference if there is one."""
-    spans = spans_of(path, is_dvi)
-    mine = columns_of(path, spans.is_anew)
-    if reference is None:
-        return Counted(hits_of(spans, mine), exposed(spans), unread(spans, mine), spans, spans.is_anew)
-    sent, other = spans_of(reference, is_dvi), columns_of(reference)
-    offset = offset_of(mine, other)
-    if offset is None:
-        raise Refused(f"{path}: nothing of it is found in {reference}")
-    found = compared(mine, other, sent, offset, spans.columns if spans.is_cut else mine.count)
-    return Counted(found.hits, found.exposed, mine.count - sum(found.exposed.values()), sent, spans.is_anew)
+    """What is counted of a capture, against a reference if there is one: epoch by epoch, each by its own alignment. What was read between
+    a loss of bits and its slip is not counted."""
+    it = read(path, is_dvi)
+    it.refuse_unaligned()
+    whole = spans_of(it.events, it.at, it.columns, it.is_dvi)
+    if encryption := encryption_of(Runs(*whole.runs)):
+        raise Refused(f"{path}: {encryption}, so there is no rate of errors. Turn HDCP off at the source")
+    sent = read(reference, is_dvi) if reference else None
+    if sent:
+        sent.refuse_unaligned()
+    hits, every, missing, parts = list[Hit](), Counter[str](dict.fromkeys(KINDS, 0)), 0, list[tuple[Spans, Columns]]()
+    for epoch in it.epochs:
+        spans, mine = epoch_spans(it, epoch), it.characters(epoch)
+        if mine is None:
+            continue
+        found = against(sent, mine, spans) if sent else Compared(hits_of(spans, mine), exposed(spans))
+        if found is None:
+            continue
+        parts.append((spans, mine))
+        hits += [hit._replace(column=hit.column + epoch.before) for hit in found.hits]
+        every.update(found.exposed)
+        missing += max(0, (mine.count if sent else min(mine.count, epoch.columns)) - sum(found.exposed.values()))
+    if sent and not every.total():
+        raise Refused(f"{path}: nothing of it is in {reference}. Give a reference that carries the same")
+    videos = [] if sent else [video_of(parts, lane) for lane in range(3)]
+    return Counted(hits, dict(every), missing, whole, it, videos)
 
 
-def lines_of(counted: Counted, limits: Limits, at_most: float | None) -> list[str]:
+def against(sent: Reading, mine: Columns, spans: Spans) -> Compared | None:
+    """The characters of an epoch that are not as in a reference; None if nothing of it is found there."""
+    other = sent.characters(sent.epochs[0])
+    offset = offset_of(mine, other) if other else None
+    if other is None or offset is None:
+        return None
+    return compared(mine, other, epoch_spans(sent, sent.epochs[0]), offset, min(mine.count, spans.columns))
+
+
+def lines_of(counted: Counted, rate: Rate, confidence: float, at_most: float | None) -> list[str]:
     """What was counted, as lines of text."""
     lines = [f"{'':<16}{'characters':>14}{'damaged':>12}{'wrong bits':>12}"]
     for row in counted.table():
@@ -100,76 +140,92 @@ def lines_of(counted: Counted, limits: Limits, at_most: float | None) -> list[st
             name = f"{LANES[row['lane']]}, {row['kind']}"
             lines.append(f"{name:<24}{row['characters']:>14,}{row['damaged']:>12,}{row['bits']:>12,}")
     lines[0] = f"{'':<24}{'characters':>14}{'damaged':>12}{'wrong bits':>12}"
-    if counted.is_anew:
-        lines.append(f"`{' '.join(RELOCK)}`: {ANEW}")
+    lines[:0] = counted.reading.notes
     if counted.unread:
         lines.append(f"{counted.unread:,} columns could not be read, and are not counted")
-    lines.append(rate_of(counted, limits))
+    lines.append(words_of_rate(counted, rate, confidence))
+    lines += [words for name, video in zip(LANES, counted.videos) if (words := words_of_video(name, video))]
     lines += clusters_of(counted.hits, counted.exposed, counted.spans)
     lines += [f"damaged: column {hit.column:,}, {LANES[hit.lane]}, {hit.kind}, {hit.bits} bits" for hit in counted.hits[:SHOWN]]
     if len(counted.hits) > SHOWN:
         lines.append(f"and {len(counted.hits) - SHOWN:,} more")
-    return lines + ([asked(counted, limits, at_most)] if at_most else [])
+    return lines + ([asked(counted, rate, confidence, at_most)] if at_most else [])
 
 
-def rate_of(counted: Counted, limits: Limits) -> str:
+def words_of_rate(counted: Counted, rate: Rate, confidence: float) -> str:
     """The rate in words."""
-    of = f"{counted.wrong:,} of {counted.bits:,} bits"
+    of, sure = f"{counted.wrong:,} of {counted.bits:,} bits", f"({confidence:.0%} confidence)"
+    if rate.upper is None:
+        return f"bit error rate: {of} are seen to be wrong: at least {rate.rate:.2e}, without an upper limit: {rate.why}"
     if not counted.wrong:
-        return f"bit error rate: {of}: at most {limits.upper:.2e} ({limits.confidence:.0%} confidence)"
-    rate, between = counted.wrong / counted.bits, f"{limits.lower:.2e} to {limits.upper:.2e}"
-    return f"bit error rate: {of}: {rate:.2e}, {between} ({limits.confidence:.0%} confidence)"
+        return f"bit error rate: {of}: at most {rate.upper:.2e} {sure}"
+    between = f"{rate.lower:.2e} to {rate.upper:.2e} {sure}"
+    if counted.videos:
+        return f"bit error rate: {of} are seen to be wrong: about {rate.rate:.2e} with those that are not, {between}"
+    return f"bit error rate: {of}: {rate.rate:.2e}, {between}"
 
 
-def asked(counted: Counted, limits: Limits, at_most: float) -> str:
+def asked(counted: Counted, rate: Rate, confidence: float, at_most: float) -> str:
     """Whether the rate is shown to be as low as is asked."""
-    if limits.upper <= at_most:
+    if rate.upper is not None and rate.upper <= at_most:
         return f"at most {at_most:g}: shown"
-    if limits.lower > at_most:
+    if rate.lower > at_most:
         return f"at most {at_most:g}: the rate is higher"
-    wanted = math.ceil(-math.log((1 - limits.confidence) / 2) / at_most)
+    if rate.upper is None:
+        return f"at most {at_most:g}: not shown: {rate.why}"
+    wanted = math.ceil(-math.log((1 - confidence) / 2) / at_most)
     more = f", {wanted:,} bits without a wrong one would" if wanted > counted.bits else ""
     return f"at most {at_most:g}: not shown by {counted.bits:,} bits{more}"
 
 
-def plain_of(path: Path, counted: Counted, limits: Limits, status: int) -> dict[str, Any]:
+def plain_of(path: Path, counted: Counted, rate: Rate, confidence: float, status: int) -> dict[str, Any]:
     """The same for machines."""
+    table = counted.table()
     return {
         "capture": str(path),
         "faulty": bool(status),
         "bits": counted.bits,
         "wrong_bits": counted.wrong,
-        "damaged": len(counted.hits),
-        "relocked": counted.is_anew,
+        "damaged": sum(row["damaged"] for row in table),
+        "relocked": bool(counted.reading.why),
+        "notes": counted.reading.notes,
         "unread_columns": counted.unread,
-        "rate": counted.wrong / counted.bits if counted.bits else None,
-        "lower": limits.lower,
-        "upper": limits.upper,
-        "confidence": limits.confidence,
-        "table": counted.table(),
+        "rate": rate.rate if counted.bits else None,
+        "lower": rate.lower,
+        "upper": rate.upper,
+        "why": rate.why,
+        "confidence": confidence,
+        "video": [video_plain(video) for video in counted.videos],
+        "table": table,
         "clusters": clusters_of(counted.hits, counted.exposed, counted.spans),
         "hits": [hit._asdict() for hit in counted.hits[:10_000]],
     }
 
 
+def parser() -> argparse.ArgumentParser:
+    """The parser of the tool's words."""
+    found = command.parser("errors", TEXT, FAULTY, EXAMPLES)
+    command.add_capture(found)
+    found.add_argument("--reference", metavar="CAPTURE", type=Path, help="a capture of the same content without damage")
+    text = "a bit error rate: the status is 0 if the upper limit of the measured rate is at most that, otherwise 1"
+    found.add_argument("--at-most", type=share, metavar="RATE", help=text)
+    found.add_argument("--confidence", type=share, default=0.95, metavar="SHARE", help="of the limits (default: %(default)s)")
+    command.add_dvi(found)
+    command.add_json(found)
+    return found
+
+
 def work(argv: Sequence[str] | None) -> int:
-    parser = command.parser("errors", TEXT, FAULTY, EXAMPLES)
-    parser.add_argument("capture", metavar="CAPTURE", type=Path, help="the capture, as `make`, `damage` or `lanes pack` write it")
-    parser.add_argument("--reference", metavar="CAPTURE", type=Path, help="a capture of the same that is right")
-    text = "the rate of wrong bits that is to be shown; the status is 0 where its upper limit is not higher, else 1"
-    parser.add_argument("--at-most", type=share, metavar="RATE", help=text)
-    parser.add_argument("--confidence", type=share, default=0.95, metavar="SHARE", help="of the limits; if left out %(default)s")
-    parser.add_argument("--dvi", action="store_true", help="the source is one of DVI, without guard bands and islands")
-    parser.add_argument("--json", action="store_true", help="write JSON in place of text")
-    args = parser.parse_args(argv)
+    args = parser().parse_args(argv)
     counted = counted_of(args.capture, args.reference, args.dvi)
-    limits = limits_of(counted.wrong, counted.bits, args.confidence)
-    faulty = limits.upper > args.at_most if args.at_most else bool(counted.hits) or bool(counted.unread and not args.reference)
+    rate = counted.rate(args.confidence)
+    is_hurt = bool(counted.hits or counted.reading.slips or counted.unread and not args.reference)
+    faulty = rate.upper is None or rate.upper > args.at_most if args.at_most else is_hurt
     status = command.FAULTY if faulty else command.DONE
     if args.json:
-        print(json.dumps(plain_of(args.capture, counted, limits, status), indent=1))
+        print(json.dumps(plain_of(args.capture, counted, rate, args.confidence, status), indent=1))
     else:
-        print("\n".join(lines_of(counted, limits, args.at_most)))
+        print("\n".join(lines_of(counted, rate, args.confidence, args.at_most)))
     return status
 
 

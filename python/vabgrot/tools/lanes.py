@@ -1,4 +1,4 @@
-"""Raw bits of three lanes into a capture, and back."""
+"""The tool `lanes`: converts between captures and the raw bits of three lanes."""
 
 import importlib
 import io
@@ -16,24 +16,23 @@ from vabgrot.formats.characters import TEN
 from vabgrot.replacing import replacing
 
 MIRROR = bytes(int(f"{byte:08b}"[::-1], 2) for byte in range(256))
-TEXT = """Makes a capture of three files of raw bits, as a logic analyser or an FPGA dumps them (pack), writes a capture's
-lanes back to three files (unpack) or as raw blocks, once or again and again (blocks), cuts lanes at their beginning (cut),
-or says of each lane of a capture whether control characters are found in it (look)."""
-PACK = """Reads three files of raw bits, writes the capture to standard output. The first bit of a lane is bit 0 of its
-first byte, or with --msb bit 7. Lanes of one length make a capture of version 1, others one of version 2. A file that is
-named twice is refused."""
-UNPACK = """Reads a capture from standard input, writes three files of raw bits, and the bits of each as one line. A file
-that is named twice is refused."""
-CUT = """Reads a capture, writes it to standard output without the first bits of each lane: of a late lane those by which
-it is late. What passes a lane's end is refused."""
-BLOCKS = """Reads a capture, writes its lanes to standard output as `tools/watch --raw` reads them: three lanes of 4,096 bytes
-in turn, without a header. All lanes end with the shortest one, and with its last whole byte. With --repeat the bits of each
-lane follow one another again and again, with no byte between: where they are whole characters, as those of some frames that
---bits names, the link goes on there. Whoever reads no more ends it."""
-LOOK = """Says of each lane of a capture where twelve control characters first stand in a row and what control periods end
-in, with its bits as they are and with the bits of each byte, or of each ten from whichever bit on, turned round; then
-which order and polarity of the lanes makes the openings of lines and islands right, and with which commands the capture
-is packed anew where it is another."""
+TEXT = """Converts between captures and the raw bits of three lanes, as a logic analyser or an FPGA writes them. It also
+says why a capture has no alignment."""
+PACK = """Makes a capture from three files of raw bits, on standard output. The first bit of a lane is bit 0 of its first
+byte, or bit 7 with --msb. Lanes of one length give a capture of version 1, other lanes one of version 2. The tool refuses a
+file that is named twice."""
+UNPACK = """Writes the lanes of a capture to three files of raw bits, and prints the number of bits of each lane in one
+line. The capture comes from standard input. The tool refuses a file that is named twice."""
+CUT = """Writes a capture without the first bits of its lanes to standard output. Cut a late lane by the number of bits by
+which it is late. The tool refuses to cut more bits than a lane has."""
+BLOCKS = """Writes the lanes of a capture as raw blocks, as `tools/watch --raw` reads them: 4,096 bytes of each lane in
+turn, without a header. All lanes end with the last whole byte of the shortest one. With --repeat, the bits of each lane
+follow one another again and again, with no byte between. If they are whole characters, such as those of some frames that
+--bits selects, the link continues there. It ends when nobody reads it."""
+LOOK = """Says for each lane where twelve control characters first follow one another, and what control periods end in. It
+tries the bits as they are, and with the bits of each byte, or of each ten from any bit on, in reverse order. Then it says
+which order and polarity of the lanes make the beginnings of lines and islands right. If that is not the present one, it
+prints the commands that pack the capture correctly."""
 
 EXAMPLES = """./vabgrot make content < examples/bars.content > bars.tmc
 tools/lanes unpack blue.bin green.bin red.bin < bars.tmc
@@ -50,7 +49,7 @@ def bit_counts(text: str) -> list[int]:
     """The value of --bits or of --from: one number for all lanes, or three."""
     counts = command.numbers(text, MOST_BITS)
     if len(counts) not in (1, 3):
-        raise ArgumentTypeError("one number is wanted, or three with commas between them")
+        raise ArgumentTypeError(f"{text}: write one number, or three with commas between them")
     return counts * (3 // len(counts))
 
 
@@ -58,7 +57,7 @@ def one_number(text: str) -> int:
     """A number of bits or of times, at least 1."""
     (number, *others) = command.numbers(text, MOST_BITS)
     if others or not number:
-        raise ArgumentTypeError(f"a number of 1 to {MOST_BITS} is wanted")
+        raise ArgumentTypeError(f"{text}: write a number from 1 to {MOST_BITS}")
     return number
 
 
@@ -66,7 +65,7 @@ def lane_numbers(text: str) -> list[int]:
     """The value of --invert: some lanes, each once."""
     numbers = command.numbers(text, 2)
     if len(set(numbers)) != len(numbers):
-        raise ArgumentTypeError("a lane is named twice")
+        raise ArgumentTypeError(f"{text}: it names a lane twice. Name each lane once")
     return numbers
 
 
@@ -74,16 +73,13 @@ def order(text: str) -> list[int]:
     """The value of --order: all three lanes."""
     numbers = lane_numbers(text)
     if len(numbers) != 3:
-        raise ArgumentTypeError("the three lanes are wanted, as 2,1,0")
+        raise ArgumentTypeError(f"{text}: name all three lanes, such as 2,1,0")
     return numbers
 
 
 def with_numpy(name: str) -> ModuleType:
     """A module that asks for packages which the rest of this tool can do without."""
-    try:
-        return importlib.import_module(f"vabgrot.lanes.{name}")
-    except ImportError as why:
-        sys.exit(f"lanes: {why}; Debian's packages python3-numpy and python3-tqdm have it")
+    return importlib.import_module(f"vabgrot.lanes.{name}")
 
 
 def lane_of(path: str, wanted: int | None, args: Namespace) -> tuple[bytes, int]:
@@ -94,9 +90,9 @@ def lane_of(path: str, wanted: int | None, args: Namespace) -> tuple[bytes, int]
     most = TEN * len(words) if args.words else 8 * len(data)
     bits = most if wanted is None else wanted
     if bits > most:
-        raise Refused(f"{path}: it has {most} bits, and {bits} are wanted")
+        raise Refused(f"{path}: it has {most} bits, but --bits asks for {bits}. Give at most {most}")
     if bits > MOST_BITS:
-        raise Refused(f"{path}: it has {bits} bits, and a lane has at most {MOST_BITS}")
+        raise Refused(f"{path}: it has {bits} bits, but a lane has at most {MOST_BITS}. Take the first ones with --bits")
     whole: bytes = with_numpy("words").joined(words, args.msb) if args.words else data.translate(MIRROR if args.msb else None)
     return whole[: (bits + 7) // 8], bits
 
@@ -112,7 +108,7 @@ def each_once(paths: Iterable[str]) -> None:
     for path in (Path(path) for path in paths):
         place = path.resolve()
         if place in known and (path.is_file() or not path.exists()):
-            raise Refused(f"{path}: it is named twice")
+            raise Refused(f"{path}: it is named twice. Name three different files")
         known.add(place)
 
 
@@ -161,7 +157,7 @@ def cut(args: Namespace) -> int:
         lanes, counts = capture.lanes_of(file.read())
     for number, (count, start) in enumerate(zip(counts, args.starts)):
         if start > count:
-            raise Refused(f"{args.capture}: lane {number} has {count} bits, and {start} are to be cut")
+            raise Refused(f"{args.capture}: lane {number} has {count} bits, so --from cannot cut {start}. Cut at most {count}")
         whole = int.from_bytes(lanes[number][start // 8 :], "little") >> start % 8
         counts[number] -= start
         lanes[number] = bytearray(whole.to_bytes((counts[number] + 7) // 8, "little"))
@@ -175,7 +171,7 @@ def blocks(args: Namespace) -> int:
         lanes, counts = capture.lanes_of(file.read())
     bits = min(counts) if args.bits is None else args.bits
     if bits > min(counts):
-        raise Refused(f"{args.capture}: a lane has {min(counts)} bits, and {bits} are wanted")
+        raise Refused(f"{args.capture}: a lane has {min(counts)} bits, but --bits asks for {bits}. Give at most {min(counts)}")
     for piece in with_numpy("repeating").pieces(lanes, bits, args.repeat):
         sys.stdout.buffer.write(piece)
     return command.DONE
@@ -183,78 +179,85 @@ def blocks(args: Namespace) -> int:
 
 def look(args: Namespace) -> int:
     """What the lanes of a capture look like."""
-    looking = with_numpy("looking")
+    told = with_numpy("told")
     with open(args.capture, "rb") as file:
         lanes, counts = capture.lanes_of(file.read())
-    lines, is_right = looking.judged(sys.argv[0], args.capture, lanes, counts)
-    if is_right:
+    found = told.judged(sys.argv[0], args.capture, lanes, counts)
+    if found.is_right:
         openings = with_numpy("openings")
         fits = openings.fits(openings.beginnings(args.capture))
-        lines += [f"{fits.far[0].lower()}{fits.far[1:-1]}"] if fits and fits.far else []
+        found.says.extend([f"{fits.far[0].lower()}{fits.far[1:-1]}"] if fits and fits.far else [])
     if args.json:
-        paste = next((line.removeprefix("to be pasted: ") for line in lines if line.startswith("to be pasted: ")), None)
-        said = {"capture": args.capture, "faulty": not is_right, "bits": counts, "lanes": lines[:3], "says": lines[3:], "paste": paste}
-        print(json.dumps(said, indent=1))
+        paste = next((line.removeprefix("to be pasted: ") for line in found.says if line.startswith("to be pasted: ")), None)
+        kinds = [kind and {"kind": kind.kind, "says": kind.says, "remedy": kind.remedy} for kind in found.kinds]
+        said = {"capture": args.capture, "faulty": not found.is_right, "bits": counts, "lanes": found.lanes, "says": found.says}
+        encrypted = found.encryption.how if found.encryption else None
+        print(json.dumps(said | {"paste": paste, "kinds": kinds, "encrypted": encrypted}, indent=1))
     else:
-        print("\n".join(lines))
-    return command.DONE if is_right else command.FAULTY
+        print("\n".join(found.lanes + found.says))
+    return command.DONE if found.is_right else command.FAULTY
 
 
 def add_words(words: ArgumentParser) -> None:
-    """The words of pack and unpack."""
+    """Adds the words of pack and unpack."""
     words.add_argument("lanes", nargs=3, metavar="FILE", help="lane 0 (blue), lane 1 (green), lane 2 (red)")
-    words.add_argument("--msb", action="store_true", help="the first bit is the highest of a byte, or of its ten")
-    text = """a file is words of so many bits, low byte first, with ten bits of the lane in the lowest ten of each; with 10 it
-    is text, a word of three hexadecimal digits a line, as Verilog's $readmemh reads it"""
+    words.add_argument("--msb", action="store_true", help="the first bit of a lane is the highest one of a byte, or of a word's ten")
+    text = """each file has words of 16 or 32 bits, low byte first, whose lowest ten bits are ten bits of the lane; 10 means text
+    with a word of three hexadecimal digits on each line, as Verilog's $readmemh reads it"""
     words.add_argument("--words", type=int, choices=[10, 16, 32], help=text)
 
 
 def add_pack_words(words: ArgumentParser) -> None:
-    """Those of pack alone."""
-    text = "the bits of each file, where a last byte or word is not whole"
+    """Adds the words that only pack has."""
+    text = "take only the first bits of each file, for example if the last byte or word is not whole"
     words.add_argument("--bits", type=bit_counts, metavar="B[,B,B]", help=text)
-    text = "turn all bits of these lanes of the capture over, as 1 or 0,2"
+    text = "invert all bits of these lanes of the capture, for example 1 or 0,2"
     words.add_argument("--invert", type=lane_numbers, default=[], metavar="LANES", help=text)
-    text = "which lanes of the capture the three files are, in turn; 0,1,2 if left out"
+    text = "the lanes of the capture that the three files are, in turn (default: 0,1,2)"
     words.add_argument("--order", type=order, default=[0, 1, 2], metavar="L,L,L", help=text)
 
 
 def add_blocks_words(words: ArgumentParser) -> None:
-    """Those of blocks alone."""
-    words.add_argument("--bits", type=one_number, metavar="B", help="the first bits of each lane alone")
-    text = "each lane so many times; without a number again and again, until nothing reads it"
+    """Adds the words that only blocks has."""
+    words.add_argument("--bits", type=one_number, metavar="B", help="only the first bits of each lane")
+    text = "write each lane N times; without N, again and again until nobody reads"
     words.add_argument("--repeat", type=one_number, nargs="?", const=None, default=1, metavar="N", help=text)
 
 
-def work(argv: Sequence[str] | None) -> int:
-    parser = command.parser("lanes", TEXT, "for look, where the capture is not right as it is", EXAMPLES)
-    parsers = parser.add_subparsers(required=True, metavar="pack|unpack|blocks|cut|look")
+def parser() -> ArgumentParser:
+    """The parser of the tool's words, with one for each of its commands."""
+    found = command.parser("lanes", TEXT, "look: the lanes have to be packed in another way", EXAMPLES)
+    parsers = found.add_subparsers(required=True, metavar="pack|unpack|blocks|cut|look")
 
     def add(name: str, work: Callable[[Namespace], int], says: str, text: str) -> ArgumentParser:
-        words = parsers.add_parser(name, help=says, description=text)
+        words = parsers.add_parser(name, help=says, description=text, formatter_class=command.Help)
         words.set_defaults(work=work)
         return words
 
     for name, its_work, text in (("pack", pack, PACK), ("unpack", unpack, UNPACK)):
-        words = add(name, its_work, text.split(". ")[0], text)
+        words = add(name, its_work, text[0].lower() + text.split(". ")[0].replace("\n", " ")[1:], text)
         add_words(words)
         if its_work is pack:
             add_pack_words(words)
     for name, its_work, says, text in (
-        ("blocks", blocks, "writes a capture's lanes as raw blocks", BLOCKS),
-        ("cut", cut, "cuts lanes at their beginning", CUT),
+        ("blocks", blocks, "writes the lanes of a capture as raw blocks", BLOCKS),
+        ("cut", cut, "cuts the beginning of lanes", CUT),
         ("look", look, "says why a capture has no alignment", LOOK),
     ):
         words = add(name, its_work, says, text)
-        words.add_argument("capture", metavar="CAPTURE", help="the file of a capture")
+        words.add_argument("capture", metavar="CAPTURE", help="the capture")
         if its_work is look:
-            words.add_argument("--json", action="store_true", help="write JSON in place of text")
+            command.add_json(words)
         if its_work is blocks:
             add_blocks_words(words)
         if its_work is cut:
-            text = "the bit of each lane, or of all of them, with which it is to begin"
+            text = "the bit with which each lane is to begin, one number for all lanes or three"
             words.add_argument("--from", type=bit_counts, required=True, dest="starts", metavar="P[,P,P]", help=text)
-    args = parser.parse_args(argv)
+    return found
+
+
+def work(argv: Sequence[str] | None) -> int:
+    args = parser().parse_args(argv)
     status: int = args.work(args)
     return status
 

@@ -1,6 +1,6 @@
-"""A page that reads a capture by itself, in the browser: served on this machine alone, or written as one file."""
+"""The tool `page`: a page that reads captures in the browser, served on this machine or written as one file."""
 
-import sys
+import argparse
 from collections.abc import Sequence
 from http.server import BaseHTTPRequestHandler, ThreadingHTTPServer
 from pathlib import Path
@@ -10,10 +10,14 @@ from vabgrot.errors import Refused
 from vabgrot.replacing import replacing
 from vabgrot.report import whole
 
-TEXT = """Serves a page into which a capture, or the three files of its lanes, is dropped: the browser reads it by the proved receiver,
-compiled to WebAssembly, and shows the report while it does: the verdict, each frame with its damaged pixels marked, a timeline, the
-faults, the packets in words and the listing, which can be saved. It is served on 127.0.0.1 alone, and a capture is sent nowhere.
-With -o the page is written as one file, which a browser opens from disk. The browser must run WebAssembly with 64-bit memory."""
+TEXT = """Serves a page that reads captures in the browser. Drop a capture into it, or the three files of its lanes.
+
+The page shows the report while it reads: the verdict, each frame with its damaged pixels marked, a timeline, the faults,
+the packets in words and the listing, which you can save. The proved receiver runs in the browser, compiled to WebAssembly.
+The browser must support WebAssembly with 64-bit memory.
+
+The page is served on 127.0.0.1 only, and a capture is sent nowhere. With -o, the tool writes the page as one file, which a
+browser opens from disk."""
 EXAMPLES = "tools/page -o page.html"
 HOST = "127.0.0.1"
 MOST_PORT = 65535
@@ -59,7 +63,7 @@ def port(text: str) -> int:
     """The value of --port."""
     numbers = command.numbers(text, MOST_PORT)
     if len(numbers) != 1:
-        raise ValueError
+        raise argparse.ArgumentTypeError(f"{text}: write one port from 0 to {MOST_PORT}")
     return numbers[0]
 
 
@@ -69,24 +73,29 @@ def serve(number: int) -> int:
     try:
         server = ThreadingHTTPServer((HOST, number), Handler)
     except OSError as why:
-        raise Refused(f"port {number}: {why.strerror}") from None
+        raise Refused(f"port {number}: {why.strerror}. Choose another one with --port, or leave it out") from None
     with server:
         print(f"http://{HOST}:{server.server_port}/", flush=True)
         server.serve_forever()
     return command.DONE
 
 
+def parser() -> argparse.ArgumentParser:
+    """The parser of the tool's words."""
+    found = command.parser("page", TEXT, examples=EXAMPLES)
+    found.add_argument("--port", type=port, default=0, metavar="N", help="the port (default: a free one)")
+    found.add_argument("-o", "--output", metavar="FILE.html", type=Path, help="write the page as one file, and serve nothing")
+    return found
+
+
 def work(argv: Sequence[str] | None) -> int:
-    parser = command.parser("page", TEXT, examples=EXAMPLES)
-    parser.add_argument("--port", type=port, default=0, metavar="N", help="the port; a free one if left out")
-    parser.add_argument("-o", "--output", metavar="FILE.html", type=Path, help="write the page as one file, and serve nothing")
-    args = parser.parse_args(argv)
+    args = parser().parse_args(argv)
     if not args.output:
         return serve(args.port)
     text = whole.single()
     with replacing(args.output, "w", encoding="utf-8") as page:
         page.write(text)
-    print(f"{args.output}: {len(text.encode()):,} bytes", file=sys.stderr)
+    command.say(f"{args.output}: {len(text.encode()):,} bytes")
     return command.DONE
 
 

@@ -1,47 +1,56 @@
-"""What a capture carried, and what is wrong with it, as one page to look at."""
+"""The tool `report`: what a capture carried, and what is wrong with it, on one page."""
 
+from __future__ import annotations
+
+import argparse
 import gc
 import json
 import shlex
-import sys
 import zlib
 from base64 import b64encode
-from collections import Counter
 from collections.abc import Iterator, Sequence
 from contextlib import contextmanager
+from dataclasses import dataclass
+from functools import cached_property
 from itertools import accumulate
 from pathlib import Path
 from typing import Any, NamedTuple, TypedDict
 
 import jinja2
+import numpy as np
 from markupsafe import Markup
 
-from vabgrot import command, packets, place, program, reading
-from vabgrot.errors import Refused
-from vabgrot.formats.characters import MOST_SKEW
+from vabgrot import command, place
+from vabgrot import reading as reader
+from vabgrot.content import Frame
+from vabgrot.events import Kind
+from vabgrot.formats.characters import MOST_SKEW, TEN
 from vabgrot.formats.faults import BY_ROW, CONTENT, OF_SKEW
+from vabgrot.formats.layouts import NAMES, Type
 from vabgrot.formats.modes import of_vic
+from vabgrot.hearing import Heard, heard_of
 from vabgrot.infoframes import Row, mode_name
 from vabgrot.lanes import openings
-from vabgrot.judging.verdicts import total_of
-from vabgrot.link import Frame
-from vabgrot.reading import ANEW, RELOCK, Reading
+from vabgrot.library import Grammar
+from vabgrot.reading import Reading, bits_of
 from vabgrot.replacing import replacing
 from vabgrot.report import bursts, judged, packing
 from vabgrot.report.album import Album
-from vabgrot.report.findings import Findings
+from vabgrot.report.findings import Faults, Findings, Page
 from vabgrot.report.said import ADVICE, NOT_EXACT
 from vabgrot.report.sound import Told
-from vabgrot.video.colours import DEPTHS, Signal
-from vabgrot.video.matching import SIZES, Rate, Timing, change_note, timings
+from vabgrot.verdict import Verdict, Word, verdict_of
+from vabgrot.video.colours import Signal
+from vabgrot.video.matching import SIZES, Rate, Timing, change_note
 from vabgrot.video.timings import PARTS
 
-TEXT = """Writes a page that shows what a capture carried: the verdict, the video timing as `tools/timing` has it, each
-frame with its damaged pixels marked, a timeline, the packets in words, the sound, each fault (those of a burst in one
-row) and the listing. The verdict is clean, faulty, or that the link is clean and its contents are not (a checksum or a
-parity is wrong, or a frame has another size than its InfoFrame says). It is one file that needs no network. Bit slips
-are followed where the program has `recover track`; where an alignment was wrong the capture is read anew, where it has
-`recover relock`."""
+TEXT = """Writes a page that shows what a capture carried. The page is one file and needs no network.
+
+It shows the verdict, the video timing as `tools/timing` measures it, each frame with its damaged pixels marked, a timeline,
+the packets in words, the sound, each fault and the listing. The verdict can be that the link is clean but its contents are
+not: a checksum or a parity is wrong, or a frame does not have the size that its InfoFrame names.
+
+The tool follows bit slips (`recover track`). If an alignment was wrong, it reads the capture again with `recover relock`."""
 PAGE = Path(bursts.__file__).resolve().parent / "page"
 SCRIPTS = ("tables.js", "sound.js", "report.js", "start.js")
 PLACES = ("on lane 0 (blue)", "on lane 1 (green)", "on lane 2 (red)", "of no lane")
@@ -59,20 +68,9 @@ not aligned."""
 LATER = """A lane likely lost or repeated whole characters between the places {last} and {first} of lane 0, which “recover track”
 cannot see: openings fit at the skew {found} before, and at {later} behind. A program with “recover relock” lists what is behind,
 too."""
-FROM = "From the first alignment that a guard band confirms on"
-READ_ANEW = f"""Read anew: an alignment was wrong, which a damaged control character before it brings about, or a lane that loses or
-repeats whole characters. {FROM}"""
-LEFT_OUT = f"""{FROM} the listing is that of “recover relock”; what came before it has no lines, and is not shown."""
+LEFT_OUT = """From the first alignment that a guard band confirms on the listing is that of “recover relock”; what came before it has no
+lines, and is not shown."""
 CUT = "“tools/lanes cut {name} --from {cut} > cut.tmc” begins where they fit; make the report of that."
-
-
-def header_of(path: Path) -> list[int]:
-    """The bits of each lane of a capture; the program judges all else of it."""
-    with open(path, "rb") as file:
-        head = file.read(16)
-    count = 3 if head[3:4] == b"2" else 1
-    bits = [int.from_bytes(head[at : at + 4], "big") for at in range(4, 4 + 4 * count, 4)]
-    return bits * (3 // count)
 
 
 # What the page has of a frame.
@@ -108,50 +106,106 @@ class Info(TypedDict):
 class Show:
     """Turns each frame that ends into what the page has of it."""
 
-    def __init__(self, columns: int) -> None:
-        self.album, self.columns, self.frames, self.whole = Album(), columns, 0, 0
+    def __init__(self) -> None:
+        self.album, self.whole, self.frames = Album(), 0, list[Frame]()
 
-    def __call__(self, frame: Frame, at: int, ragged: int, vic: int | None, signal: Signal) -> Shown:
-        self.frames += 1
+    def __call__(self, frame: Frame, part: float, vic: int | None, signal: Signal) -> Shown:
+        self.frames.append(frame)
         self.whole += frame.is_whole
-        left = max(0, round((self.columns - at) * self.frames / max(at, 1)))
+        left = max(0, round(len(self.frames) * (1 - part) / max(part, 1e-3)))
         picture = self.album.add(frame, left, signal)
         says = ENDS[frame.ended] if frame.is_whole or frame.ended != "vsync" else "begun before the capture"
-        if ragged:
-            says += f", {ragged} rows of another width"
+        if frame.ragged:
+            says += f", {frame.ragged} rows of another width"
         if vic:
             says += f", though its AVI InfoFrame says {mode_name(vic)}"
-        faults = {kind: times for kind, times in sorted(frame.faults.items())}
+        lines = [place + 1 for place in frame.places]
         return {
             "picture": picture,
             "width": signal.pixels(frame.width),
             "height": len(frame.rows),
             "whole": frame.is_whole,
             "number": self.whole - 1,
-            "faults": faults,
+            "faults": dict(sorted(frame.marks.counts.items())),
             "says": says,
-            "line": frame.lines[0],
-            "lines": frame.lines,
-            "from": frame.at,
-            "to": at,
+            "line": lines[0],
+            "lines": lines,
+            "from": frame.places[0],
+            "to": frame.end,
             "kind": self.album.pictures[picture].kind.split("/")[1],
         }
 
 
-def gather(words: list[str], path: Path, bits: int) -> tuple[Found, Album, Reading]:
-    """What is read of a capture, the pictures, and how it was read; `bits` are those of the longest lane."""
+@dataclass(frozen=True, eq=False)
+class Report:
+    """All that a page says."""
 
-    def hear(it: Reading) -> tuple[Found, Album, Reading]:
-        show = Show(bits // 10)
-        found = Findings(show, is_dvi=words[1] == "dvi", counter=it.columns)
-        for batch in it.batches():
-            found.take_batch(batch)
-        reading.check_end(it, path)
-        found.finish(it.status in (0, 1), bits)
-        return found, show.album, it
+    path: Path
+    found: Found
+    album: Album
+    page: Page
+    verdict: Verdict
+    clock: int | None
+
+    @property
+    def reading(self) -> Reading:
+        """What was read."""
+        return self.verdict.reading
+
+    @cached_property
+    def faults(self) -> Faults:
+        """The faults."""
+        return self.page.faults(self.found)
+
+    @cached_property
+    def characters(self) -> list[str]:
+        """The characters at each fault, in words."""
+        return judged.characters_at(self.reading, self.faults)
+
+    @cached_property
+    def measured(self) -> list[Timing]:
+        """The first rasters."""
+        return self.verdict.timings[:SIZES]
+
+    @cached_property
+    def told(self) -> Told | None:
+        """The sound with what is told of it; None if no samples came."""
+        content = self.page.content
+        lost = int((content.packets.lost & (content.packets.kind == Type.SAMPLES)).sum())
+        samples = content.samples
+        return Told.of(self.heard, samples, self.clock, lost) if samples.total else None
+
+    @cached_property
+    def heard(self) -> Heard:
+        """The sound."""
+        return heard_of(self.page.content.packets, self.page.content.samples)
+
+    @cached_property
+    def slips(self) -> Slips | None:
+        """What became of the slips and the alignments that were let go."""
+        return slips_of(self)
+
+
+def gather(path: Path, is_dvi: bool, clock: int | None) -> Report:
+    """What is read of a capture."""
+    taken: list[tuple[Found, Show]] = []
+    bits = max(bits_of(path).read)
+
+    def taking(grammar: Grammar) -> Found:
+        show = Show()
+        taken[:] = [(Findings(show, grammar == "dvi", bits // TEN), show)]
+        return taken[0][0]
 
     with keeping():
-        return reading.read(words, path, hear)
+        it = reader.read(path, is_dvi, taking)
+        found, show = taken[0]
+        found.finish()
+    verdict = verdict_of(it, Rate(clock))
+    page = Page(it, verdict.content)
+    at = np.append(page.at, page.columns)
+    for frame in found.frames:
+        frame["from"], frame["to"] = int(at[frame["from"]]), int(at[frame["to"]])
+    return Report(path, found, show.album, page, verdict, clock)
 
 
 @contextmanager
@@ -166,15 +220,7 @@ def keeping() -> Iterator[None]:
             gc.enable()
 
 
-def places_of(found: Found) -> list[str]:
-    """How many faults each lane has, and how many are of none."""
-    counts: Counter[int] = Counter()
-    for (_, lane), times in found.counts.items():
-        counts[3 if lane is None else lane] += times
-    return [f"{count:,} {PLACES[place]}" for place, count in sorted(counts.items())]
-
-
-def bits_of(bits: list[int]) -> str:
+def bits_in_words(bits: Sequence[int]) -> str:
     """How many bits the lanes have, in words."""
     return f"{bits[0]:,} bits a lane" if len(set(bits)) == 1 else "{:,}, {:,} and {:,} bits of the lanes".format(*bits)
 
@@ -195,9 +241,9 @@ class Slips(NamedTuple):
         return f"{says}: {self.hidden} not shown" if self.hidden else says
 
 
-def slips_of(found: Found, bits: list[int]) -> Slips | None:
-    """What became of the slips and of the alignments that were let go; None where there are none."""
-    epochs = found.epochs[1:]
+def slips_of(it: Report) -> Slips | None:
+    """What became of the slips and of the alignments that were let go; None if there are none."""
+    epochs, bits = it.page.stretches[1:], it.reading.bits.read
     if not epochs:
         return None
     aligned, hidden = [f"{sum(epoch.is_aligned for epoch in epochs):,} aligned anew"], []
@@ -210,64 +256,35 @@ def slips_of(found: Found, bits: list[int]) -> Slips | None:
     if last < len(epochs):
         start = epochs[last].place
         aligned.append(f"none from place {start:,} on")
-        hidden.append(bits_of([max(0, count - start) for count in bits]))
-    let_go = found.counts["relock", None]
+        hidden.append(bits_in_words([max(0, count - start) for count in bits]))
+    let_go = it.verdict.link.counts["relock", None]
     return Slips(len(epochs) - let_go, let_go, ", ".join(aligned), f"{' and '.join(hidden)} are" if hidden else "")
 
 
-def is_faulty(found: Found, run: Reading) -> bool:
-    """Whether the page shows a fault. What came before an alignment that is used in place of the first one had some."""
-    return bool(run.status or run.words == RELOCK or contents_in_words(found, False))
+SIGNS = {Word.CLEAN: ("✓", "clean"), Word.SOURCE: ("!", "contents")}
 
 
-def verdict_of(found: Found, run: Reading, slips: Slips | None) -> dict[str, str]:
+def headline_of(verdict: Verdict) -> dict[str, str]:
     """The word at the top, and a sentence on it."""
-    total = sum(found.counts.values())
-    faults = f"{total:,} fault line{'s' * (total != 1)}"
-    if run.status == program.NO_ALIGNMENT:
-        word, sign, kind = "No alignment", "?", "faulty"
-        says = "The capture is well formed, but its three lanes have no place at which a control period ends on all of them."
-    elif run.status == program.NO_CAPTURE:
-        word, sign, kind = "Broken file", "✗", "faulty"
-        says = f"The program refuses the file: {program.explained(run.note)}. What it wrote before that place is shown: {faults}."
-    elif total or run.words == RELOCK:
-        word, sign, kind = "Faulty", "✗", "faulty"
-        says = f"The listing tells {faults}: {', '.join(places_of(found))}." if total else "No fault was found."
-        says = f"{READ_ANEW}, {says[0].lower()}{says[1:]}" if run.words == RELOCK else says
-        says += f" {slips}." if slips else ""
-    elif wrong := contents_in_words(found, False):
-        word, sign, kind = "Contents wrong", "!", "contents"
-        says = f"The link is clean, its contents are not: {', '.join(wrong)}."
-    else:
-        word, sign, kind = "Clean", "✓", "clean"
-        says = "No fault was found: a conforming source could have sent what was received."
-    limits = contents_in_words(found, True)
-    if limits and kind in ("contents", "clean"):
-        says += f" The program does not read, and the page does: {', '.join(limits)}."
-    return {"word": word, "sign": sign, "kind": kind, "says": says}
+    sign, kind = SIGNS.get(verdict.word, ("✗", "faulty"))
+    return {"word": str(verdict.word), "sign": sign, "kind": kind, "says": verdict.headline}
 
 
-def contents_in_words(found: Found, are_limits: bool) -> list[str]:
-    """How many faults of each kind the contents have: those of what the program does not read, or the others."""
-    counts = found.content_counts
-    return [f"{counts[kind]:,} {kind}" for kind, it in CONTENT.items() if counts[kind] and it.is_limit == are_limits]
-
-
-def matrix_of(found: Found) -> list[dict[str, object]]:
+def matrix_of(verdict: Verdict) -> list[dict[str, object]]:
     """The fault counts, by kind and lane."""
     rows: list[dict[str, object]] = []
     for fault in BY_ROW:
         kind = fault.kind
-        counts = [(lane, found.counts[kind, None if lane < 0 else lane]) for lane in (0, 1, 2, -1)]
+        counts = [(lane, verdict.link.counts[kind, None if lane < 0 else lane]) for lane in (0, 1, 2, -1)]
         if any(count for _, count in counts):
             rows.append({"kind": kind, "counts": counts, "says": fault.says})
     return rows
 
 
-def infos_of(found: Found) -> list[Info]:
+def infos_of(page: Page) -> list[Info]:
     """Each unlike InfoFrame, clock and general control packet, how often it came, and where first."""
     infos: dict[tuple[str, tuple[Row, ...]], Info] = {}
-    for one in found.packets:
+    for one in page.packets:
         if one.content and one.content.rows:
             key = one.packet.name, tuple(one.content.rows)
             infos.setdefault(key, {"name": key[0], "rows": key[1], "line": one.line, "times": 0})["times"] += 1
@@ -278,42 +295,38 @@ def infos_of(found: Found) -> list[Info]:
     return sorted(infos.values(), key=order)[:24]
 
 
-def told_of(found: Found, clock: int | None) -> Told | None:
-    """The sound with what is told of it; None where no samples came."""
-    return Told.of(found.sound, clock, DEPTHS.get(found.signals.depth or 4, 24)) if found.sound.samples else None
-
-
-def data_of(name: str, found: Found, album: Album, characters: list[str], sound: dict[str, Any] | None) -> str:
-    """What the page's script reads: lists by column, packed; `characters` are in words those at each fault."""
+def data_of(it: Report, sound: dict[str, Any] | None) -> str:
+    """What the page's script reads: lists by column, packed."""
     words: dict[str, int] = {}
+    page, found, packed = it.page, it.found, it.page.packets
     table = {
-        "names": [one.packet.name for one in found.packets],
-        "at": [one.at for one in found.packets],
-        "words": [words.setdefault(one.words, len(words)) for one in found.packets],
-        "faults": [one.content.faults if one.content else [] for one in found.packets],
-        "verdicts": [one.verdicts for one in found.packets],
-        "symbols": [one.symbols for one in found.packets],
-        "line": [one.line for one in found.packets],
+        "names": [one.packet.name for one in packed],
+        "at": [one.at for one in packed],
+        "words": [words.setdefault(one.words, len(words)) for one in packed],
+        "faults": [one.content.faults if one.content else [] for one in packed],
+        "verdicts": [one.verdicts for one in packed],
+        "symbols": [one.symbols for one in packed],
+        "line": [one.line for one in packed],
     }
-    alignments = accumulate(epoch.is_aligned for epoch in found.epochs)
+    alignments = accumulate(epoch.is_aligned for epoch in page.stretches)
     data: dict[str, object] = {
-        "name": name,
-        "columns": found.columns,
-        "epochs": [epoch.at for epoch in found.epochs],
-        "places": [epoch.place for epoch in found.epochs],
-        "hidden": [epoch.hidden for epoch in found.epochs],
-        "alignments": [number * epoch.is_aligned for number, epoch in zip(alignments, found.epochs)],
-        "periods": packing.packed(found.periods),
-        "doubts": [found.doubts.begins, [*found.doubts.ends, found.columns]],
-        "faults": found.faults | {"characters": characters},
-        "bursts": [burst._asdict() for burst in bursts.bursts_of(found.faults, found.periods)],
+        "name": it.path.stem,
+        "columns": page.columns,
+        "epochs": [epoch.at for epoch in page.stretches],
+        "places": [epoch.place for epoch in page.stretches],
+        "hidden": [epoch.hidden for epoch in page.stretches],
+        "alignments": [number * epoch.is_aligned for number, epoch in zip(alignments, page.stretches)],
+        "periods": packing.packed(page.periods),
+        "doubts": [[], []],
+        "faults": dict(it.faults, characters=it.characters),
+        "bursts": [burst._asdict() for burst in bursts.bursts_of(it.faults, page.periods)],
         "kinds": {fault.kind: (fault.row, fault.says) for fault in BY_ROW},
         "limits": [kind for kind, fault in CONTENT.items() if fault.is_limit],
         "frames": found.frames,
         "shown": found.fields.shown(),
-        "thumbs": album.small,
+        "thumbs": it.album.small,
         "packets": table,
-        "packetNames": packets.NAMES,
+        "packetNames": NAMES,
         "words": list(words),
         "blocks": BLOCKS,
         "lines": found.text.packed(),
@@ -322,25 +335,26 @@ def data_of(name: str, found: Found, album: Album, characters: list[str], sound:
     return b64encode(zlib.compress(json.dumps(data, separators=(",", ":")).encode(), 6)).decode()
 
 
-def counts_of(found: Found, bits: list[int], size: int, slips: Slips | None, channels: int) -> list[tuple[str, str, str]]:
+def counts_of(it: Report, channels: int) -> list[tuple[str, str, str]]:
     """The numbers at the top; the sound has so many channels."""
+    found, page, reading = it.found, it.page, it.reading
     whole = sum(frame["whole"] for frame in found.frames)
-    parts = len(found.frames) - whole
-    hurt = sum(one.symbols > 0 or one.verdicts.count("clean") < 5 for one in found.packets)
+    parts, size = len(found.frames) - whole, it.path.stat().st_size
+    hurt = sum(one.symbols > 0 or one.verdicts.count("clean") < len(BLOCKS) for one in page.packets)
     counts = [
-        ("faults", f"{sum(found.counts.values()):,}", "lines of the listing"),
-        ("columns", f"{found.aligned_columns:,}", "" if found.is_certain else "about, since some could not be counted"),
+        ("faults", f"{it.verdict.link.faults:,}", "lines of the listing"),
+        ("columns", f"{reading.columns:,}", it.reading.bits.words),
         ("frames", f"{whole:,}", frames_in_words(found, parts)),
-        ("rows", f"{found.rows:,}", "of pixels"),
-        ("packets", f"{len(found.packets):,}", f"{hurt:,} damaged" if hurt else "none damaged"),
-        ("samples", f"{found.sound.samples:,}", f"of {channels} channels" if channels > 2 else "of two channels"),
-        ("capture", f"{size / 1e6:,.1f} MB" if size >= 1e6 else f"{size:,} bytes", bits_of(bits)),
+        ("rows", f"{len(reading.events.of(Kind.LINE)):,}", "of pixels"),
+        ("packets", f"{len(page.packets):,}", f"{hurt:,} damaged" if hurt else "none damaged"),
+        ("samples", f"{page.content.samples.total:,}", f"of {channels} channels" if channels > 2 else "of two channels"),
+        ("capture", f"{size / 1e6:,.1f} MB" if size >= 1e6 else f"{size:,} bytes", bits_in_words(reading.bits.told)),
     ]
-    if slips:
-        both = ("slips", slips.number), ("alignments let go", slips.let_go)
-        counts[1:1] = [(name, f"{many:,}", slips.aligned) for name, many in both if many]
-    if found.content_counts.total():
-        counts.insert(1, ("contents", f"{found.content_counts.total():,}", "faults of what was carried"))
+    if it.slips:
+        both = ("slips", it.slips.number), ("alignments let go", it.slips.let_go)
+        counts[1:1] = [(name, f"{many:,}", it.slips.aligned) for name, many in both if many]
+    if it.verdict.contents.total():
+        counts.insert(1, ("contents", f"{it.verdict.contents.total():,}", "faults of what was carried"))
     return counts
 
 
@@ -359,46 +373,41 @@ def interlaced_by(found: Found, measured: list[Timing]) -> str:
     return "VSYNC says" if any(one.raster.interlaced for one in measured) else ""
 
 
-def notes_of(found: Found, words: list[str], album: Album, measured: list[Timing]) -> list[str]:
+def notes_of(it: Report) -> list[str]:
     """What is to be known of the page: what is not shown, or otherwise than it was."""
-    notes = []
-    if found.cut:
-        notes.append(
-            f"The capture ends within a row, an island or an opening, at column {found.cut.column:,} (“cut”, line {found.cut.line})."
-        )
-    if words == RELOCK:
+    notes, cut, others = [], it.page.cut, it.heard.others
+    if cut:
+        notes.append(f"The capture ends within a row, an island or an opening, at column {cut.first:,} (“cut”).")
+    if it.reading.grammar == "relock":
         notes.append(LEFT_OUT)
-    if words[1] == "link":
-        notes.append(
-            "The program has no “recover track”, so a lane that loses bits is not followed: what comes behind it is noise."
-        )
-    if any(picture.kind != "image/png" for picture in album.pictures):
+    if any(picture.kind != "image/png" for picture in it.album.pictures):
         notes.append(NOT_EXACT)
-    notes.extend(found.fields.notes(interlaced_by(found, measured)))
-    if not found.sound.samples:
-        notes.extend(f"{count:,} packets of {name} came, which are not played." for name, count in sorted(found.sound.others.items()))
-    notes.extend(f"Of the pictures: {note}." for note in found.colour_notes)
+    notes.extend(it.found.fields.notes(interlaced_by(it.found, it.verdict.timings)))
+    if it.told is None:
+        notes.extend(f"{count:,} packets of {name} came, which are not played." for name, count in sorted(others.items()))
+    notes.extend(f"Of the pictures: {note}." for note in it.found.notes)
     return notes
 
 
-def fits_of(path: Path, words: list[str], found: Found) -> openings.Fits | None:
-    """At which skews openings of HDMI fit, behind the last slip if there is one; None where nothing speaks against the one that was
+def fits_of(it: Report) -> openings.Fits | None:
+    """At which skews openings of HDMI fit, behind the last slip if there is one; None if nothing speaks against the one that was
     found, or a lane has no control period among the bits that are looked at."""
-    last = found.epochs[-1]
-    if words[1] == "dvi" or last.is_aligned and (words == RELOCK or not any(kind in OF_SKEW for kind, _ in found.counts)):
+    last, read = it.page.stretches[-1], it.reading
+    is_right = read.grammar == "relock" or not any(kind in OF_SKEW for kind in it.verdict.link.kinds)
+    if read.is_dvi or last.is_aligned and is_right:
         return None
-    return openings.fits(openings.beginnings(path, place=last.place), last.place)
+    return openings.fits(openings.beginnings(it.path, place=last.place), last.place)
 
 
-def opening_advice(path: Path, found: Found, fits: openings.Fits) -> str | None:
+def opening_advice(it: Report, fits: openings.Fits) -> str | None:
     """What to do where openings fit at another skew than that of the first alignment; None where they do not."""
-    best, fit, epoch = fits.best, fits.best if fits.is_wrong else fits.later, found.epochs[-1]
+    best, fit, epoch = fits.best, fits.best if fits.is_wrong else fits.later, it.page.stretches[-1]
     if fit is None:
         return None
     if not epoch.is_aligned and fits.is_wrong and best.spread > MOST_SKEW:
         begin = f"Behind the place {epoch.place:,}, at" if epoch.place else "At"
         says = FAR.format(begin=begin, best=best.made_words, openings=f"{best.openings:,}")
-    elif len(found.epochs) > 1:
+    elif len(it.page.stretches) > 1:
         return None
     elif fits.is_wrong and fits.found:
         says = WRONG.format(found=fits.found.made_words, best=best.made_words, openings=f"{best.openings:,}")
@@ -409,160 +418,134 @@ def opening_advice(path: Path, found: Found, fits: openings.Fits) -> str | None:
         says = LATER.format(last=last, first=first, found=fits.found.made_words, later=fit.made_words)
     else:
         return None
-    return f"{says} {CUT.format(name=shlex.quote(path.name), cut=','.join(map(str, fit.cut)))}"
+    return f"{says} {CUT.format(name=shlex.quote(it.path.name), cut=','.join(map(str, fit.cut)))}"
 
 
-def advice_of(
-    path: Path, words: list[str], found: Found, run: Reading, characters: judged.Characters
-) -> tuple[str, ...]:
-    """What to look at: that alone where the lanes were likely aligned at a wrong skew, and were not read anew; else whether the source is
+def advice_of(it: Report) -> tuple[str, ...]:
+    """What to look at: that alone if the lanes were likely aligned at a wrong skew, and were not read anew; else whether the source is
     one of DVI, and why faults are alike."""
-    fits = fits_of(path, words, found)
-    wrong = opening_advice(path, found, fits) if fits else None
+    fits = fits_of(it)
+    wrong = opening_advice(it, fits) if fits else None
     if wrong:
         return (wrong,)
-    causes = tuple(characters.causes())
-    if run.status != program.NO_ALIGNMENT and (found.rows or found.packets or not found.counts["noise", None]):
+    causes = tuple(it.verdict.causes())
+    if it.reading.is_aligned and (it.verdict.has_contents or not it.verdict.link.kinds["noise"]):
         return causes
-    is_dvi = run.status != program.NO_ALIGNMENT and fits and not fits.best.guards
+    is_dvi = it.reading.is_aligned and fits and not fits.best.guards
     return (*((DVI_ADVICE,) if is_dvi else ()), *ADVICE, *causes)
 
 
-def page_of(path: Path, words: list[str], found: Found, album: Album, run: Reading, bits: list[int], clock: int | None) -> str:
+def page_of(it: Report) -> str:
     """The page's text."""
     template = jinja2.Environment(loader=jinja2.FileSystemLoader(PAGE), autoescape=True).get_template("report.html")
-    slips, measured = slips_of(found, bits), timings(found.meter, Rate(clock))
-    record = judged.record_of(found)
-    characters, told = judged.Characters(path, found, record, words == RELOCK), told_of(found, clock)
-    sound = told.page() if told else None
-    rules = judged.rules_of(record, clock, measured) if words[1] != "dvi" and found.columns else []
-    advice = advice_of(path, words, found, run, characters)
+    sound = it.told.page() if it.told else None
     return template.render(
-        name=path.name,
-        link="DVI" if words[1] == "dvi" else "HDMI",
-        verdict=verdict_of(found, run, slips),
-        counts=counts_of(found, bits, path.stat().st_size, slips, len(sound["channels"]) if sound else 0),
+        name=it.path.name,
+        link="DVI" if it.reading.is_dvi else "HDMI",
+        verdict=headline_of(it.verdict),
+        counts=counts_of(it, len(sound["channels"]) if sound else 0),
         parts=PARTS,
-        timings=measured[:SIZES],
-        change=change_note(measured),
-        notes=notes_of(found, words, album, measured) if found.columns else [],
-        slips=slips,
-        made=f"{place.named('tools/report')} {path.name}",
+        timings=it.measured,
+        change=change_note(it.verdict.timings),
+        notes=notes_of(it) if it.page.columns else [],
+        slips=it.slips,
+        made=f"{place.named('tools/report')} {it.path.name}",
         style=Markup((PAGE / "report.css").read_text("utf-8")),
         script=Markup("".join((PAGE / name).read_text("utf-8") for name in SCRIPTS)),
-        data=data_of(path.stem, found, album, characters.at_faults(), sound),
-        pictures=album.pictures,
-        rules=rules,
-        is_about=found.doubts.has,
-        rules_say=total_of(rules),
-        **sections_of(found, words, advice, sound, bool(rules)),
+        data=data_of(it, sound),
+        pictures=it.album.pictures,
+        rules=it.verdict.sorted_rules,
+        column_of=it.page.place,
+        rules_say=it.verdict.total,
+        **sections_of(it, sound),
     )
 
 
-def plain_of(path: Path, words: list[str], found: Found, run: Reading, bits: list[int], clock: int | None) -> dict[str, Any]:
+def plain_of(it: Report) -> dict[str, Any]:
     """What the page says, for machines: no pictures, no sound and no listing."""
-    slips, record, measured = slips_of(found, bits), judged.record_of(found), timings(found.meter, Rate(clock))
-    verdict = verdict_of(found, run, slips)
-    rules = judged.rules_of(record, clock, measured) if words[1] != "dvi" and found.columns else []
-    characters = judged.Characters(path, found, record, words == RELOCK)
-    faults, says, told = found.faults, characters.at_faults(), told_of(found, clock)
+    faults, verdict, read = it.faults, it.verdict, it.reading
     return {
-        "capture": str(path),
-        "faulty": is_faulty(found, run),
-        "relocked": words == RELOCK,
-        "verdict": verdict["word"],
-        "says": verdict["says"],
-        "columns": found.aligned_columns,
-        "rows": found.rows,
-        "samples": found.sound.samples,
-        "sound": told.plain() if told else None,
-        "bits": bits,
-        "slips": str(slips) if slips else None,
-        "advice": [place.named(line) for line in advice_of(path, words, found, run, characters)],
-        "timing": [one.plain() for one in measured[:SIZES]],
-        "rules": [one.plain() for one in rules],
+        "capture": str(it.path),
+        "faulty": verdict.is_faulty,
+        "relocked": read.grammar == "relock",
+        "verdict": verdict.plain(),
+        "says": verdict.headline,
+        "notes": read.notes,
+        "columns": read.columns,
+        "rows": len(read.events.of(Kind.LINE)),
+        "samples": it.page.content.samples.total,
+        "sound": it.told.plain() if it.told else None,
+        "bits": [*read.bits.told],
+        "slips": str(it.slips) if it.slips else None,
+        "advice": [place.named(line) for line in advice_of(it)],
+        "timing": [one.plain() for one in it.measured],
+        "rules": [one.plain() for one in verdict.sorted_rules],
         "frames": [
-            {"width": it["width"], "height": it["height"], "whole": it["whole"], "faults": it["faults"], "says": it["says"]}
-            for it in found.frames
+            {"width": one["width"], "height": one["height"], "whole": one["whole"], "faults": one["faults"], "says": one["says"]}
+            for one in it.found.frames
         ],
-        "pictures": [one["frames"] for one in found.fields.shown()],
+        "pictures": [one["frames"] for one in it.found.fields.shown()],
         "faults": [
             {"kind": kind, "lane": lane, "column": at, "line": line, "numbers": more, "characters": words}
             for kind, lane, at, line, more, words in zip(
-                faults["kind"], faults["lane"], faults["at"], faults["line"], faults["more"], says
+                faults["kind"], faults["lane"], faults["at"], faults["line"], faults["more"], it.characters
             )
         ],
-        "contents": dict(found.content_counts),
-        "packets": [
-            {"name": it.packet.name, "column": it.at, "says": it.words, "blocks": it.verdicts}
-            | ({"about": True} if found.doubts.has(it.at) else {})
-            for it in found.packets
-        ],
+        "contents": dict(verdict.contents),
+        "packets": [{"name": one.packet.name, "column": one.at, "says": one.words, "blocks": one.verdicts} for one in it.page.packets],
     }
 
 
-def sections_of(
-    found: Found, words: list[str], advice: tuple[str, ...], sound: dict[str, Any] | None, has_rules: bool
-) -> dict[str, Any]:
+def sections_of(it: Report, sound: dict[str, Any] | None) -> dict[str, Any]:
     """What the template has of the sections, and their names and titles."""
-    sections = [("timing", "Timing")] * bool(found.rows)
+    advice, text, has_rows = advice_of(it), it.found.text, bool(len(it.reading.events.of(Kind.LINE)))
+    sections = [("timing", "Timing")] * has_rows
     sections += [("pictures", "Pictures"), ("timeline", "Timeline"), ("faults", "Faults")]
-    sections += [("rules", "Rules")] * has_rules + [("packets", "Packets")]
+    sections += [("rules", "Rules")] * bool(it.verdict.rules) + [("packets", "Packets")]
     sections += [("sound", "Sound")] * bool(sound) + [("listing", "Listing")]
-    contents = [(kind, found.content_counts[kind], fault.says) for kind, fault in CONTENT.items()]
-    whole = "whole" if found.text.is_whole else "with the first pixels of each row"
+    contents = [(kind, it.verdict.contents[kind], fault.says) for kind, fault in CONTENT.items()]
+    whole = "whole" if text.is_whole else "with the first pixels of each row"
     return {
-        "sections": ([("advice", "What to look at")] if advice else []) + (sections if found.columns else []),
+        "sections": ([("advice", "What to look at")] if advice else []) + (sections if it.page.columns else []),
         "advice": [place.named(line) for line in advice],
-        "columns": found.columns,
-        "frames": found.frames,
-        "matrix": matrix_of(found),
-        "content_faults": [it for it in contents if it[1]],
-        "packets": found.packets,
-        "infos": infos_of(found),
+        "columns": it.page.columns,
+        "frames": it.found.frames,
+        "matrix": matrix_of(it.verdict),
+        "content_faults": [one for one in contents if one[1]],
+        "packets": it.page.packets,
+        "infos": infos_of(it.page),
         "sound": sound,
-        "listing_says": f"What “{' '.join(words)}” wrote, {whole}: {len(found.text.of):,} lines, {found.text.size:,} bytes.",
+        "listing_says": f"What “{' '.join(it.reading.command)}” wrote, {whole}: {len(text.of):,} lines, {text.size:,} bytes.",
     }
+
+
+def parser() -> argparse.ArgumentParser:
+    """The parser of the tool's words."""
+    found = command.parser("report", TEXT, "done, and the page shows a fault", EXAMPLES)
+    command.add_capture(found)
+    text = "the page (default: report.html; none with --json)"
+    found.add_argument("-o", "--output", metavar="FILE.html", type=Path, help=text)
+    found.add_argument("--json", action="store_true", help="also print what the page says as JSON, to standard output")
+    command.add_dvi(found)
+    text = "the pixel clock, for the frame rate, and for the rate of the sound if the AVI InfoFrame does not name the video format"
+    found.add_argument("--clock", type=int, metavar="HZ", help=text)
+    return found
 
 
 def work(argv: Sequence[str] | None) -> int:
-    parser = command.parser("report", TEXT, "done, and the page shows a fault", EXAMPLES)
-    parser.add_argument(
-        "capture", metavar="CAPTURE", type=Path, help="the capture, as `make`, `damage` or `lanes pack` write it"
-    )
-    parser.add_argument(
-        "-o",
-        "--output",
-        metavar="FILE.html",
-        type=Path,
-        help="the page; if left out, report.html, or none with --json",
-    )
-    parser.add_argument("--json", action="store_true", help="write what the page says as JSON too, to standard output")
-    parser.add_argument("--dvi", action="store_true", help="the source is one of DVI, without guard bands and islands")
-    text = "the pixel clock, for the rate of the frames, and that of the sound where the AVI InfoFrame does not say it"
-    parser.add_argument("--clock", type=int, metavar="HZ", help=text)
-    args = parser.parse_args(argv)
+    options = parser()
+    args = options.parse_args(argv)
     if args.clock is not None and args.clock < 1:
-        parser.error("--clock is at least 1")
-    bits = header_of(args.capture)
-    words = reading.words_of(args.dvi)
-    found, album, run = gather(words, args.capture, max(bits))
-    if not args.dvi and any(kind in reading.SUSPECT for kind, _ in found.counts) and reading.is_misaligned(args.capture):
-        words = RELOCK
-        found, album, run = gather(words, args.capture, max(bits))
-    if run.status == program.NO_CAPTURE and not found.columns:
-        raise Refused(f"{args.capture}: {program.explained(run.note)}")
+        options.error(f"--clock {args.clock}: give a pixel clock of at least 1 Hz")
+    it = gather(args.capture, args.dvi, args.clock)
     if args.json:
-        print(json.dumps(plain_of(args.capture, words, found, run, bits, args.clock), indent=1))
+        print(json.dumps(plain_of(it), indent=1))
     output = args.output or (None if args.json else Path("report.html"))
     if output:
         with replacing(output, "w", encoding="utf-8", errors="surrogateescape") as page:
-            page.write(page_of(args.capture, words, found, album, run, bits, args.clock))
-    total, contents = found.counts.total(), contents_in_words(found, False)
-    told = f"{len(found.frames)} frames, {len(found.packets)} packets, {total} faults"
-    told += f"{', in the contents ' if contents else ''}{', '.join(contents)}"
-    print(f"{output or args.capture}: {told}{f'; {ANEW}' if words == RELOCK else ''}", file=sys.stderr)
-    return command.FAULTY if is_faulty(found, run) else command.DONE
+            page.write(page_of(it))
+    command.say(f"{output or args.capture}: {it.verdict.headline}")
+    return command.FAULTY if it.verdict.is_faulty else command.DONE
 
 
 def main(argv: Sequence[str] | None = None) -> int:

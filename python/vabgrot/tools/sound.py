@@ -1,32 +1,34 @@
-"""The samples of a listing, or of what `read biphase` writes, as a WAV file."""
+"""The tool `sound`: the sound of a capture or a listing as a WAV file."""
 
 import argparse
 import sys
-from itertools import chain
+from dataclasses import replace
 from pathlib import Path
 from typing import BinaryIO
 
 from tqdm import tqdm
 
-from vabgrot import channels, command, listing, pcm, reading
+from vabgrot import capture, channels, command, listing, pcm, reading
 from vabgrot.channels import Wide
 from vabgrot.errors import Refused
 from vabgrot.formats import speakers
 from vabgrot.formats.modes import CUSTOM_CLOCK
-from vabgrot.hearing import Heard, joined, link_lines, take_batches
+from vabgrot.content import Content, packets_of, samples_of
+from vabgrot.hearing import Heard, heard_of, joined
 from vabgrot.packets import PAIRS
 from vabgrot.replacing import replacing
 
-TEXT = f"""Reads a capture, a content listing, a link listing, or what `vabgrot read biphase` writes, from standard input and
-writes its samples as a WAV file. Of a capture and of a link listing these are also sounds of more than two channels (layout 1),
-whose speakers the channel allocation of the audio InfoFrame tells; --pairs makes one of up to four pairs of channels that were
-read by `read biphase`. A capture of which an alignment was wrong is read anew, where the program has `recover relock`,
-which is said.
+TEXT = f"""Writes the sound of a capture or a listing as a WAV file. The input is a capture, a content listing, a link
+listing, or what `./vabgrot read biphase` writes, on standard input.
 
-The rate is that of the first clock packet and the mode's pixel clock (one within 0.2 percent of a usual rate is that rate, since a
-listing cannot tell 59.94 from 60 frames a second). Without a clock packet, or of a mode without a code, it is the one that the channel
-status names, or the audio InfoFrame; where two of these disagree that is a fault. Where only the clock packets of a mode without a code
-tell it, its pixel clock is taken to be {CUSTOM_CLOCK} Hz. Faults that touch the sound are counted on standard error."""
+A capture and a link listing can have up to eight channels (layout 1); the channel allocation of the audio InfoFrame names
+their speakers. --pairs makes such a sound from up to four files of `read biphase`. Standard error counts the faults that
+touch the sound. If an alignment was wrong, the tool reads the capture again with `recover relock` and says so.
+
+The sampling rate comes from the first clock packet and the pixel clock of the video mode. A rate within 0.2 percent of a
+usual one is taken as that one, because a listing cannot tell 59.94 from 60 frames per second. Without a clock packet, or if
+the mode has no code, the rate comes from the channel status or the audio InfoFrame. If two of these disagree, that is a
+fault. If nothing else names the rate, the tool assumes a pixel clock of {CUSTOM_CLOCK} Hz."""
 EXAMPLES = """tools/sound tone.wav < examples/bars.content
 ./vabgrot make content < examples/bars.content > bars.tmc
 tools/sound same.wav < bars.tmc"""
@@ -34,40 +36,36 @@ tools/sound same.wav < bars.tmc"""
 
 def heard_in(source: BinaryIO) -> Heard:
     """The sound of a capture or of a listing."""
-    with reading.capture_in(source) as path:
+    with capture.path_in(source) as path:
         return heard_by(path) if path else heard_by_lines(source)
 
 
 def heard_by(path: Path) -> Heard:
-    """The sound of a capture."""
-    heard, it = Heard(), reading.opened(reading.words_for(path, is_dvi=False), path)
-    take_batches(heard, it.batches())
-    reading.check_whole(it)
-    reading.tell(it)
-    return heard
+    """The sound of a capture. Slips, a reading anew and a capture that is cut off are said first."""
+    it = reading.read(path)
+    it.refuse_unaligned()
+    for note in it.notes:
+        command.say(f"sound: {note}")
+    content = Content(it)
+    return heard_of(content.packets, content.samples)
 
 
 def heard_by_lines(source: BinaryIO) -> Heard:
     """The sound of a listing: its first line that is no fault says of which kind it is."""
-    heard = Heard()
-    lines = listing.lines(source, listing.ANY)
-    first = []
-    for line in lines:
-        first.append(line)
-        if line[1] not in ("!", "cut"):
-            break
-    is_link = bool(first) and first[-1][1] in listing.LINK
-    kind = listing.LINK if is_link else listing.SOUND
-    whole = tqdm(listing.of_kind(chain(first, lines), kind), unit="line", disable=None)
+    is_link, lines = listing.either(source, listing.ANY, listing.SOUND)
+    whole = tqdm(lines, unit="line", disable=None)
     if is_link:
-        link_lines(heard, whole)
-    else:
-        for number, name, fields in whole:
-            heard.take(number, name, fields)
+        its = packets_of(listing.parsed(whole))
+        its = replace(its, at=its.place)  # a listing does not say all columns
+        return heard_of(its, samples_of(its, its.at[its.lost]))
+    heard = Heard()
+    for number, name, fields in whole:
+        heard.take(number, name, fields)
+    heard.end()
     return heard
 
 
-def heard_of(args: argparse.Namespace) -> Heard:
+def heard_by_words(args: argparse.Namespace) -> Heard:
     """The sound of standard input, or of the files of pairs."""
     if not args.pairs:
         return heard_in(sys.stdin.buffer)
@@ -82,10 +80,7 @@ def heard_of(args: argparse.Namespace) -> Heard:
             raise Refused(f"{path}: the listing has no samples")
     short = min(heard.samples for heard in found)
     if any(heard.samples != short for heard in found):
-        print(
-            f"sound: the pairs have {', '.join(str(heard.samples) for heard in found)} samples: {short} of each are taken",
-            file=sys.stderr,
-        )
+        command.say(f"sound: the pairs have {', '.join(str(heard.samples) for heard in found)} samples: {short} of each are taken")
     return joined(found)
 
 
@@ -95,11 +90,11 @@ def judge(heard: Heard, clock: int | None) -> None:
     if len(set(found.values())) > 1:
         heard.faults["rate"] += 1
         said = ", ".join(f"{who} say{'s' * (who != 'the clock packets')} {rate} Hz" for who, rate in found.items())
-        print(f"sound: {said}", file=sys.stderr)
+        command.say(f"sound: {said}")
     if not heard.status.is_pcm:
-        print("sound: the channel status says that the samples are not linear PCM", file=sys.stderr)
+        command.say("sound: the channel status says that the samples are not linear PCM")
     for name, count in sorted(heard.others.items()):
-        print(f"sound: {count} packets of {name} are not written", file=sys.stderr)
+        command.say(f"sound: {count} packets of {name} are not written")
 
 
 def refuse_nothing(heard: Heard) -> None:
@@ -130,7 +125,7 @@ def write(args: argparse.Namespace, heard: Heard) -> str:
         names = " ".join(name for name in sound.names if name != speakers.NONE)
         of = f"{sound.samples} samples of {sound.bits} bits, of {sound.used} channels ({names}),"
         if heard.allocation is None and args.allocation is None:
-            print(f"sound: no audio InfoFrame tells the speakers: allocation {sound.allocation} is taken", file=sys.stderr)
+            command.say(f"sound: no audio InfoFrame tells the speakers: allocation {sound.allocation} is taken")
     else:
         sound = narrow(heard, rate, args.bits)
         data = pcm.wav(sound)
@@ -140,32 +135,37 @@ def write(args: argparse.Namespace, heard: Heard) -> str:
     return f"{of} at {rate} Hz"
 
 
-def work(argv: list[str] | None) -> int:
-    """The tool's work: its status."""
-    parser = command.parser("sound", TEXT, "done, and a fault touched the sound", EXAMPLES)
-    parser.add_argument("file", metavar="FILE.wav", help="the file to be written")
-    rate = parser.add_mutually_exclusive_group()
-    text = "the sampling rate, whatever the clock packets say"
-    rate.add_argument("--rate", type=int, metavar="HZ", help=text)
-    text = "the pixel clock, where the AVI InfoFrame does not tell it"
+def parser() -> argparse.ArgumentParser:
+    """The parser of the tool's words."""
+    found = command.parser("sound", TEXT, "done, and a fault touched the sound", EXAMPLES)
+    found.add_argument("file", metavar="FILE.wav", help="the file to write")
+    rate = found.add_mutually_exclusive_group()
+    rate.add_argument("--rate", type=int, metavar="HZ", help="the sampling rate, whatever the clock packets say")
+    text = "the pixel clock, if the AVI InfoFrame does not name the video format"
     rate.add_argument("--clock", type=int, metavar="HZ", help=text)
-    text = "the bits of a sample; if left out 16 where all others are 0, and else 24"
-    parser.add_argument("--bits", type=int, choices=[16, 24], help=text)
-    text = "in place of standard input: what `read biphase` wrote of each pair of channels, pair 0 first"
-    parser.add_argument("--pairs", nargs="+", metavar="FILE", help=text)
+    text = "the bits of a sample (default: 16 if the lower bits of all samples are 0, otherwise 24)"
+    found.add_argument("--bits", type=int, choices=[16, 24], help=text)
+    text = "read these files instead of standard input: what `read biphase` wrote for each pair of channels, pair 0 first"
+    found.add_argument("--pairs", nargs="+", metavar="FILE", help=text)
     text = "the channel allocation, a number of CTA-861, whatever the audio InfoFrame says"
-    parser.add_argument("--allocation", type=int, choices=range(len(speakers.ALLOCATIONS)), metavar="CA", help=text)
-    args = parser.parse_args(argv)
+    found.add_argument("--allocation", type=int, choices=range(len(speakers.ALLOCATIONS)), metavar="CA", help=text)
+    return found
+
+
+def work(argv: list[str] | None) -> int:
+    """Does the tool's work and returns its status."""
+    words = parser()
+    args = words.parse_args(argv)
     if any(value is not None and value < 1 for value in (args.rate, args.clock)):
-        parser.error("--rate and --clock are at least 1")
+        words.error("--rate, --clock: give at least 1 Hz")
     if args.pairs and len(args.pairs) > PAIRS:
-        parser.error(f"there are at most {PAIRS} pairs")
-    heard = heard_of(args)
+        words.error(f"--pairs: there are {len(args.pairs)} files. Give at most {PAIRS}")
+    heard = heard_by_words(args)
     refuse_nothing(heard)
     said = write(args, heard)
     judge(heard, args.clock)
     told = ", ".join(f"{count} {kind}" for kind, count in sorted(heard.faults.items())) or "no faults"
-    print(f"{said}, {told}", file=sys.stderr)
+    command.say(f"{said}, {told}")
     return command.FAULTY if heard.faults else command.DONE
 
 

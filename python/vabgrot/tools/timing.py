@@ -1,28 +1,31 @@
-"""Which video format a capture has: sizes, totals, sync pulses and porches, and what of them is not as it should be."""
+"""The tool `timing`: which video format a capture has, and what differs from it."""
 
 from __future__ import annotations
 
 import argparse
 import json
 from collections.abc import Sequence
-from pathlib import Path
 from typing import Any
 
-from vabgrot import command, place, program, reading
-from vabgrot.errors import Refused
-from vabgrot.reading import RELOCK, Reading
+from vabgrot import command
+from vabgrot import reading as reader
+from vabgrot.content import Content
+from vabgrot.reading import UNALIGNED, Reading
 from vabgrot.video.matching import SIZES, Note, Rate, Timing, change_note, timings
-from vabgrot.video.timings import PARTS, Meter
+from vabgrot.video.raster import meter_of
+from vabgrot.video.timings import PARTS
 
-TEXT = """Measures the raster of a capture, and writes for each size of its frames the parts of a line and of a frame (active,
-front porch, sync, back porch, total), the polarities, whether it is interlaced, and the video format of CTA-861 (VIC 1 to 107)
-or VESA DMT that it is, or the nearest one and what differs. It names the first place at which a number is another, and says
-whether the AVI InfoFrame says the same. Porches are counted in columns (pixel clocks) and in lines of a field; where VSYNC
-of every second field begins in the middle of a line, its porches have half lines. In deep colour, as general control packets
-say it, pixels are counted in place of columns. A capture of which an alignment was wrong is read anew, where the program has
-`recover relock`, which is said on standard error. Formats with the same raster, as VIC 16 and VIC 34, are parted by --clock or
---rate alone, or by the AVI InfoFrame."""
-FAULTY = "done, and it is no format, differs from it, is not steady, or the AVI InfoFrame says otherwise"
+TEXT = """Measures the video timing of a capture. For each size of its frames, it prints the parts of a line and of a frame
+(active, front porch, sync, back porch, total), the polarities, and whether the video is interlaced.
+
+It names the video format of CTA-861 (VIC 1 to 107) or VESA DMT, or the nearest one and what differs. It also names the
+first place where a number changes, and says whether the AVI InfoFrame names the same format. Some formats have the same
+raster, such as VIC 16 and VIC 34. Only --clock, --rate or the AVI InfoFrame can tell them apart.
+
+Porches are counted in columns (pixel clocks) and in lines of a field. They have half lines if VSYNC of every second field
+begins in the middle of a line. In deep colour, pixels are counted instead of columns. If an alignment was wrong, the tool
+reads the capture again with `recover relock` and says so on standard error."""
+FAULTY = "done, and the timing fits no format, differs from it, changes, or is not that of the AVI InfoFrame"
 EXAMPLES = """tools/content examples/sent.png examples/sent.png > sent.content
 ./vabgrot make content < sent.content > sent.tmc
 tools/timing sent.tmc --clock 25175000"""
@@ -36,39 +39,19 @@ def positive(text: str) -> float:
     except ValueError:
         value = 0.0
     if not 0 < value < 1e12:
-        raise argparse.ArgumentTypeError("a number above 0 is wanted")
+        raise argparse.ArgumentTypeError(f"{text}: write a number above 0")
     return value
 
 
-def metered(words: list[str], path: Path) -> tuple[Meter, Reading]:
-    """What is read of a capture's raster, and how it was read; where an alignment was wrong it is read anew."""
-    is_suspect = False
-
-    def hear(it: Reading) -> tuple[Meter, Reading]:
-        nonlocal is_suspect
-        meter = Meter()
-        for batch in it.batches():
-            meter.take_batch(batch)
-            is_suspect = is_suspect or reading.is_suspect(batch)
-        return meter, it
-
-    meter, it = reading.read(words, path, hear, has_pixels=False)
-    if is_suspect and words[1] == "link" and reading.is_misaligned(path):
-        return metered(RELOCK, path)
-    reading.check_end(it, path)
-    if it.status == program.NO_CAPTURE and not meter.next:
-        raise Refused(f"{path}: {program.explained(it.note)}")
-    return meter, it
-
-
-def said_of(found: list[Timing], run: Reading) -> list[Note]:
-    """What is said of the whole capture."""
-    if run.status == program.NO_ALIGNMENT:
-        return [Note(place.named("no alignment: `tools/lanes look` says what the lanes have"))]
+def said_of(found: list[Timing], read: Reading) -> list[Note]:
+    """What is said of the whole capture, slips first."""
+    notes = [Note(text, text != read.bits.words) for text in read.notes]
+    if not read.is_aligned:
+        return [*notes, Note(UNALIGNED)]
     if not found:
-        return [Note(NOTHING)]
+        return [*notes, Note(NOTHING)]
     change = change_note(found)
-    return [change] if change else []
+    return notes + ([change] if change else [])
 
 
 def lines_of(timing: Timing) -> list[str]:
@@ -81,28 +64,30 @@ def lines_of(timing: Timing) -> list[str]:
     return lines[:-1] + [f"  {lines[-1].strip()}"] + [f"  {note.text}" for note in timing.notes]
 
 
-def work(argv: Sequence[str] | None) -> int:
-    parser = command.parser("timing", TEXT, FAULTY, EXAMPLES)
-    parser.add_argument("capture", metavar="CAPTURE", type=Path, help="the capture, as `make`, `damage` or `lanes pack` write it")
-    rate = parser.add_mutually_exclusive_group()
+def parser() -> argparse.ArgumentParser:
+    """The parser of the tool's words."""
+    found = command.parser("timing", TEXT, FAULTY, EXAMPLES, "done, and the timing is that of a format")
+    command.add_capture(found)
+    rate = found.add_mutually_exclusive_group()
     rate.add_argument("--clock", type=positive, metavar="HZ", help="the pixel clock")
-    text = "the frames a second, or the fields where it is interlaced"
+    text = "the frames per second, or fields per second of interlaced video"
     rate.add_argument("--rate", type=positive, metavar="FIELDS_PER_SECOND", help=text)
-    parser.add_argument("--dvi", action="store_true", help="the source is one of DVI, without guard bands and islands")
-    parser.add_argument("--json", action="store_true", help="write JSON in place of text")
-    args = parser.parse_args(argv)
-    meter, run = metered(["recover", "dvi" if args.dvi else "link"], args.capture)
-    reading.tell(run)
-    found = timings(meter, Rate(args.clock, args.rate))
-    whole = said_of(found, run)
+    command.add_dvi(found)
+    command.add_json(found)
+    return found
+
+
+def work(argv: Sequence[str] | None) -> int:
+    args = parser().parse_args(argv)
+    read = reader.read(args.capture, args.dvi)
+    found = timings(meter_of(Content(read)), Rate(args.clock, args.rate))
+    whole = said_of(found, read)
     faulty = any(note.is_fault for note in whole) or any(timing.is_faulty for timing in found)
     if args.json:
         said: dict[str, Any] = {"capture": str(args.capture), "faulty": faulty, "notes": [note.text for note in whole]}
         print(json.dumps(said | {"rasters": [timing.plain() for timing in found[:SIZES]]}, indent=1))
     else:
         print("\n".join([*(note.text for note in whole), *(line for one in found[:SIZES] for line in lines_of(one))]))
-    if run.status == program.NO_CAPTURE:
-        raise Refused(f"{args.capture}: {program.explained(run.note)}")
     return command.FAULTY if faulty else command.DONE
 
 

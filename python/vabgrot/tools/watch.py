@@ -1,4 +1,4 @@
-"""What a link carries while it comes in: a view in a terminal, counters, and a log of its faults."""
+"""The tool `watch`: what a link carries while it arrives, in a terminal, as counters and as a log of faults."""
 
 from __future__ import annotations
 
@@ -9,29 +9,33 @@ import os
 import signal
 import sys
 import time
-from collections.abc import Callable, Iterator, Sequence
+from collections.abc import Iterator, Sequence
 from dataclasses import dataclass
 from pathlib import Path
 from types import FrameType
 from typing import Any, Protocol
 
-import numpy as np
-
-from vabgrot import command, library, place, program
+from vabgrot import command
 from vabgrot.errors import Refused
+from vabgrot.events import Event, Events
+from vabgrot.reading import UNALIGNED
 from vabgrot.tools.timing import positive
+from vabgrot.verdict import Word
 from vabgrot.video.matching import Rate
-from vabgrot.watching.counting import WORD, Batch, Count, Fault
-from vabgrot.watching.feeding import ByProgram, Feed
+from vabgrot.watching.counting import Count, Ear
+from vabgrot.watching.feeding import Feed
 from vabgrot.watching.looking import Looks
 from vabgrot.watching.state import State
 
-TEXT = """Shows a capture while it comes in, from standard input, a FIFO, or a file that grows: whether the lanes are aligned and since
-when, columns a second, the video format, frames, faults by kind and lane, packets as they stand, sound levels, the last ten faults,
-and a small picture of the last frame. All faults and columns are counted; the view takes a twentieth of the time at most, and says where
-that is not enough to look at all frames. With --raw blocks without a header come in, without an end: a live link. The keyboard
-(Ctrl-C) ends it, with a summary. Where the output is no terminal a line is written each second."""
-FAULTY = "done, and a fault came, or the lanes were not aligned"
+TEXT = """Shows a capture while it arrives, from standard input, a FIFO, or a file that grows. With --raw, it shows a live
+link: raw blocks without a header and without an end. Ctrl-C ends the tool with a summary.
+
+The view shows whether the lanes are aligned and since when, columns per second, the video format, frames, faults by kind
+and lane, packets, sound levels, the last ten faults, and a small picture of the last frame. If the output is not a
+terminal, the tool writes a line each second.
+
+All faults and columns are counted. The view takes at most a twentieth of the time, and says if it cannot show every frame."""
+FAULTY = "done, and there was a fault, or the lanes were not aligned"
 EXAMPLES = """./vabgrot make content < examples/bars.content > bars.tmc
 cat bars.tmc | tools/watch --log faults.csv
 tools/watch --follow --stop-on-fault bars.tmc"""
@@ -99,7 +103,7 @@ def viewing(state: State, is_plain: bool) -> Iterator[View]:
 
 
 @contextlib.contextmanager
-def logging(path: Path | None, state: State) -> Iterator[Callable[[Fault], None] | None]:
+def logging(path: Path | None, state: State) -> Iterator[Ear | None]:
     """What writes each fault into a CSV file as it comes; None where none is wanted."""
     if path is None:
         yield None
@@ -108,9 +112,9 @@ def logging(path: Path | None, state: State) -> Iterator[Callable[[Fault], None]
         rows = csv.writer(file, lineterminator="\n")
         rows.writerow(HEADS)
 
-        def write(fault: Fault) -> None:
+        def write(fault: Event) -> None:
             lane = "" if fault.lane is None else fault.lane
-            rows.writerow((f"{state.seconds:.3f}", fault.kind, lane, fault.epoch, fault.column, " ".join(map(str, fault.more))))
+            rows.writerow((f"{state.seconds:.3f}", fault.kind.word, lane, fault.epoch, fault.first, " ".join(map(str, fault.more))))
 
         yield write
 
@@ -133,7 +137,7 @@ class Watch:
     """Takes what the receiver says until it ends."""
 
     state: State
-    ear: Callable[[Fault], None] | None
+    ear: Ear | None
     stops: bool
 
     def run(self, view: View) -> bool:
@@ -141,68 +145,64 @@ class Watch:
         shown, feed = time.monotonic(), self.state.feed
         while True:
             if feed.ready(max(0.0, shown + view.each - time.monotonic())):
-                batch = feed.read()
-                if batch is None:
+                events = feed.read()
+                if events is None:
                     return not feed.is_stopped
-                if not self.take(batch):
+                if not self.take(events):
                     return False
             self.state.sample()
             if time.monotonic() >= shown + view.each:
                 view.show()
                 shown = time.monotonic()
 
-    def take(self, batch: Batch) -> bool:
+    def take(self, events: Events) -> bool:
         """The next events; answers whether more is wanted."""
-        faults = np.flatnonzero(batch.kinds >= WORD) if self.stops else batch.kinds[:0]
-        batch = batch.until(int(faults[0]) + 1) if len(faults) else batch
-        if len(batch.kinds):
-            self.state.count.take(batch, self.ear)
-            self.state.looks.take(batch)
-        return not len(faults)
+        faults = events.faults.tolist() if self.stops else []
+        its = events[: faults[0] + 1] if faults else events
+        if len(its):
+            self.state.count.take(its, self.ear)
+            self.state.looks.take(its)
+        return not faults
 
 
-def ended(state: State, is_whole: bool) -> int:
+def ended(state: State) -> int:
     """What is said at the end, and the status."""
-    status, note = state.feed.end() if is_whole else (0, "")
-    status = status or int(state.count.total > 0)
     print("\n".join(state.summary()))
     if state.feed.error:
         raise state.feed.error
-    if status == program.NO_ALIGNMENT:
-        print(place.named("no alignment: `tools/lanes look` says what the lanes have"))
-    elif status == program.NO_CAPTURE:
-        raise Refused(program.explained(note))
-    elif status not in (0, 1):
-        raise Refused(note or f"status {status}")
-    return command.FAULTY if status else command.DONE
+    if state.feed.refusal:
+        raise Refused(state.feed.refusal)
+    if state.word == Word.UNALIGNED:
+        print(UNALIGNED)
+    if state.feed.is_cut_off:
+        print("the capture is cut off: it was read to its last whole block")
+    return command.DONE if state.word == Word.CLEAN else command.FAULTY
 
 
 def port(text: str) -> int:
     """A port of the command line."""
     if not text.isdecimal() or not 0 < int(text) < 1 << 16:
-        raise argparse.ArgumentTypeError("a port of 1 to 65535 is wanted")
+        raise argparse.ArgumentTypeError(f"{text}: write a port from 1 to 65535")
     return int(text)
 
 
 def parser() -> argparse.ArgumentParser:
-    """The words."""
+    """The parser of the tool's words."""
     found = command.parser("watch", TEXT, FAULTY, EXAMPLES)
-    found.add_argument("capture", metavar="CAPTURE", nargs="?", default="-", help="a file or a FIFO; if left out standard input")
-    found.add_argument("--follow", action="store_true", help="at the end of what is there wait for more, until the capture is whole")
+    found.add_argument("capture", metavar="CAPTURE", nargs="?", default="-", help="a file or a FIFO (default: standard input)")
+    found.add_argument("--follow", action="store_true", help="at the end of the file, wait for more until the capture is whole")
     kind = found.add_mutually_exclusive_group()
-    kind.add_argument("--dvi", action="store_true", help="the source is one of DVI, without guard bands and islands")
-    kind.add_argument("--slips", action="store_true", help="lanes may lose bits: they are aligned anew")
-    text = "raw blocks in place of a capture, without a header and without an end: three lanes of 4,096 bytes in turn; needs the C library"
+    command.add_dvi(kind)
+    text = "read raw blocks without a header and without an end: 4,096 bytes of each lane in turn"
     kind.add_argument("--raw", action="store_true", help=text)
-    kind.add_argument("--by-program", action="store_true", help="hear the capture by the program, also where the C library is there")
     rate = found.add_mutually_exclusive_group()
     rate.add_argument("--clock", type=positive, metavar="HZ", help="the pixel clock of the link")
-    text = "the frames a second of the link, or the fields where it is interlaced"
+    text = "the frames per second of the link, or fields per second of interlaced video"
     rate.add_argument("--rate", type=positive, metavar="FIELDS_PER_SECOND", help=text)
-    found.add_argument("--log", type=Path, metavar="FILE.csv", help="write each fault into a table, as it comes")
-    found.add_argument("--metrics", type=port, metavar="PORT", help="serve counters for Prometheus on this port of the loopback")
+    found.add_argument("--log", type=Path, metavar="FILE.csv", help="write each fault into a table, as it arrives")
+    found.add_argument("--metrics", type=port, metavar="PORT", help="serve counters for Prometheus on this port of 127.0.0.1")
     found.add_argument("--stop-on-fault", action="store_true", help="end at the first fault")
-    found.add_argument("--plain", action="store_true", help="write a line a second, no view")
+    found.add_argument("--plain", action="store_true", help="write a line each second instead of the view")
     return found
 
 
@@ -219,33 +219,16 @@ def stop_on_signals(feed: Feed) -> None:
     signal.signal(signal.SIGTERM, stop)
 
 
-def feed_of(args: argparse.Namespace, source: int) -> Feed:
-    """The receiver: that of the C library where it is there and hears such a link, else the program. Raises NoLibrary where raw blocks are
-    to be heard without it."""
-    if not (args.dvi or args.slips or args.by_program):
-        from vabgrot.watching.receiving import ByLibrary
-
-        try:
-            return ByLibrary(source, args.follow, args.raw)
-        except library.NoLibrary as why:
-            if args.raw:
-                raise library.NoLibrary(f"raw blocks are heard by the C library alone, and {why}") from None
-            if os.environ.get("VABGROT_LIBRARY"):
-                raise
-    words = ["recover", "dvi" if args.dvi else "track" if args.slips else "link"]
-    return ByProgram(words, source, args.follow, guards=0 if args.dvi else 2)
-
-
 def work(argv: Sequence[str] | None) -> int:
     args = parser().parse_args(argv)
     if args.capture == "-" and sys.stdin.isatty():
-        raise Refused("standard input is a terminal: a capture is wanted there, or the name of a file")
+        raise Refused("standard input is a terminal. Name a file, or send a capture there: `tools/watch < my.tmc`")
     is_plain = args.plain or not sys.stdout.isatty()
     with opened(args.capture, args.follow) as source:
-        feed = feed_of(args, source)
+        feed = Feed(source, "dvi" if args.dvi else "track", args.follow, args.raw)
         try:
             stop_on_signals(feed)
-            state = State(feed, Count(), Looks(args.dvi, Rate(args.clock, args.rate)))
+            state = State(feed, Count(), Looks(feed.grammar, Rate(args.clock, args.rate)))
             if args.metrics:
                 from vabgrot.watching.metrics import serve
 
@@ -253,11 +236,11 @@ def work(argv: Sequence[str] | None) -> int:
             with logging(args.log, state) as ear:
                 watch = Watch(state, ear, args.stop_on_fault)
                 with viewing(state, is_plain) as view:
-                    is_whole = watch.run(view)
+                    watch.run(view)
                     state.end()
-            return ended(state, is_whole)
+            return ended(state)
         finally:
-            feed.kill()
+            feed.close()
 
 
 def main(argv: Sequence[str] | None = None) -> int:

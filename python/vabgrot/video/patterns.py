@@ -109,9 +109,9 @@ def wanted_of(text: str) -> Wanted | None:
         return None
     name, _, times = text.removeprefix(PATTERN).partition(TIMES)
     if name not in PATTERNS:
-        raise Refused(f"{text}: no such pattern; there are {', '.join(PATTERNS)}")
+        raise Refused(f"{text}: there is no such pattern. Choose one of: {', '.join(PATTERNS)}")
     if times and not (times.isdecimal() and 1 <= int(times) <= 9999):
-        raise Refused(f"{text}: 1 to 9999 frames are wanted")
+        raise Refused(f"{text}: give 1 to 9999 frames")
     return Wanted(name, int(times or 1))
 
 
@@ -145,9 +145,10 @@ def sound_file(word: str | None, seconds: float) -> Iterator[str | None]:
     try:
         hertz, rate_of = float(pitch), int(rate or RATE)
     except ValueError:
-        raise Refused(f"{word}: tone:HZ or tone:HZ@RATE is wanted") from None
+        raise Refused(f"{word}: write tone:HZ or tone:HZ@RATE") from None
     if rate_of not in RATES or not 0 < hertz <= rate_of / 2:
-        raise Refused(f"{word}: the rate is one of {', '.join(map(str, RATES))}, and the tone above 0 and at most half of it")
+        rates = ", ".join(map(str, RATES))
+        raise Refused(f"{word}: no link carries this tone. Give a rate of {rates} Hz, and a tone of at most half of it")
     moments = np.arange(int(seconds * rate_of) + 1)
     level = np.rint(LEVEL * (SECOND - 1) * np.sin(2 * np.pi * hertz * moments / rate_of)).astype("<i4")
     data = np.repeat(level.view(np.uint8).reshape(-1, 4)[:, :3], 2, axis=0).tobytes()

@@ -3,10 +3,14 @@
 from collections.abc import Mapping
 from dataclasses import dataclass, field
 
-from vabgrot import making, packets
+import numpy as np
+
+from vabgrot import making
+from vabgrot.content import Packets
 from vabgrot.formats import modes
 from vabgrot.formats.layouts import Type
 from vabgrot.formats.names import EXTENDED
+from vabgrot.packets import Packet
 from vabgrot.video.colours import BT601, BT709, BT2020, DEPTHS, Encoding, Matrix, Signal
 
 PHASES = {24: 1, 30: 5, 36: 3, 48: 2}  # the columns of a group of pixels (HDMI 1.4, section 6.5.2)
@@ -18,7 +22,7 @@ Avi = Mapping[str, int]  # the numbers of an AVI InfoFrame; YQ and CN only where
 
 
 @dataclass(frozen=True)
-class Reading:
+class Rendering:
     """How the rows of a frame are to be read, and what is assumed for it, in words."""
 
     signal: Signal
@@ -36,12 +40,18 @@ class Signals:
     phase: int | None = None  # PP of that packet, None where it is not told
     odd: set[str] = field(default_factory=set)
 
-    def take_packet(self, packet: packets.Packet) -> None:
+    def take_packet(self, packet: Packet) -> None:
         """A packet without a lost block; one whose length or sum is wrong tells nothing."""
         if packet.kind == Type.CONTROL:
             self.take_control(packet.number("CD"), packet.number("PP"))
         elif packet.kind == Type.AVI and not packet.total:
             self.avi = packet.numbers or self.avi
+
+    def take_packets(self, packets: Packets) -> None:
+        """Packets; those that are known tell something."""
+        which = ~packets.lost & np.isin(packets.kind, (Type.AVI, Type.CONTROL))
+        for packet in packets[which]:
+            self.take_packet(packet)
 
     def take_control(self, depth: int, phase: int | None = None) -> None:
         """CD and PP of a general control packet; a CD of 0 tells no depth, and leaves the last one."""
@@ -60,17 +70,17 @@ class Signals:
         if kind == Type.AVI:
             self.avi = making.infoframe(kind, version, payload).numbers or self.avi
 
-    def reading(self, columns: int) -> Reading:
+    def reading(self, columns: int) -> Rendering:
         """How rows of so many columns are read."""
         notes: list[str] = []
         bits = self._bits(notes)
         if self.avi is None:
             if self.has_packets:
                 notes.append("no AVI InfoFrame came: the pixels are taken for RGB of full range")
-            return Reading(Signal(bits=bits), tuple(notes))
+            return Rendering(Signal(bits=bits), tuple(notes))
         signal = self._signal(self.avi, bits, columns, notes)
         self._judge_phase(signal, columns, notes)
-        return Reading(signal, tuple(notes))
+        return Rendering(signal, tuple(notes))
 
     def _bits(self, notes: list[str]) -> int:
         if self.depth is not None and self.depth not in DEPTHS:

@@ -1,32 +1,21 @@
-"""The timing of a link listing: the parts of its lines and fields, the polarity of its sync pulses, and how steady they are."""
+"""The timing of a capture: the parts of its lines and fields, the polarity of its sync pulses, and how steady they are."""
 
 from __future__ import annotations
 
-from array import array
+from collections.abc import Callable, Iterator, Sequence
 from dataclasses import dataclass, field
-from typing import TYPE_CHECKING, Callable, Iterator, NamedTuple, Sequence
+from typing import NamedTuple
 
 import numpy as np
 import numpy.typing as npt
 
-from vabgrot import link, packets
-from vabgrot.batch import CARRIED
-from vabgrot.formats.characters import HSYNC, PACKET, VSYNC
-from vabgrot.formats.faults import OF_PACKET, UNCOUNTED
-from vabgrot.formats.layouts import LAYOUTS, Type
-from vabgrot.formats.names import DEPTHS
+from vabgrot.events import Ints
+from vabgrot.formats.characters import PACKET
 
-if TYPE_CHECKING:
-    from vabgrot.batch import Batch
-
-Ints = npt.NDArray[np.int64]
 PARTS = ("active", "front porch", "sync", "back porch", "total")
-LEAST_AVI = LAYOUTS["avi"].fields["PR"].byte  # bytes of an AVI InfoFrame that says how often pixels are sent
-TOLD = (f"{Type.AVI:02x}", f"{Type.CONTROL:02x}")
 DEPTH = 24  # bits of a pixel that takes one column
 LOST = 2  # in place of a level: what follows is not known to follow at once
 STABLE = 16  # neighbouring rows of one width and one level of both syncs, from which on the two hold
-ALIKE = ("0" * PACKET, "1" * PACKET, "2" * PACKET, "3" * PACKET)
 GLITCH = 2  # columns: the most of a change within a damaged packet that is no sync pulse
 
 
@@ -97,206 +86,32 @@ class Field:
     trail: int | None
     end: int | None
     rows: slice = field(default_factory=lambda: slice(0, 0))
+    is_hurt: bool = False
 
     @property
     def is_whole(self) -> bool:
         """Whether all its rows were seen, and some are there."""
-        return self.trail is not None and self.end is not None and self.rows.stop > self.rows.start
+        return not self.is_hurt and self.trail is not None and self.end is not None and self.rows.stop > self.rows.start
 
 
+@dataclass(frozen=True, eq=False)
 class Meter:
-    """Takes the things of a link listing (those of `link.Columns`), one after another or in batches, and keeps where HSYNC, VSYNC and rows
-    change. A change is kept as four times its column, and its level or LOST."""
+    """Where HSYNC, VSYNC and rows change, in columns over all epochs. A change is four times its column, plus its level or LOST."""
 
-    def __init__(self) -> None:
-        self.hsync, self.vsync = array("q"), array("q")
-        self.firsts, self.widths, self.levels = array("q"), array("q"), array("b")
-        self.words, self.known = array("q"), array("q")  # damaged columns, and from where on the syncs are known again
-        self.damaged = array("q")  # packets with a fault, by their first columns
-        self.slips = array("q")  # the first columns behind them
-        self.avis: list[tuple[int, Avi]] = []
-        self.depths: list[tuple[int, int]] = []  # columns, and the bits of a pixel from there on
-        self.next, self.value = 0, LOST
-        self.lose(0)
-
-    def lose(self, column: int) -> None:
-        """What begins with this column is not known to follow what was before it."""
-        self.hsync.append(column << 2 | LOST)
-        self.vsync.append(column << 2 | LOST)
-        self.next, self.value = column, -1
-
-    def take(self, thing: link.Thing) -> None:
-        """The next thing of the listing."""
-        kind, at = thing.kind, thing.at
-        if kind == "fault":
-            self.fault(thing)
-            return
-        if at != self.next:
-            self.lose(at)
-        self.next = at + thing.columns
-        if kind == "control":
-            if thing.value & 3 != self.value:
-                self.change(at, thing.value & 3)
-        elif kind == "video":
-            pixels = thing.pixels
-            if self.known and self.known[-1] == at:
-                self.known[-1] = self.next
-            self.firsts.append(self.next - pixels)
-            self.widths.append(pixels)
-            self.levels.append(self.value)
-        elif kind == "packet":
-            if thing.texts[5] != ALIKE[self.value]:
-                self.syncs(at, thing.texts[5])
-            if thing.digits.startswith(TOLD):
-                self.tell(at, packets.packet_of(thing.texts, thing.line))
-        elif kind == "slip":
-            self.slips.append(at)
-            self.lose(at)
-        elif kind != "cut":
-            self.syncs(at, thing.digits)
-
-    def take_batch(self, batch: Batch) -> None:
-        """The next lines of the listing."""
-        begin = 0
-        for place, thing in batch.special:
-            self.take_lines(batch, begin, place)
-            self.take(thing)
-            begin = place + 1
-        self.take_lines(batch, begin, len(batch))
-
-    def take_lines(self, batch: Batch, begin: int, stop: int) -> None:
-        """Lines of a batch among which there are no faults."""
-        if begin == stop:
-            return
-        at, behind = batch.at[begin:stop], (batch.at + batch.columns)[begin:stop]
-        for step in (1 + np.flatnonzero(at[1:] != behind[:-1])).tolist():  # columns that could not be counted stand before it
-            self.take_columns(batch, slice(begin, stop + step - len(at)))
-            begin = stop + step - len(at)
-        self.take_columns(batch, slice(begin, stop))
-
-    def take_columns(self, batch: Batch, lines: slice) -> None:
-        """Lines of a batch without a column between them."""
-        kinds, at, values = batch.kinds[lines], batch.at[lines], batch.values[lines]
-        if at[0] != self.next:
-            self.lose(int(at[0]))
-        self.next = int(at[-1] + batch.columns[lines][-1])
-        control = np.flatnonzero(kinds == link.CONTROL)
-        columns, levels = at[control], values[control] & 3
-        if len(control) < len(kinds):
-            others = self.others(batch, lines, kinds)
-            columns, levels = np.concatenate([columns, others[0]]), np.concatenate([levels, others[1]])
-            order = np.argsort(columns, kind="stable")
-            columns, levels = columns[order], levels[order]
-        self.take_rows(batch, lines, columns, levels)
-        self.changes(columns, levels)
-
-    def changes(self, columns: Ints, levels: Ints) -> None:
-        """The syncs have these values at some columns."""
-        if not len(columns):
-            return
-        changed = levels ^ np.concatenate((np.array([self.value]), levels[:-1]))
-        changed[0] = changed[0] if self.value >= 0 else 3
-        for side, bit, place in ((self.hsync, HSYNC, 0), (self.vsync, VSYNC, 1)):
-            at = np.flatnonzero(changed & bit)
-            side.frombytes((columns[at] << 2 | levels[at] >> place & 1).tobytes())
-        self.value = int(levels[-1])
-
-    def others(self, batch: Batch, lines: slice, kinds: npt.NDArray[np.uint8]) -> tuple[Ints, Ints]:
-        """The syncs of islands: some columns, and their values. Packets whose columns have one value say it once."""
-        columns: list[Ints] = []
-        levels: list[Ints] = []
-        guards = lines.start + np.flatnonzero((kinds == link.OPEN) | (kinds == link.CLOSE))
-        for step, shift in ((0, 0), (1, 2)):
-            columns.append(batch.at[guards] + step)
-            levels.append(batch.values[guards] >> shift & 3)
-        islands = lines.start + np.flatnonzero(kinds == link.ISLAND_PACKET)
-        if len(islands):
-            syncs = batch.octets(islands, CARRIED).astype(np.int64)
-            alike = (syncs == syncs[:, :1]).all(axis=1)
-            columns += [batch.at[islands[alike]], (batch.at[islands[~alike], None] + np.arange(PACKET)).reshape(-1)]
-            levels += [syncs[alike, 0], syncs[~alike].reshape(-1)]
-            types = batch.values[islands]
-            for place in islands[(types == Type.AVI) | (types == Type.CONTROL)].tolist():
-                self.tell(int(batch.at[place]), batch.packet(place))
-        return np.concatenate(columns), np.concatenate(levels)
-
-    def take_rows(self, batch: Batch, lines: slice, columns: Ints, levels: Ints) -> None:
-        """Rows among these lines, and the syncs before them."""
-        rows = lines.start + np.flatnonzero(batch.kinds[lines] == link.VIDEO)
-        if not len(rows):
-            return
-        at, behind, pixels = batch.at[rows], (batch.at + batch.columns)[rows], batch.values[rows]
-        while self.known and (found := np.flatnonzero(at == self.known[-1])).size:
-            self.known[-1] = int(behind[found[0]])
-        before = np.concatenate((np.array([self.value]), levels))[np.searchsorted(columns, at)]
-        self.firsts.frombytes((behind - pixels).tobytes())
-        self.widths.frombytes(pixels.tobytes())
-        self.levels.frombytes(before.astype(np.int8).tobytes())
-
-    def change(self, column: int, value: int) -> None:
-        """The syncs have another value from a column on."""
-        changed = value ^ self.value if self.value >= 0 else 3
-        if changed & HSYNC:
-            self.hsync.append(column << 2 | value & 1)
-        if changed & VSYNC:
-            self.vsync.append(column << 2 | value >> 1)
-        self.value = value
-
-    def syncs(self, column: int, digits: str) -> None:
-        """The syncs of an island's columns."""
-        for place, digit in enumerate(digits):
-            value = "0123".find(digit)
-            if value != self.value and value >= 0:
-                self.change(column + place, value)
-
-    def fault(self, thing: link.Thing) -> None:
-        """A fault: what it makes of the columns, and which changes it may have made."""
-        kind, columns = thing.fault, thing.columns
-        if kind == "guard" or kind == "word" and thing.numbers[0] == 0:
-            self.words.append(thing.at)
-            self.known.append(thing.at + 1)
-        elif kind in OF_PACKET:
-            self.damaged.append(thing.at)
-        if kind in UNCOUNTED:
-            self.lose(max(self.next, thing.at + columns))
-        elif columns:
-            self.next = thing.at + columns
-
-    def tell(self, at: int, packet: packets.Packet) -> None:
-        """An AVI InfoFrame or a general control packet."""
-        if packet.kind == Type.AVI:
-            self.avi(at, packet)
-        else:
-            self.depth(at, packet)
-
-    def depth(self, at: int, packet: packets.Packet) -> None:
-        """Keeps the depth of colour of a general control packet that says one."""
-        depth = packet.number("CD")
-        if depth in DEPTHS:
-            self.depths.append((at, DEPTHS[depth]))
-
-    def avi(self, at: int, packet: packets.Packet) -> None:
-        """Keeps what an AVI InfoFrame says; one with a wrong checksum says nothing."""
-        if not packet.total and packet.length >= LEAST_AVI:
-            self.avis.append((at, Avi(packet.number("VIC"), packet.number("PR"))))
-
-    def follow(self, begin: int, end: int, columns: Ints, values: Ints) -> int:
-        """Columns from one up to another, of which none is damaged: HSYNC plus twice VSYNC as they are told, and where. Answers the value
-        before them."""
-        if begin != self.next:
-            self.lose(begin)
-        before, self.next = self.value, end
-        self.changes(columns, values)
-        return before
-
-    def lines(self, ends: Ints, pixels: Ints, levels: Ints) -> None:
-        """Lines among these columns: the columns behind them, their pixels, and the syncs before each."""
-        firsts = ends - pixels
-        if len(firsts) and self.known and self.known[-1] == int(firsts[0]) - 2:
-            self.known[-1] = int(ends[0])
-        self.firsts.frombytes(firsts.astype(np.int64).tobytes())
-        self.widths.frombytes(pixels.astype(np.int64).tobytes())
-        self.levels.frombytes(levels.astype(np.int8).tobytes())
+    hsync: Ints
+    vsync: Ints
+    firsts: Ints  # of rows: the columns of the first pixels, how many there are, and the syncs before them
+    widths: Ints
+    levels: Ints
+    words: Ints  # damaged columns, and from where on the syncs are known again
+    known: Ints
+    damaged: Ints  # packets with a fault, by their first columns
+    slips: Ints  # the first columns after them
+    hurt: Ints  # columns at which a row may be missing, or be there by damage
+    flawed: Ints  # damaged control columns, at which a row may begin or end elsewhere
+    avis: list[tuple[int, Avi]]
+    depths: list[tuple[int, int]]  # columns, and the bits of a pixel from there on
+    next: int  # the column after the last one
 
 
 class Edges(NamedTuple):
@@ -319,11 +134,6 @@ class Lines(NamedTuple):
     end: Ints
     row: Ints
     sure: npt.NDArray[np.bool_]
-
-
-def ints(values: array[int]) -> Ints:
-    """An array of 64-bit numbers, which is not copied."""
-    return np.frombuffer(values, np.int64) if values else np.zeros(0, np.int64)
 
 
 def spans(begins: Ints, ends: Ints) -> Ints:
@@ -518,8 +328,7 @@ class Part:
 def parts_of(meter: Meter) -> Iterator[Part]:
     """The parts of what a meter took: a new one begins with a row from which on another width or polarity holds for STABLE
     rows, and the one before ends with the row before."""
-    firsts, widths = ints(meter.firsts), ints(meter.widths)
-    levels = np.frombuffer(meter.levels, np.int8) if meter.levels else np.zeros(0, np.int8)
+    firsts, widths, levels = meter.firsts, meter.widths, meter.levels
     pairs = widths << 2 | levels & 3
     begins = np.flatnonzero(np.diff(pairs, prepend=-1))
     stable = begins[np.diff(begins, append=len(pairs)) >= STABLE]
@@ -540,6 +349,8 @@ def down_of(one: Field, ruler: Ruler, firsts: Ints) -> dict[str, float]:
     known = {name: ruler.halves(at)[0] for name, at in (("lead", one.lead), ("trail", one.trail), ("end", one.end)) if at is not None}
     seen = {name: at for name, at in known.items() if at is not None}
     found: dict[str, float] = {}
+    if one.is_hurt:
+        return found
     if one.is_whole:
         found["active"] = one.rows.stop - one.rows.start
     if one.rows.stop > one.rows.start:
@@ -612,16 +423,27 @@ def late_of(found: list[Field], vsync: Edges, ruler: Ruler) -> Figure | None:
     return figure([columns for _, columns in late], [at for at, _ in late], whole_place)
 
 
-def rasters_of(part: Part, hsync: Edges, vsync: Edges) -> Iterator[Raster]:
-    """The rasters of a part, one for each size of its fields, in the order in which they begin."""
+def are_hurt(hurt: Ints, begins: npt.ArrayLike, ends: npt.ArrayLike) -> npt.NDArray[np.bool_]:
+    """Whether a row may be missing from each column to before another."""
+    found: npt.NDArray[np.bool_] = np.searchsorted(hurt, begins) < np.searchsorted(hurt, ends)
+    return found
+
+
+def rasters_of(part: Part, hsync: Edges, vsync: Edges, hurt: Ints, flawed: Ints) -> Iterator[Raster]:
+    """The rasters of a part, one for each size of its fields, in the order in which they begin. Fields and lines in which one of the
+    `hurt` columns lies are not measured, nor are lines with one of the `flawed` ones."""
     wide, tall = part.level & 1, part.level >> 1
     lines = lines_of(hsync, 1 - wide, part.firsts)
+    both = np.union1d(hurt, flawed)
+    lines = lines._replace(sure=lines.sure & ~are_hurt(both, lines.start, lines.end))
     found = fields_of(vsync, 1 - tall, part.stop)
     for one in found:
         first, behind = np.searchsorted(part.firsts, (one.begin, one.stop))
         one.rows = slice(int(first), int(behind))
     totals = np.unique(lines.end[lines.sure] - lines.start[lines.sure], return_counts=True)
     ruler = Ruler(lines.leads, float(totals[0][np.argmax(totals[1])]) if len(totals[0]) else 0.0)
+    for one in found:  # damage within a line of an edge may have made the edge
+        one.is_hurt = bool(are_hurt(hurt, one.begin - ruler.total, one.stop + ruler.total))
     number = np.searchsorted([one.begin for one in found], lines.start, "right") - 1
     groups: dict[tuple[int, int | None], list[int]] = {}
     for place, size in enumerate(sized(part, found)):
@@ -675,14 +497,14 @@ def downs_of(its: list[Field], ruler: Ruler, firsts: Ints, interlaced: bool) -> 
 
 def rasters(meter: Meter) -> Iterator[Raster]:
     """The rasters of all that a meter took, in the order in which they begin; none where there are no rows."""
-    if not meter.firsts:
+    if not len(meter.firsts):
         return
-    words = spans(ints(meter.words), ints(meter.known))
-    damaged = spans(ints(meter.damaged), ints(meter.damaged) + PACKET)
-    slips = ints(meter.slips)
+    words = spans(meter.words, meter.known)
+    damaged = spans(meter.damaged, meter.damaged + PACKET)
+    slips = meter.slips
     for part in parts_of(meter):
-        hsync = edges(part.slice(ints(meter.hsync)), words, damaged)
-        vsync, period = part.slice(ints(meter.vsync)), period_of(hsync)
+        hsync = edges(part.slice(meter.hsync), words, damaged)
+        vsync, period = part.slice(meter.vsync), period_of(hsync)
         if period:
             vsync = held(without_pulses(vsync, words, np.iinfo(np.int64).max), period, slips)
-        yield from rasters_of(part, hsync, edges(vsync, words, damaged))
+        yield from rasters_of(part, hsync, edges(vsync, words, damaged), meter.hurt, meter.flawed)

@@ -5,6 +5,8 @@ from dataclasses import dataclass
 from fractions import Fraction
 from typing import Generic, Protocol, TypeVar
 
+from vabgrot.events import UNTOLD
+
 NEAR = Fraction(1, 8)  # of a line, by which the places of two fields may differ from half a line
 HALF = Fraction(1, 2)
 
@@ -35,10 +37,10 @@ class Pair(Generic[Field]):
     is_field: bool = False
 
 
-def lines_down(change: int | None, firsts: list[int | None]) -> Fraction | None:
+def lines_down(change: int | None, firsts: list[int]) -> Fraction | None:
     """The lines from the column of a change of VSYNC to the first of some rows, by the columns in which these begin. A row of
     unknown column, or a single one, does not tell it."""
-    if change is None or len(firsts) < 2 or firsts[0] is None or firsts[1] is None or firsts[1] <= firsts[0]:
+    if change is None or len(firsts) < 2 or firsts[0] == UNTOLD or firsts[1] <= firsts[0]:
         return None
     return Fraction(firsts[0] - change, firsts[1] - firsts[0])
 

@@ -10,7 +10,7 @@ from collections.abc import Sequence
 import numpy as np
 
 from vabgrot.capture import BLOCK
-from vabgrot.receiving import Octets
+from vabgrot.events import Octets
 
 BLOCKS = 1024  # of each lane for which there is room: what is done once a room, or once a batch of events, is then done seldom
 FEW, MOST = 256, 1024  # rooms of blocks that one call reads into: a pipe has no more than the one, and no call takes more than the other

@@ -1,195 +1,165 @@
-"""What comes in is fed to a receiver: from standard input, a FIFO, a file, or a file that grows. Here the receiver is the program."""
+"""What comes in is fed to the receiver: from standard input, a FIFO, a file, or a file that grows; raw blocks, which have no end, or a
+capture."""
 
 from __future__ import annotations
 
 import contextlib
-import errno
 import fcntl
 import os
 import select
-import signal
-import subprocess
-import sys
-import threading
-from collections.abc import Callable, Iterator, Sequence
-from typing import Protocol
+from collections.abc import Iterator
 
-from vabgrot import program
-from vabgrot.watching.counting import Batch
-from vabgrot.watching.lines import Lines, Pieces
+from vabgrot import capture, program
+from vabgrot.capture import BLOCK
+from vabgrot.errors import Refused
+from vabgrot.events import Events, joined
+from vabgrot.library import Grammar
+from vabgrot.receiving import Receiver
+from vabgrot.watching.blocks import LANES, Blocks
 
-PIECE = 1 << 20  # bytes that are moved at a time, at most
-HEADS = {b"TMC1": 8, b"TMC2": 16}  # how a capture begins, and the bytes of its header
-SWITCH = 2e-4  # seconds after which the thread that feeds gets its turn: a full pipe lasts the program some milliseconds
 PAUSE = 100  # milliseconds after which a file that grows is looked at again
-WITHOUT_SPLICE = (errno.EINVAL, errno.ENOSYS, errno.EPERM)
+FIRST = 4  # bytes that say how long a header is
+EVENTS, BYTES = 1 << 18, 1 << 24  # room for what a room of blocks mostly says
+NOTHING = joined([])
 
 
-def bits_of(head: bytes) -> list[int]:
-    """The bits of each lane by the header of a capture, as far as it is there; none of what is no capture."""
-    size = HEADS.get(head[:4], 0)
-    return [int.from_bytes(head[at : at + 4], "big") for at in range(4, size, 4)] if 0 < size <= len(head) else []
+class Feed:
+    """A receiver over what comes from a file: with `is_raw` blocks without a header, else a capture. If the file `grows`, its end is waited
+    for. `bytes` are those that came, `is_stopped` says that no more are wanted, and `refusal` says why it is no capture. Raises
+    NoLibrary."""
 
-
-def size_of(head: bytes) -> int | None:
-    """The bytes of a capture by its header; None where that is not known."""
-    bits = bits_of(head)
-    lanes = bits * (3 // len(bits)) if bits else []
-    return HEADS[head[:4]] + sum((count + 7) // 8 for count in lanes) if lanes else None
-
-
-class Feed(Protocol):
-    """A receiver over what comes from a file. `bytes` are those that came, `is_stopped` says that no more are wanted."""
-
-    bytes: int
-    is_stopped: bool
-    error: OSError | None
+    def __init__(self, source: int, grammar: Grammar, grows: bool, is_raw: bool) -> None:
+        self.receiver = Receiver(grammar, EVENTS, BYTES)
+        self.source, self.grammar, self.grows, self.is_raw = source, grammar, grows, is_raw
+        self.head, self.bytes, self.bits, self.refusal = b"", 0, [0] * LANES, ""
+        self.error: OSError | None = None
+        self.is_stopped, self.is_waiting, self.is_ended, self.is_aligned, self.is_cut_off = False, False, False, False, False
+        self.blocks = Blocks() if is_raw else None  # of a capture they are known by its header
+        self.left = [0] * LANES  # of a capture, the bits of each lane that were not fed
+        self.heard: Iterator[Events] = iter(())
+        self.next: Events | None = None
+        self.wake, self.waker = os.pipe()
+        with contextlib.suppress(OSError, AttributeError):  # where it is no pipe, or the system lets none be so large
+            fcntl.fcntl(source, fcntl.F_SETPIPE_SZ, program.PIPE)
 
     @property
     def length(self) -> int:
-        """How many bits the longest lane will have; 0 where that is not known."""
+        """The bits of the longest lane, by the header of a capture."""
+        return max(self.bits)
+
+    @property
+    def is_whole(self) -> bool:
+        """Whether a capture is there to its last byte."""
+        return self.blocks is not None and self.blocks.is_done
 
     def ready(self, seconds: float) -> bool:
-        """Waits until there is something to read, or so long; answers whether there is."""
+        """Waits for bytes, or for the end of what comes, or so long; answers whether there is something to read."""
+        self.next = self.next or next(self.heard, None)
+        if self.next or self.is_ended or self.is_stopped or self.refusal:
+            return True
+        if self.is_waiting:
+            self.is_waiting = False
+            select.select([self.wake], [], [], min(seconds, PAUSE / 1000))
+            return True
+        return bool(select.select([self.source, self.wake], [], [], seconds)[0])
 
-    def read(self) -> Batch | None:
-        """The next events, which may be none. They are valid until the next call. At the end None."""
+    def read(self) -> Events | None:
+        """The events that the bytes which are there decide. Their bytes are valid until the next call. At the end None."""
+        found, self.next = self.next or next(self.heard, None), None
+        if found is None:
+            if self.is_ended:
+                return None
+            came = not (self.is_stopped or self.refusal) and self.fill()
+            if came or not self.goes_on():
+                self.heard = self.fed() if came and not self.refusal else self.last()
+                found = next(self.heard, None)
+        return found or NOTHING
+
+    def fill(self) -> bool:
+        """Takes in what is there, as far as there is room; answers whether something came."""
+        came = total = self.came()
+        while came and self.blocks and not self.blocks.is_full and select.select([self.source], [], [], 0)[0]:
+            came = self.came()
+            total += came
+        return total > 0
+
+    def came(self) -> int:
+        """Takes in bytes that are there: answers how many."""
+        try:
+            if self.blocks is None:
+                came = self.begin()
+            elif self.blocks.is_done:
+                came = len(os.read(self.source, 1))
+                self.refusal = f"not a capture: something follows its last bit, at byte {self.bytes:,}" if came else ""
+            else:
+                came = self.blocks.read(self.source)
+        except OSError as why:
+            self.error, came = why, 0
+        self.bytes += came
+        return came
+
+    def begin(self) -> int:
+        """Takes in a part of the header of a capture: answers how many bytes."""
+        wanted = capture.size_of_header(self.head) if len(self.head) >= FIRST else FIRST
+        piece = os.read(self.source, wanted - len(self.head))
+        self.head += piece
+        try:
+            capture.check_magic(self.head)
+            if len(self.head) >= FIRST and len(self.head) == capture.size_of_header(self.head):
+                self.bits, _ = capture.header_of(self.head)
+                self.left = [*self.bits]
+                self.blocks = Blocks([(count + 7) // 8 for count in self.bits])
+        except Refused as why:
+            self.refusal = str(why)
+        return len(piece)
+
+    def goes_on(self) -> bool:
+        """At the end of what is there: whether more is waited for."""
+        self.is_waiting = self.grows and not (self.is_stopped or self.error or self.refusal or self.is_whole)
+        return self.is_waiting
+
+    def fed(self) -> Iterator[Events]:
+        """Feeds all blocks that are whole."""
+        count = self.judged() if self.blocks else 0
+        if not self.blocks or not count:
+            return
+        lanes = blue, green, red = self.blocks.lanes(count)
+        bits = None if self.is_raw else [min(left, 8 * len(lane)) for left, lane in zip(self.left, lanes)]
+        yield from self.receiver.feed_views(blue, green, red, bits)
+        if bits:
+            self.left = [left - count for left, count in zip(self.left, bits)]
+        self.blocks.take(count)
+
+    def judged(self) -> int:
+        """How many blocks are whole, and of a capture without ones after the end of a lane."""
+        assert self.blocks
+        count = self.blocks.whole()
+        for number, lane in enumerate(self.blocks.lanes(count) if any(left % 8 for left in self.left) else []):
+            spare = self.left[number] % 8
+            if len(lane) == self.blocks.left[number] and spare and lane[-1] >> spare:
+                count = min(count, (len(lane) - 1) // BLOCK)
+                self.refusal = f"not a capture: lane {number} has ones after its last bit"
+        return count
+
+    def last(self) -> Iterator[Events]:
+        """What is decided at the end of what came. A capture that is cut off is read to its last whole block."""
+        if self.is_raw and self.blocks:
+            blue, green, red = self.blocks.last()
+            yield from self.receiver.feed_views(blue, green, red)
+        elif not (self.refusal or self.error or self.is_stopped or self.is_whole):
+            self.is_cut_off = self.blocks is not None
+            self.refusal = "" if self.blocks else f"the capture breaks off after {self.bytes} bytes, in its header"
+        if not self.refusal:
+            rest, end = self.receiver.finish()
+            self.is_aligned = end.aligned
+            yield rest
+        self.is_ended = True
 
     def stop(self) -> None:
         """Takes no more in: what was decided until then still comes."""
-
-    def end(self) -> tuple[int, str]:
-        """The status of the end, as the program has it, and its note."""
-
-    def kill(self) -> None:
-        """Gives back what was taken for it, in whatever state it is."""
-
-
-class ByProgram:
-    """The program's command over what comes from a file: a thread moves the bytes, and counts them. Where the file `grows` its end is
-    waited for until the capture is whole. `guards` are the columns before the pixels of a row: none of DVI."""
-
-    def __init__(self, words: Sequence[str], source: int, grows: bool, guards: int = 2) -> None:
-        self.source, self.grows = source, grows
-        self.head, self.bytes = b"", 0
-        self.error: OSError | None = None
-        self.wake, self.waker = os.pipe()
-        on = program.processors()[os.getpid() % len(program.processors())]
-        self.process = subprocess.Popen(
-            [*on, program.find(), *words],
-            stdin=subprocess.PIPE,
-            stdout=subprocess.PIPE,
-            stderr=subprocess.PIPE,
-            process_group=0,  # the keyboard ends this tool, which then ends the program
-        )
-        assert self.process.stdin and self.process.stdout and self.process.stderr
-        self.input, self.output = self.process.stdin.fileno(), self.process.stdout.fileno()
-        for pipe in (self.input, self.output):
-            with contextlib.suppress(OSError, AttributeError):  # where the system lets no pipe be so large, or is another one
-                fcntl.fcntl(pipe, fcntl.F_SETPIPE_SZ, program.PIPE)
-        self.pieces, self.is_ended = Pieces(self.output, guards), False
-        self.is_stopped = False
-        sys.setswitchinterval(SWITCH)
-        self.thread = threading.Thread(target=self.run, daemon=True)
-        self.thread.start()
-
-    def run(self) -> None:
-        """Moves all bytes, and closes the program's input."""
-        signal.pthread_sigmask(signal.SIG_BLOCK, {signal.SIGPIPE})
-        try:
-            for moved in self.moves():
-                self.bytes += moved
-        except BrokenPipeError:  # the program refuses what it was given
-            pass
-        except OSError as why:
-            self.error = why
-        finally:
-            assert self.process.stdin
-            self.process.stdin.close()
-
-    def moves(self) -> Iterator[int]:
-        """Moves the bytes: answers how many at a time."""
-        while len(self.head) < max(HEADS.values()) and self.wait():
-            piece = os.read(self.source, max(HEADS.values()) - len(self.head))
-            if not piece and not self.pause():
-                break
-            self.head += piece
-            yield os.write(self.input, piece) if piece else 0
-        move = self.spliced
-        while self.wait():
-            try:
-                moved = move()
-            except OSError as why:
-                if why.errno not in WITHOUT_SPLICE or move == self.copied:
-                    raise
-                move = self.copied
-                continue
-            if not moved and not self.pause():
-                break
-            yield moved
-
-    def spliced(self) -> int:
-        """Moves bytes without a copy: answers how many."""
-        splice: Callable[[int, int, int], int] = getattr(os, "splice")  # noqa: B009 -- of Linux alone
-        return splice(self.source, self.input, PIECE)
-
-    def copied(self) -> int:
-        """Moves bytes: answers how many."""
-        piece, at = os.read(self.source, PIECE), 0
-        while at < len(piece):
-            at += os.write(self.input, piece[at:])
-        return at
-
-    def wait(self) -> bool:
-        """Waits for bytes; answers False once it is stopped."""
-        poll = select.poll()
-        poll.register(self.source, select.POLLIN)
-        poll.register(self.wake, select.POLLIN)
-        poll.poll()
-        return not self.is_stopped
-
-    def pause(self) -> bool:
-        """At the end of what is there: waits a while, and answers whether more may come."""
-        if not self.grows or self.bytes >= (size_of(self.head) or self.bytes + 1):
-            return False
-        poll = select.poll()
-        poll.register(self.wake, select.POLLIN)
-        poll.poll(PAUSE)
-        return not self.is_stopped
-
-    @property
-    def length(self) -> int:
-        """The bits of the longest lane, by the header."""
-        return max(bits_of(self.head), default=0)
-
-    def ready(self, seconds: float) -> bool:
-        """Waits until the program says something, or so long."""
-        return bool(select.select([self.output], [], [], seconds)[0])
-
-    def read(self) -> Lines | None:
-        """The next lines of its listing."""
-        if self.is_ended:
-            return None
-        lines = self.pieces.read()
-        self.is_ended = self.pieces.is_ended
-        return lines
-
-    def stop(self) -> None:
-        """Feeds no more: what the program has still says comes."""
         self.is_stopped = True
         os.write(self.waker, b"x")
 
-    def end(self) -> tuple[int, str]:
-        """The program's status and its note."""
-        assert self.process.stderr
-        note = self.process.stderr.read().decode(errors="replace").strip()
-        status = self.process.wait()
-        if status < 0:
-            note = note or f"signal {-status}"
-        return status, note
-
-    def kill(self) -> None:
-        """Ends the program where it still runs."""
-        if self.process.poll() is None:
-            self.process.kill()
-            self.process.wait()
+    def close(self) -> None:
+        """Gives the receiver's memory back."""
+        self.receiver.close()

@@ -33,7 +33,7 @@ class Watched(Collector):
                 faults.add_metric([kind, "" if lane is None else LANES[lane]], times[kind, lane])
         yield faults
         yield CounterMetricFamily("vabgrot_columns", "Columns that events tell.", value=count.before + count.columns)
-        yield CounterMetricFamily("vabgrot_frames", "Whole frames.", value=count.syncs.frames)
+        yield CounterMetricFamily("vabgrot_frames", "Whole frames.", value=count.frames)
         yield CounterMetricFamily("vabgrot_received_bytes", "Bytes of the capture.", value=state.feed.bytes)
         yield CounterMetricFamily("vabgrot_frames_looked_at", "Whole frames that the view looked at.", value=state.looks.looked)
         yield GaugeMetricFamily("vabgrot_aligned", "1 where the lanes are aligned.", value=int(count.is_aligned))

@@ -4,13 +4,15 @@ from __future__ import annotations
 
 import time
 from collections import Counter, deque
-from dataclasses import dataclass, field
+from dataclasses import dataclass, field, replace
 from typing import NamedTuple
 
+from vabgrot.events import Event, Ints, Kind
 from vabgrot.formats.characters import LANES, TEN
+from vabgrot.verdict import Link, Word
 from vabgrot.video.matching import counted
 from vabgrot.video.timings import DEPTH
-from vabgrot.watching.counting import Count, Fault, Ints, Key, counter_of
+from vabgrot.watching.counting import Count, Key, counter_of
 from vabgrot.watching.feeding import Feed
 from vabgrot.watching.looking import Looks
 
@@ -39,14 +41,14 @@ def lane_of(key: Key) -> str:
     return "" if key[1] is None else LANES[key[1]]
 
 
-def place_of(fault: Fault) -> str:
+def place_of(fault: Event) -> str:
     """A fault in words: where it is, and its numbers."""
     lane = f", {LANES[fault.lane]}" if fault.lane is not None else ""
     more = f", {' '.join(map(str, fault.more))}" if fault.more else ""
-    if fault.kind == "slip":
-        return f"slip: bit {fault.column:,}{lane}"
+    if fault.kind == Kind.SLIP:
+        return f"slip: bit {fault.first:,}{lane}"
     behind = f" behind slip {fault.epoch}" if fault.epoch else ""
-    return f"{fault.kind}: column {fault.column:,}{behind}{lane}{more}"
+    return f"{fault.kind.word}: column {fault.first:,}{behind}{lane}{more}"
 
 
 @dataclass
@@ -111,7 +113,7 @@ class State:
         """Whether the lanes are aligned, and since when."""
         count = self.count
         slip, slips = count.slip, counted(count.epoch, "slip")
-        behind = f" behind the slip at bit {slip.column:,} ({slips})" if slip else ""
+        behind = f" behind the slip at bit {slip.first:,} ({slips})" if slip else ""
         if count.is_aligned:
             return f"aligned for {count.columns:,} columns{behind}"
         return f"not aligned{behind}: {counted(self.bits, 'bit')} a lane came"
@@ -139,7 +141,7 @@ class State:
 
     def frames(self) -> str:
         """How many frames came, and whether all of them were looked at."""
-        words = counted(self.count.syncs.frames, "whole frame")
+        words = counted(self.count.frames, "whole frame")
         if self.looks.is_behind:
             words += f", {self.looks.looked:,} looked at: the view cannot follow, all faults and columns are counted"
         return words
@@ -148,13 +150,28 @@ class State:
         """How many faults came."""
         return f"{counted(self.count.total, 'fault')}, {sum(self.recent.values()):,} in the last second"
 
+    @property
+    def word(self) -> Word:
+        """The word of the verdict on all that came: of the link by all events, of the source by what was looked at."""
+        seen = self.looks.verdict
+        slips = (place_of(self.count.slip),) if self.count.slip else ()
+        link = Link(self.count.was_aligned, self.count.faults, slips, seen is not None and seen.link.is_source)
+        if seen is not None:
+            return replace(seen, link=link).word
+        return Word.UNALIGNED if not link.is_aligned else Word.NOTHING if link.is_clean else Word.LINK
+
+    def judged(self) -> str:
+        """The verdict in words."""
+        seen = self.looks.verdict
+        return f"verdict: {self.word}" + (f"; what was looked at last: {seen.headline}" if seen else "")
+
     def line(self) -> str:
         """All of it in one line."""
         return f"{self.seconds:.0f} s: {self.aligned()}; {self.rate()}; {self.frames()}; {self.faults()}"
 
     def summary(self) -> list[str]:
         """What is said at the end."""
-        lines = [f"watched for {self.seconds:.1f} s: {self.aligned()}", f"{self.rate()}", self.format(), self.frames()]
+        lines = [f"watched for {self.seconds:.1f} s: {self.aligned()}", f"{self.rate()}", self.format(), self.frames(), self.judged()]
         lines += [f"{times:,} {kind}{f', {lane_of((kind, lane))}' if lane is not None else ''}" for (kind, lane), times in self.table()]
         return lines + ([] if self.count.total else ["no fault"])
 

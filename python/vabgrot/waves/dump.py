@@ -58,7 +58,8 @@ class Dump:
     read once, in turn."""
 
     def __init__(self, path: str | Path) -> None:
-        self.path, self.lines = path, lines_of(path)
+        self.path = path
+        self.words = (word for line in lines_of(path) for word in line.split())
         self.variables: list[Variable] = []
         self.scopes: list[str] = []
         self.scale: float | None = None
@@ -66,14 +67,13 @@ class Dump:
 
     def read_header(self) -> None:
         """Reads up to the changes; raises Refused where these do not come."""
-        words = (word for line in self.lines for word in line.split())
-        for word in words:
+        for word in self.words:
             if word == "$enddefinitions":
                 return
             if not word.startswith("$"):
                 continue
             body = []
-            for part in words:
+            for part in self.words:
                 if part == "$end":
                     break
                 body.append(part)
@@ -94,22 +94,26 @@ class Dump:
             self.variables.append(Variable(".".join([*self.scopes, name]), body[2], int(body[1])))
 
     def changes(self, codes: Container[str]) -> Iterator[Change]:
-        """Each new time, and the changes of the variables with these codes. A time that goes back is refused."""
-        now = 0
-        for line in self.lines:
-            head = line[0]
+        """Each new time, and the changes of the variables with these codes. A time that goes back is refused. Words may stand on
+        lines in any way."""
+        now, words = 0, self.words
+        for word in words:
+            head = word[0]
             if head == "#":
-                if not line[1:].strip().isdecimal() or int(line[1:]) < now:
-                    raise Refused(f"{self.path}: `{line[:20].strip()}` is no time behind {now}")
-                now = int(line[1:])
+                if not word[1:].isdecimal() or int(word[1:]) < now:
+                    raise Refused(f"{self.path}: `{word[:20]}` is no time behind {now}")
+                now = int(word[1:])
                 yield Change(now, None, "")
             elif head in "01xXzZ":
-                if (code := line[1:].strip()) in codes:
+                if (code := word[1:] or next(words, "")) in codes:
                     yield Change(now, code, head)
-            elif head in "bB":
-                digits, _, code = line[1:].strip().partition(" ")
-                if (code := code.strip()) in codes:
-                    yield Change(now, code, digits)
+            elif head in "bBrRsS":  # a code may begin with $, as a keyword does
+                if (code := next(words, "")) in codes and head in "bB":
+                    yield Change(now, code, word[1:])
+            elif word == "$comment":
+                any(part == "$end" for part in words)  # goes past it
+            elif head != "$":
+                raise Refused(f"{self.path}: `{word[:20]}` is no change of a variable")
 
     def find(self, word: str) -> Variable:
         """The variable that a word names: by its whole path, or by an ending of it that no other variable has. Raises Refused where

@@ -12,6 +12,8 @@ from vabgrot.errors import Refused
 from vabgrot.replacing import naming
 from vabgrot.waves import loops
 from vabgrot.waves.loops import Ints, Reals
+from vabgrot.waves.mask import OFFSETS
+from vabgrot.waves.mask import Mask as EyeMask
 from vabgrot.waves.waveform import Channel, Piece, Samples
 
 Mask = npt.NDArray[np.bool_]
@@ -277,7 +279,8 @@ class Lane:
     levels: Levels
     loop: Loop
 
-    def __init__(self, name: str, channel: Channel, eye: bool = False) -> None:
+    def __init__(self, name: str, channel: Channel, eye: bool = False, mask: EyeMask | None = None) -> None:
+        self.mask = mask
         self.name, self.channel, self.pieces = name, channel, 0
         self.state = False  # whether the level was above the threshold when last seen
         self.written = Bits()
@@ -325,6 +328,24 @@ class Lane:
         self.measure.spans(base.moments(track.middles(np.array([self.written.count, behind - 1]))[0]))
         if self.eye is not None:
             self.draw(self.eye, *track.middles(np.arange(self.written.count, behind)[:EYE_BITS]), base)
+        if self.mask is not None:
+            self.measure_mask(self.mask, *track.middles(np.arange(self.written.count, behind)), base)
+        self.written.write(ones)
+
+    def measure_mask(self, mask: EyeMask, middles: Reals, periods: Reals, base: Base) -> None:
+        """Takes the levels around the middle of bits for the mask, except of bits that are not whole in the piece."""
+        rows = [base.moments(middles + offset * periods) for offset in OFFSETS]
+        whole = (rows[0] >= self.trace.first) & (rows[-1] <= self.trace.last)
+        mask.take(np.stack([self.trace.at(moments[whole]) for moments in rows]) - self.levels.middle)
+
+    def take(self, piece: Piece) -> None:
+        """Takes the next piece of a lane that was sampled once a bit. Raises Refused if there are no levels."""
+        self.edges(piece)
+        levels = self.trace.values[self.trace.new :]
+        ones = levels > self.levels.middle
+        ends = levels[ones].min(initial=np.inf), levels[~ones].max(initial=-np.inf)
+        self.measure.take(len(ones), self.levels, float(ends[0]), float(ends[1]))
+        self.measure.spans(np.array([piece.first, piece.last]))
         self.written.write(ones)
 
     def sampled(self, track: Track, base: Base, behind: int) -> tuple[Mask, float, float]:

@@ -1,4 +1,4 @@
-"""Waveforms of files, piece by piece: NumPy arrays, CSV, raw samples, VCD, FST and sigrok's sessions."""
+"""Waveforms of files, piece by piece: NumPy arrays, CSV, raw samples, VCD, FST, sigrok's sessions, HDF5 and MATLAB's files."""
 
 import configparser
 import re
@@ -15,6 +15,7 @@ import numpy as np
 import numpy.typing as npt
 
 from vabgrot.errors import Refused
+from vabgrot.waves import stores
 from vabgrot.waves.dump import PREFIXES as UNITS
 from vabgrot.waves.dump import Dump
 
@@ -286,8 +287,14 @@ def of_vcd(path: str, piece: int) -> Wave:
     return Wave(wires.names, 1 / wires.dump.scale if wires.dump.scale else None, wires.pieces(), None)
 
 
+def of_store(path: str, piece: int) -> Wave:
+    """The arrays of an HDF5 file or of one of MATLAB."""
+    return Wave(*stores.read(path, piece))
+
+
 READERS: dict[str, Callable[[str, int], Wave]]
 READERS = {".npy": of_npy, ".npz": of_npz, ".csv": of_csv, ".vcd": of_vcd, ".fst": of_vcd, ".sr": of_sigrok}
+READERS |= dict.fromkeys(stores.READERS, of_store)
 # What reading a broken file ends with: numpy's headers are Python's text, the others have faults of their own.
 BROKEN: tuple[type[Exception], ...]
 BROKEN = (ValueError, KeyError, EOFError, RuntimeError, OverflowError, MemoryError, SyntaxError, tokenize.TokenError)
