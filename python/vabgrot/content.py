@@ -153,9 +153,7 @@ class Samples:
 def odd_sides(headers: Octets, bodies: Octets) -> Mask:
     """For each body and side of packets of samples, whether its ones are odd. A body without a sample has none."""
     present = SAMPLE["sample_present"].flags(headers)
-    both = (
-        PARITY[np.bitwise_xor.reduce(SAMPLE[side].octets(bodies), axis=2) ^ SAMPLE[f"{side} VUCP"].numbers(bodies)] for side in SIDES
-    )
+    both = (PARITY[np.bitwise_xor.reduce(SAMPLE[side].octets(bodies), axis=2) ^ SAMPLE[f"{side} VUCP"].numbers(bodies)] for side in SIDES)
     found: Mask = np.stack([*both], axis=2) & present[:, :, None]
     return found
 

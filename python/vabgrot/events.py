@@ -244,10 +244,12 @@ class Events:
         return map(self.view, places.tolist())
 
     @overload
-    def __getitem__(self, which: int) -> Event: ...
+    def __getitem__(self, which: int) -> Event:
+        ...
 
     @overload
-    def __getitem__(self, which: slice | Ints | Mask) -> Events: ...
+    def __getitem__(self, which: slice | Ints | Mask) -> Events:
+        ...
 
     def __getitem__(self, which: int | slice | Ints | Mask) -> Event | Events:
         """One event as an object, or some of the events. Their bytes stay where they are."""

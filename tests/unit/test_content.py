@@ -39,7 +39,9 @@ def test_frames_stand_between_changes_of_vsync():
     text = "c 00 12\n" + ROW.format("111111") + CHANGE + ROW.format("222222333333") * 2 + CHANGE + ROW.format("444444")
     found = frames(text)
     assert [(it.is_whole, it.ended, it.width, len(it.rows)) for it in found] == [
-        (False, "vsync", 1, 1), (True, "vsync", 2, 2), (False, "end", 1, 1)
+        (False, "vsync", 1, 1),
+        (True, "vsync", 2, 2),
+        (False, "end", 1, 1),
     ]
     assert found[1].rows == [bytes.fromhex("222222333333")] * 2 and not found[1].ragged
     assert found[1].change == 12 + 8 + 3 + 12 + 3 and found[1].firsts == [68, 92] and found[1].places == [7, 10]

@@ -28,7 +28,8 @@ def test_rows_of_a_link_listing(is_raw):
 
 
 def test_columns_of_a_line_and_of_an_island():
-    found = parsed(f"""
+    found = parsed(
+        f"""
 c 00 4
 c 04 8
 v ff0000
@@ -37,7 +38,8 @@ c 14 8
 i 00
 p {' '.join(PACKET)}
 e 00
-c 00 12""")
+c 00 12"""
+    )
     assert [it.kind.word for it in found] == ["run", "run", "line", "run", "run", "open", "packet", "close", "run"]
     assert found.first.tolist() == [0, 4, 12, 15, 27, 35, 37, 69, 71] and found.width.tolist() == [4, 8, 3, 12, 8, 2, 32, 2, 12]
     assert found.column.tolist() == [4, 12, 15, 27, 35, 36, 68, 70, 83]
@@ -58,7 +60,12 @@ def test_a_wrong_preamble_is_one_of_hdmi():
 def test_columns_after_noise_are_untold_until_a_line_names_one():
     found = parsed("c 00 12\n! noise 12\nc 00 4\n! short 40\nc 00 1\ncut 41")
     assert [(it.kind.word, it.first) for it in found] == [
-        ("run", 0), ("noise", 12), ("run", UNTOLD), ("short", 40), ("run", 40), ("cut", 41)
+        ("run", 0),
+        ("noise", 12),
+        ("run", UNTOLD),
+        ("short", 40),
+        ("run", 40),
+        ("cut", 41),
     ]
 
 

@@ -46,8 +46,8 @@ a word changes more than once at a time, the tool needs the clock (status 3). Co
 left out and counted on standard error."""
 CHANNELS = """A channel is a number from 0, a name of the file's header, P-N for the two wires of a pair (4-5, D0P-D0N; N-P
 inverts it), or -N for one inverted wire (written --lanes=-0,1,2). Name each channel once."""
-FAULTY = """done, and bits may be wrong: an eye is open by less than 0.1, a jitter is over 0.9 UI, the bit rates of lanes differ by
-over 0.1 percent, with --mask a level enters the mask, or with --words a column with x or z follows a whole one"""
+FAULTY = """done, and bits may be wrong: an eye is open by less than 0.1, a jitter is over 0.9 UI, or the bit rates of lanes
+differ by over 0.1 percent. With --mask: a level enters the mask. With --words: a column with x or z follows a whole one"""
 SECONDS = tuple(zip(("s", "ms", "us", "ns", "ps", "fs"), range(0, 16, 3)))  # the units of seconds, by their powers of ten
 MOST_APART = 1e-3  # of the lanes' bit rates
 
