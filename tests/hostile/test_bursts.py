@@ -1,11 +1,11 @@
-"""Captures with bursts (bursts.py), a test a table; `--seed` and `--count` choose other ones and more."""
+"""Random captures (bursts.py, whole.py), a test for each table; `--seed` and `--count` choose other ones and more."""
 
 import pytest
 
-from tests.hostile import bursts
+from tests.hostile import bursts, whole
 
 
 @pytest.mark.slow
-@pytest.mark.parametrize("table", bursts.TABLES, ids=lambda table: table.__name__)
+@pytest.mark.parametrize("table", (*bursts.TABLES, *whole.TABLES), ids=lambda table: table.__name__)
 def test_bursts(executable, compare, pytestconfig, table):
     compare(table(executable, pytestconfig.getoption("--seed"), pytestconfig.getoption("--count")))

@@ -253,7 +253,7 @@ def test_files_without_speakers(tool, image, tmp_path):
     assert b"no allocation has the speakers of its channel mask 5103. Give one with --allocation CA" in said
     words = [image, "--mode", MODE, *CLOCK, "--sound", tmp_path / "d.wav", "--allocation"]
     assert b"audio 5 0 0 0 38 0 0\n" in tool("content", *words, 38).stdout
-    assert b"allocation 19 has 8: FL FR LFE FC RL RR RLC RRC" in tool("content", *words, 19, status=3).stderr
+    assert b"allocation 19 has 8 (FL FR LFE FC RL RR RLC RRC)" in tool("content", *words, 19, status=3).stderr
 
 
 def test_reserved_allocations(tool, tmp_path):
