@@ -2,8 +2,9 @@
 """Proves the crates of the program and builds it. ./vabgrot calls this if the program is missing or old.
 
     build.py                        builds the program
-    build.py library                builds the archive of the C library; library/build makes libvabgrot from it
-    build.py library --over-ci      the same, but uses the libraries that `rt ci` has just proved, and proves no crate below
+    build.py library                builds two archives of the C library, one for any x86-64 processor and one for newer ones (x86-64-v3);
+                                    library/build makes libvabgrot from them
+    build.py library --over-ci      builds the first archive over the libraries that `rt ci` has just proved, and proves no crate below
 
 It proves several crates at the same time, each one after the crates below it. The crate with the most code above it goes first,
 because it decides when the last crate can begin; the others give way to it. It calls the kit's prover for one crate at a time, as
@@ -39,6 +40,7 @@ LIBRARY = "vabgrot_c"  # a static library
 BUILT = TOP / "crates" / PROGRAM / "out" / PROGRAM
 RECORD = BUILT.with_name("kit")  # says which kit built the program; `./vabgrot --version` reads it
 TARGET = "x86_64-unknown-linux-gnu"
+NEWER = "x86-64-v3"  # processors with AVX2, for which the loader finds a library of its own
 CRATE = 90  # as many lines of code take as long as a check of a crate without any
 ASKED = 13  # and as one `?`, at which a function may end early
 ENDING = 5000  # and as what the crate of the program takes more than others of its size
@@ -165,7 +167,12 @@ class Crate:
     def is_current(self):
         return self.made.exists() and self.made_from.is_file() and self.made_from.read_text() == self.sum
 
-    def command(self, jobs, place=lambda it: it.made):
+    @property
+    def made_newer(self):
+        """The archive for newer processors."""
+        return self.made.parent / NEWER / self.made.name
+
+    def command(self, jobs, place=lambda it: it.made, is_newer=False):
         """The command that proves it, `jobs` modules at a time, over libraries at their places, and writes what it makes."""
         words = [*self.kit.prover, "--crate-name", self.name, "src/main.rt" if self.is_program else "src/lib.rt", "--jobs", jobs]
         for name in ("std", *self.libraries):
@@ -176,7 +183,8 @@ class Crate:
             words += ["-L", f"dependency={folder}"]
         words += ["--crate-type", "staticlib"] if self.is_archive else []
         words += ["--backend", "llvm", *self.kit.compiler] if self.is_program or self.is_archive else ["--statements"]
-        return [str(it) for it in (*words, "-o", self.made)]
+        words += ["--cpu", NEWER, "-o", self.made_newer] if is_newer else ["-o", self.made]
+        return [str(it) for it in words]
 
 
 def read_crates(kit, top):
@@ -357,12 +365,27 @@ def build(kit, top):
         print(f"build.py: the crate {failed.name} is not proved. Its log is {failed.log.relative_to(TOP)}.", file=sys.stderr)
         return 1
     if not crates[-1].is_program:
-        return 0
+        return build_newer(crates[-1])
     linked = subprocess.run(kit.link(crates[-1].made, BUILT), capture_output=True, text=True, check=False)
     if linked.returncode:
         sys.stderr.write(linked.stdout + linked.stderr)
         print("build.py: the program is proved, but rattle-link could not link it. The lines above say why.", file=sys.stderr)
     return 1 if linked.returncode else 0
+
+
+def build_newer(archive):
+    """Proves the crate of the C library again and compiles it for newer processors. The libraries below it hold no compiled code."""
+    made_from = archive.made_newer.with_name("sum")
+    if archive.made_newer.exists() and made_from.is_file() and made_from.read_text() == archive.sum:
+        return 0
+    archive.made_newer.parent.mkdir(parents=True, exist_ok=True)
+    words = archive.command(processors(), is_newer=True)
+    done = subprocess.run(words, cwd=archive.folder, stdin=subprocess.DEVNULL, stdout=subprocess.PIPE, stderr=subprocess.STDOUT, check=False)
+    if done.returncode:
+        sys.stderr.write(done.stdout.decode(errors="replace"))
+        return 1
+    made_from.write_text(archive.sum)
+    return 0
 
 
 def build_over_ci(kit):

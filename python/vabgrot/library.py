@@ -15,6 +15,8 @@ NAME = "libvabgrot.so.1"
 FOLDERS = ("", sysconfig.get_config_var("MULTIARCH") or "")  # of PREFIX/lib; Debian has one for each architecture
 BUILT = place.TOP / "library" / "out" / NAME  # in a checkout
 BESIDE = [place.TOP.parent / folder / NAME for folder in FOLDERS] if place.IS_INSTALLED else [BUILT]
+NEWER = Path("glibc-hwcaps/x86-64-v3", NAME)  # beside the library: the same one for processors with these features
+FEATURES = frozenset("abm avx avx2 bmi1 bmi2 f16c fma movbe xsave".split())  # of x86-64-v3, as /proc/cpuinfo names them
 OK, FULL, MISUSE, TOOBIG, NOMEM = range(5)  # what a call answers
 Grammar = Literal["link", "dvi", "track", "relock"]  # the kinds of receivers, as the program's `recover` names them
 KINDS: dict[Grammar, int] = {"link": 0, "dvi": 1, "track": 2, "relock": 3}
@@ -62,7 +64,19 @@ def find() -> str:
     named = os.environ.get("VABGROT_LIBRARY")
     if named and not Path(named).is_file():
         raise NoLibrary(f"VABGROT_LIBRARY names {named}, and there is no such file. Correct it, or leave the variable out")
-    return named or str(next((it for it in BESIDE if it.is_file()), NAME))
+    beside = [it.parent / NEWER for it in BESIDE if is_newer()] + BESIDE
+    return named or str(next((it for it in beside if it.is_file()), NAME))
+
+
+@functools.cache
+def is_newer() -> bool:
+    """Whether the processor has the features of x86-64-v3. (The system's loader asks this too, but not for a library that is named by its
+    path.)"""
+    try:
+        features = next((line for line in Path("/proc/cpuinfo").read_text().splitlines() if line.startswith("flags")), "")
+    except OSError:
+        return False
+    return FEATURES <= set(features.split())
 
 
 @functools.cache

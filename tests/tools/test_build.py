@@ -165,12 +165,15 @@ def test_how_long_it_takes(building, tmp_path):
 
 
 def test_the_library(building, tmp_path):
-    """`build.py library` proves what the C library stands on, and makes its archive; the program is not built."""
+    """`build.py library` proves what the C library needs, and makes its two archives; the program is not built."""
     top = tmp_path / "top"
     (top / "crates" / "vabgrot_c" / "src").mkdir(parents=True)
     (top / "crates" / "vabgrot_c" / "src" / "lib.rt").write_text("//! vabgrot_c\n")
     (top / "crates.txt").write_text(CRATES + "vabgrot_c staticlib: apart\n")
     status, said, log = building("library")
-    assert (status, said) == (0, "") and names(log, "end") == ["low", "apart", "vabgrot_c"]
-    words = (top / "crates/vabgrot_c/out/built/libvabgrot_c.a").read_text()
+    assert (status, said) == (0, "") and names(log, "end") == ["low", "apart", "vabgrot_c", "vabgrot_c"]
+    built = top / "crates/vabgrot_c/out/built"
+    words, newer = ((built / name / "libvabgrot_c.a").read_text() for name in ("", "x86-64-v3"))
     assert "--crate-type staticlib --backend llvm" in words and not (top / "crates/hdmi_cli/out").exists()
+    assert "--cpu" not in words and "--crate-type staticlib --backend llvm" in newer and "--cpu x86-64-v3" in newer
+    assert building("library") == (0, "", [])
