@@ -1,1 +1,1 @@
-"""Whether two captures, or a capture and pictures and sound, carry the same."""
+"""Compares two captures, or a capture with pictures and sound."""

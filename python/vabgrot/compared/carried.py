@@ -1,4 +1,4 @@
-"""What a capture, pictures and a WAV file carry: frames, packets and samples, so that they can be compared."""
+"""Reads what a capture, pictures or a WAV file contain (frames, packets and samples), so that they can be compared."""
 
 from __future__ import annotations
 
@@ -33,7 +33,7 @@ CONVERTED = "pixels of {name} are converted to RGB of full range and 24 bits, as
 
 
 class Still(NamedTuple):
-    """A frame: its pixels and rows, the CRC-32 of its bytes (red, green and blue of each pixel, row by row), and a small picture."""
+    """A frame: its width and height, the CRC-32 of its bytes (red, green and blue of each pixel, row by row), and a small picture of it."""
 
     width: int
     height: int
@@ -44,8 +44,10 @@ class Still(NamedTuple):
 
 @dataclass
 class Carried:
-    """What came of a file or of several; the pixels of frames are kept in a file. `samples` are the left value times 2^24 and
-    the right one; `packets` are those of each content (without Null packets and samples) and how often they came."""
+    """The contents of one or more files. The pixels of frames are kept in a temporary file.
+
+    A number in `samples` is the left value times 2^24 plus the right one. `packets` counts each content of a packet, without Null packets
+    and samples."""
 
     name: str
     file: IO[bytes]
@@ -55,8 +57,8 @@ class Carried:
     lost: int = 0
     is_reference: bool = False
     has_sound: bool = False
-    first: list[str] = field(default_factory=list)  # what is said before all else: slips, a reading anew, a capture that is cut off
-    notes: dict[str, None] = field(default_factory=dict)  # what was done with the pixels, and assumed for it, once each
+    first: list[str] = field(default_factory=list)  # the first lines of the result: slips, a second reading, a capture that is cut off
+    notes: dict[str, None] = field(default_factory=dict)  # how the pixels were converted, and what was assumed, without repetitions
 
     def add(self, picture: Picture) -> None:
         """Keeps a frame."""
@@ -66,11 +68,11 @@ class Carried:
         self.file.write(data)
 
     def forget(self) -> None:
-        """Lets go of all frames, before a capture is read anew."""
+        """Drops all frames, before a capture is read again."""
         self.frames.clear()
 
     def picture(self, number: int) -> Picture:
-        """The pixels of a frame."""
+        """Returns the pixels of a frame."""
         still = self.frames[number]
         self.file.seek(still.place)
         data = self.file.read(3 * still.width * still.height)
@@ -78,7 +80,7 @@ class Carried:
 
 
 def small_of(picture: Picture) -> npt.NDArray[np.float32]:
-    """The means of a frame's parts."""
+    """Returns a small picture: the means of the parts of a frame."""
     rows = np.linspace(0, picture.shape[0], SMALL + 1).astype(int)[:-1]
     columns = np.linspace(0, picture.shape[1], SMALL + 1).astype(int)[:-1]
     across = np.add.reduceat(picture.astype(np.float32), columns, axis=1)
@@ -90,7 +92,7 @@ def small_of(picture: Picture) -> npt.NDArray[np.float32]:
 
 @contextmanager
 def carried(paths: Sequence[Path], converts: bool = False) -> Iterator[Carried]:
-    """What a capture carries, or what pictures and WAV files say; `converts`: the pixels of a capture are converted to colours."""
+    """Reads a capture, or pictures and WAV files. If `converts` is set, the pixels of a capture are converted to colours."""
     with tempfile.TemporaryFile() as file:
         found = Carried(" ".join(map(str, paths)), file)
         kinds = [kind_of(path) for path in paths]
@@ -108,14 +110,14 @@ def carried(paths: Sequence[Path], converts: bool = False) -> Iterator[Carried]:
 
 
 def kind_of(path: Path) -> bytes:
-    """What a file begins with, of a capture and of sound; b"" of a picture."""
+    """Returns the first bytes of a capture or a sound file, and b"" for a picture."""
     with open(path, "rb") as file:
         head = file.read(4)
     return next((kind for kind in (CAPTURE, WAV) if head.startswith(kind)), b"")
 
 
 def picture_in(path: Path) -> Picture:
-    """The pixels of a picture file."""
+    """Reads the pixels of a picture file."""
     try:
         with Image.open(path) as image:
             return np.asarray(image.convert("RGB"))
@@ -125,7 +127,7 @@ def picture_in(path: Path) -> Picture:
 
 
 def take_sound(found: Carried, path: Path) -> None:
-    """Keeps the samples of a WAV file behind those before."""
+    """Adds the samples of a WAV file after those already there."""
     sound = pcm.read(path)
     sides = [np.frombuffer(side, np.uint8).reshape(-1, 3).astype(np.int64) @ (1 << 16, 1 << 8, 1) for side in (sound.left, sound.right)]
     found.samples = np.concatenate([found.samples, sides[0] << 24 | sides[1]])
@@ -133,8 +135,8 @@ def take_sound(found: Carried, path: Path) -> None:
 
 
 class Taking:
-    """Keeps the whole frames of a capture while it is read; `converts`: their pixels are converted to colours, as the packets before the
-    end of each say."""
+    """Keeps the whole frames of a capture while it is read. If `converts` is set, their pixels are converted to colours, as the packets
+    before the end of each frame say."""
 
     def __init__(self, found: Carried, grammar: Grammar, converts: bool) -> None:
         found.forget()
@@ -142,11 +144,11 @@ class Taking:
         self.signals = Signals(has_packets=grammar != "dvi")
 
     def take(self, events: Events) -> None:
-        """The next events."""
+        """Takes the next events."""
         self.keep(self.flow.take(events))
 
     def keep(self, known: Iterable[Packets | Frame]) -> None:
-        """What is known now."""
+        """Takes packets and frames."""
         for it in known:
             if isinstance(it, Frame):
                 if it.is_whole:
@@ -155,7 +157,7 @@ class Taking:
                 self.signals.take_packets(it)
 
     def picture(self, frame: Frame) -> Picture:
-        """The colours of a frame; what was done is noted if they are not its bytes."""
+        """Returns the colours of a frame. If they are not its bytes, the conversion is noted."""
         reading = self.signals.reading(frame.width) if self.converts else None
         if reading is None or reading.signal.is_plain:
             return picture_of(frame.rows)
@@ -164,7 +166,7 @@ class Taking:
 
 
 def take_capture(found: Carried, path: Path, converts: bool) -> None:
-    """Keeps the whole frames, the packets and the samples of a capture."""
+    """Adds the whole frames, the packets and the samples of a capture."""
     taken: list[Taking] = []
 
     def taking(grammar: Grammar) -> Taking:
@@ -179,7 +181,7 @@ def take_capture(found: Carried, path: Path, converts: bool) -> None:
 
 
 def take_packets(found: Carried, it: Reading) -> None:
-    """Keeps the packets and the samples of a reading."""
+    """Adds the packets and the samples of a reading."""
     content = Content(it)
     known = content.packets.known
     found.lost = int(content.packets.lost.sum())

@@ -1,4 +1,4 @@
-"""Which frame of one is which frame of the other, by their content; and where their samples run together."""
+"""Matches the frames of two captures by their content, and finds the offset between their samples."""
 
 from __future__ import annotations
 
@@ -10,21 +10,21 @@ import numpy.typing as npt
 from vabgrot.compared.carried import Carried, Still
 from vabgrot.events import Ints
 
-APART = 0.3  # the cost of a frame that has no like one
-UNLIKE = 40.0  # the mean difference of small pictures from which on two frames are nothing alike
-SLIGHT = 1e-4  # the cost of frames that differ in less than the small pictures show
-WINDOW, TRIED = 48, 32  # samples of a pattern that is looked for, and how many patterns are
+APART = 0.3  # the cost of a frame without a partner
+UNLIKE = 40.0  # if the mean difference of two small pictures is at least this, the frames have nothing in common
+SLIGHT = 1e-4  # the cost of frames that are not equal, but whose small pictures are
+WINDOW, TRIED = 48, 32  # samples of a search pattern, and how many patterns are tried
 
 
 class Pair(NamedTuple):
-    """The numbers of two frames that are compared; None where a frame has none that is like it."""
+    """The numbers of two frames to compare. None means that the other frame has no partner."""
 
     mine: int | None
     other: int | None
 
 
 def cost_of(one: Still, other: Still) -> float:
-    """How unlike two frames are, 0 to 1."""
+    """Returns how different two frames are, from 0 to 1."""
     if (one.width, one.height) != (other.width, other.height):
         return 1.0
     if one.crc == other.crc:
@@ -33,7 +33,8 @@ def cost_of(one: Still, other: Still) -> float:
 
 
 def pairs_of(mine: Carried, other: Carried) -> list[Pair]:
-    """The frames that are compared: in order, each once; or where the other ones are pictures each with the picture that is likest."""
+    """Returns the frames to compare: in order, each once. If `other` contains reference pictures, each frame gets the most similar
+    picture."""
     if other.is_reference:
         found = []
         for number, one in enumerate(mine.frames):
@@ -44,7 +45,7 @@ def pairs_of(mine: Carried, other: Carried) -> list[Pair]:
 
 
 def aligned(costs: npt.NDArray[np.float64]) -> list[Pair]:
-    """The cheapest order of pairs and of frames alone."""
+    """Returns the cheapest order of pairs and single frames."""
     rows, columns = costs.shape
     total = np.zeros((rows + 1, columns + 1))
     total[:, 0], total[0, :] = APART * np.arange(rows + 1), APART * np.arange(columns + 1)
@@ -67,7 +68,8 @@ def aligned(costs: npt.NDArray[np.float64]) -> list[Pair]:
 
 
 def alone(pairs: list[Pair]) -> list[Pair]:
-    """The frames without a like one that make a difference: not those by which one of the two begins earlier or ends later."""
+    """Returns the single frames that count as a difference. Frames that one side has before the other begins, or after it ends, do not
+    count."""
     matched = [number for number, pair in enumerate(pairs) if None not in pair]
     if not matched:
         return pairs
@@ -77,7 +79,7 @@ def alone(pairs: list[Pair]) -> list[Pair]:
 
 
 def offset_of(mine: Ints, other: Ints) -> int | None:
-    """By how many samples what stands in `mine` stands later in `other`; None where nothing of it is found there."""
+    """Returns by how many samples the contents of `mine` are later in `other`, or None if they are not found there."""
     votes: dict[int, int] = {}
     order = np.argsort(other, kind="stable")
     ordered = other[order]

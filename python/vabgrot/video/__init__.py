@@ -1,1 +1,1 @@
-"""The raster of a link listing, and the video format that it is."""
+"""Rasters: their timing, the video format that they match, and the colours of their pixels."""

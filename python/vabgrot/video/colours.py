@@ -1,8 +1,8 @@
-"""What the bytes of pixels stand for: deep colour, YCbCr, quantization ranges, repeated pixels (HDMI 1.4, chapter 6; CTA-861;
-ITU-R BT.601, BT.709 and BT.2020), and the way back.
+"""Converts the bytes of pixels to colours and back: deep colour, YCbCr, quantization ranges, repeated pixels (HDMI 1.4, chapter 6;
+CTA-861; ITU-R BT.601, BT.709 and BT.2020).
 
-Columns are arrays of bytes of the shape rows, columns, 3, in the order of a listing: lanes 2, 1 and 0, which are red, green and
-blue, or Cr, Y and Cb. Samples are arrays of numbers of the shape rows, pixels, 3."""
+Columns are arrays of bytes of the shape (rows, columns, 3), in the order of a listing: lanes 2, 1 and 0, which are red, green and blue,
+or Cr, Y and Cb. Samples are arrays of numbers of the shape (rows, pixels, 3)."""
 
 from dataclasses import dataclass
 from enum import IntEnum
@@ -12,15 +12,15 @@ from numpy.typing import NDArray
 
 Bytes = NDArray[np.uint8]
 Samples = NDArray[np.uint16]
-Parts = NDArray[np.float64]  # of 1, from black to white
+Parts = NDArray[np.float64]  # from 0 (black) to 1 (white)
 BYTE = 8
 DEPTHS = {4: 24, 5: 30, 6: 36, 7: 48}  # the bits of a pixel by the CD of a general control packet (HDMI 1.4, section 5.3.6)
-HALF = 0.5 + 1e-9  # so that what is half a step from two numbers becomes the greater one, whatever floating point makes of it
-YCC422_BITS = 12  # of a component, whatever the source has: the bits that it lacks are the lowest, and 0
+HALF = 0.5 + 1e-9  # rounds exact halves up, in spite of the errors of floating point
+YCC422_BITS = 12  # bits of a component; a source with fewer fills the lowest bits with 0
 
 
 class Encoding(IntEnum):
-    """The field Y of an AVI InfoFrame."""
+    """The values of field Y of an AVI InfoFrame."""
 
     RGB = 0
     YCC422 = 1
@@ -30,7 +30,7 @@ class Encoding(IntEnum):
 
 @dataclass(frozen=True)
 class Matrix:
-    """The parts that red and blue have of luma."""
+    """The weights of red and blue in luma."""
 
     name: str
     red: float
@@ -38,7 +38,7 @@ class Matrix:
 
     @property
     def green(self) -> float:
-        """The part that is left."""
+        """The weight of green: what red and blue leave of 1."""
         return 1 - self.red - self.blue
 
 
@@ -50,8 +50,7 @@ MATRICES = {"601": BT601, "709": BT709, "2020": BT2020}
 
 @dataclass(frozen=True)
 class Signal:
-    """How a source sends pixels: their encoding, for YCbCr the matrix, whether the range is full, the bits of a pixel, and how
-    many times each is sent."""
+    """How a source sends pixels: encoding, matrix (YCbCr only), range, bits of a pixel, and how often each pixel is repeated."""
 
     encoding: Encoding = Encoding.RGB
     matrix: Matrix | None = None
@@ -70,26 +69,27 @@ class Signal:
         return self == Signal()
 
     def pixels(self, columns: int) -> int:
-        """The pixels of a row of so many columns."""
+        """Returns the number of pixels in a row of `columns` columns."""
         return -(-self.sent(columns) // self.times)
 
     def sent(self, columns: int) -> int:
-        """The pixels of a row of so many columns, repeated ones each time."""
+        """Like `pixels`, but counts a repeated pixel each time it is sent."""
         return columns * BYTE // self.packed
 
     def pixel(self, column: int) -> int:
-        """The pixel in which the first bit of a column is."""
+        """Returns the number of the pixel that contains the first bit of a column."""
         return column * BYTE // self.packed // self.times
 
     @property
     def packed(self) -> int:
-        """The bits that a pixel takes of a lane."""
+        """The number of bits that a pixel takes on each lane."""
         return BYTE if self.encoding == Encoding.YCC422 else self.bits // 3
 
 
 def unpacked(columns: Bytes, size: int) -> Samples:
-    """Components of `size` bits, which follow one another on each lane, each from its lowest bit on (HDMI 1.4, section 6.5.2:
-    packing phase 0 is the first column of a row, and what remains of the last column is filled by zeros)."""
+    """Reads the components, `size` bits each, that follow one another on each lane, the lowest bit first (HDMI 1.4, section 6.5.2).
+
+    A row begins with packing phase 0. Zeros fill the rest of its last column."""
     if size == BYTE:
         return columns.astype(np.uint16)
     rows, count, lanes = columns.shape
@@ -103,7 +103,7 @@ def unpacked(columns: Bytes, size: int) -> Samples:
 
 
 def packed(samples: Samples, size: int) -> Bytes:
-    """The columns of components of `size` bits: what `unpacked` reads."""
+    """Writes components of `size` bits as columns. This is the inverse of `unpacked`."""
     rows, width, lanes = samples.shape
     halves = np.stack([samples & 255, samples >> BYTE], axis=2).astype(np.uint8)
     bits = np.unpackbits(halves, axis=2, bitorder="little")[:, :, :size]
@@ -111,9 +111,11 @@ def packed(samples: Samples, size: int) -> Bytes:
 
 
 def split422(columns: Bytes) -> Samples:
-    """Y, Cb and Cr of twelve bits of YCbCr 4:2:2 (HDMI 1.4, section 6.2.4): lane 1 has the upper eight bits of Y, lane 2 those of
-    Cb in even and of Cr in odd columns, and lane 0 the lower four of Y and above them those of Cb or Cr. The two pixels of a pair
-    have the same Cb and Cr; a last one without its pair has the Cr before."""
+    """Reads Y, Cb and Cr (12 bits each) from columns of YCbCr 4:2:2 (HDMI 1.4, section 6.2.4).
+
+    Lane 1 carries the upper eight bits of Y. Lane 2 carries the upper eight of Cb in even columns and of Cr in odd ones. Lane 0 carries
+    the lower four of Y, and above them the lower four of Cb or Cr. Both pixels of a pair get the same Cb and Cr. A last pixel without a
+    partner gets the Cr of the pair before."""
     chroma, luma, low = np.moveaxis(columns.astype(np.uint16), 2, 0)
     luma, chroma = luma << 4 | low & 15, chroma << 4 | low >> 4
     blue, red = chroma[:, 0::2], chroma[:, 1::2]
@@ -125,7 +127,7 @@ def split422(columns: Bytes) -> Samples:
 
 
 def joined422(samples: Samples) -> Bytes:
-    """The columns of Y, Cb and Cr of twelve bits: of a pair of pixels the Cb and Cr of the first are sent."""
+    """Writes Y, Cb and Cr (12 bits each) as columns of YCbCr 4:2:2. Each pair of pixels sends the Cb and Cr of its first pixel."""
     luma, blue, red = np.moveaxis(samples, 2, 0)
     chroma = blue.copy()
     chroma[:, 1::2] = red[:, 0 : 2 * (red.shape[1] // 2) : 2]
@@ -135,7 +137,7 @@ def joined422(samples: Samples) -> Bytes:
 
 
 def components(columns: Bytes, signal: Signal) -> Samples:
-    """Red, green and blue, or Y, Cb and Cr, of each pixel, once each."""
+    """Returns red, green and blue, or Y, Cb and Cr, of each pixel. A repeated pixel is returned once."""
     if signal.encoding == Encoding.YCC422:
         found = split422(columns)
     else:
@@ -146,7 +148,7 @@ def components(columns: Bytes, signal: Signal) -> Samples:
 
 
 def _levels(signal: Signal, is_chroma: bool) -> tuple[int, int]:
-    """The number that stands for 0 and the steps to the one that stands for 1 (for chroma: from -1/2 to 1/2)."""
+    """Returns the code for 0 and the number of steps from there to the code for 1 (for chroma: from -1/2 to 1/2)."""
     size = signal.component
     if signal.is_full:
         return (1 << size - 1) * is_chroma, (1 << size) - 1
@@ -155,7 +157,7 @@ def _levels(signal: Signal, is_chroma: bool) -> tuple[int, int]:
 
 
 def parts(samples: Samples, signal: Signal) -> Parts:
-    """Red, green and blue of components, as parts of 1; what is darker than black or lighter than white is cut."""
+    """Converts components to red, green and blue from 0 to 1. Values below black or above white are clipped."""
     zero, steps = _levels(signal, False)
     first = (samples.astype(np.float64) - zero) / steps
     if signal.encoding == Encoding.RGB:
@@ -172,7 +174,7 @@ def parts(samples: Samples, signal: Signal) -> Parts:
 
 
 def quantized(colours: Parts, signal: Signal) -> Samples:
-    """The components of red, green and blue that are parts of 1: the way back of `parts`."""
+    """Converts red, green and blue from 0 to 1 to components. This is the inverse of `parts`."""
     size = signal.component
     zero, steps = _levels(signal, False)
     if signal.encoding == Encoding.RGB:
@@ -189,7 +191,7 @@ def quantized(colours: Parts, signal: Signal) -> Samples:
 
 
 def _source(found: Samples, signal: Signal) -> tuple[Samples, Signal]:
-    """YCbCr 4:2:2 as components of as many bits as the source has: 8, 10 or 12, the least that are told by the zeros below them."""
+    """Returns YCbCr 4:2:2 components with the source's depth: 8, 10 or 12 bits. The zeros in the lowest bits show which one it is."""
     low = int(np.bitwise_or.reduce(found, axis=None)) & 15 if found.size else 0
     size = 12 if low & 3 else 10 if low else 8
     shifted: Samples = (found >> YCC422_BITS - size).astype(np.uint16)
@@ -197,8 +199,7 @@ def _source(found: Samples, signal: Signal) -> tuple[Samples, Signal]:
 
 
 def coloured(columns: Bytes, signal: Signal) -> Bytes | Samples:
-    """The colours of columns as a picture file has them: bytes, or numbers of sixteen bits where the components have more than
-    eight."""
+    """Converts columns to colours for a picture file: bytes, or 16-bit numbers if the components have more than eight bits."""
     found = components(columns, signal)
     if signal.encoding == Encoding.YCC422:
         found, signal = _source(found, signal)
@@ -210,8 +211,8 @@ def coloured(columns: Bytes, signal: Signal) -> Bytes | Samples:
 
 
 def columns_of(colours: Bytes | Samples, signal: Signal, size: int) -> Bytes:
-    """The columns of a picture's colours: the way back of `coloured`. `size` is the bits of a component that the source has, of
-    which YCbCr 4:2:2 sends up to twelve and else exactly those of the signal."""
+    """Converts a picture's colours to columns. This is the inverse of `coloured`. `size` is the source's number of bits of a component:
+    up to 12 for YCbCr 4:2:2, otherwise the one of the signal."""
     most = 65_535 if colours.dtype == np.uint16 else 255
     if signal.encoding == Encoding.YCC422:
         source = Signal(Encoding.YCC444, signal.matrix, signal.is_full, 3 * size)

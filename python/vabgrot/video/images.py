@@ -1,5 +1,4 @@
-"""Pictures as arrays of colours, of the shape rows, pixels, 3: how marks are drawn on them, and how they become PNG files of
-eight or of sixteen bits."""
+"""Pictures as arrays of colours of the shape (rows, pixels, 3): draws marks on them and writes PNG files with 8 or 16 bits."""
 
 from collections import Counter
 from collections.abc import Iterable, Sequence
@@ -14,14 +13,14 @@ from PIL import Image
 from vabgrot.video.colours import Bytes, Samples, Signal, coloured
 
 Colours = Bytes | Samples
-Place = tuple[int | None, int]  # a pixel, None where it is not known, and a row
+Place = tuple[int | None, int]  # pixel (None if not known) and row
 MARK = np.array((255, 128, 0))
 REACH, BAR = 2, 4  # of a box round a pixel, and of a bar at the ends of a row
 
 
 @dataclass
 class Picture:
-    """A picture, the faults that touch it, and their places; the lines from VSYNC down to its first row, where they are known."""
+    """A picture, its faults and their places, and the number of lines from VSYNC to its first row (None if not known)."""
 
     colours: Colours
     faults: Counter[str] = field(default_factory=Counter)
@@ -35,13 +34,13 @@ class Picture:
 
 
 def columns_of(rows: Sequence[bytes], width: int) -> Bytes:
-    """Rows of a listing as columns, each cut or filled with zeros to the width."""
+    """Returns rows of a listing as columns. Each row is cut or padded with zeros to the width."""
     data = b"".join(row[: 3 * width].ljust(3 * width, b"\0") for row in rows)
     return np.frombuffer(data, np.uint8).reshape(len(rows), width, 3)
 
 
 def colours_of(rows: Sequence[bytes], width: int, signal: Signal) -> Colours:
-    """The colours of rows of so many columns; what a shorter row lacks is black."""
+    """Returns the colours of rows that are `width` columns wide. Pixels that a shorter row lacks are black."""
     columns = columns_of(rows, width)
     if signal.is_plain:
         return columns
@@ -53,7 +52,7 @@ def colours_of(rows: Sequence[bytes], width: int, signal: Signal) -> Colours:
 
 
 def shallow(colours: Colours) -> Bytes:
-    """The colours in bytes, those of sixteen bits as the nearest."""
+    """Returns the colours as bytes. 16-bit values are rounded."""
     found: Bytes = (colours if colours.dtype == np.uint8 else (colours.astype(np.uint32) + 128) // 257).astype(
         np.uint8, copy=False
     )
@@ -61,7 +60,7 @@ def shallow(colours: Colours) -> Bytes:
 
 
 def woven(upper: Picture, lower: Picture) -> Picture:
-    """The frame of two fields: rows 0, 2, 4 .. are those of the upper one."""
+    """Weaves two fields into a frame. The upper field has rows 0, 2, 4 and so on."""
     uppers, lowers = upper.colours, lower.colours
     if uppers.dtype != lowers.dtype:
         uppers, lowers = (it if it.dtype == np.uint16 else it.astype(np.uint16) * np.uint16(257) for it in (uppers, lowers))
@@ -71,7 +70,7 @@ def woven(upper: Picture, lower: Picture) -> Picture:
 
 
 def marked(picture: Picture) -> Colours:
-    """The colours with a box round each faulty pixel whose place is known, and else a bar at both ends of its row."""
+    """Draws a box around each faulty pixel. If the pixel of a fault is not known, a bar marks both ends of the row."""
     found = picture.colours.copy()
     mark = MARK * 257 if found.dtype == np.uint16 else MARK
     height, width, _ = found.shape
@@ -93,7 +92,7 @@ def marked(picture: Picture) -> Colours:
 
 
 def save(colours: Colours, file: IO[bytes]) -> None:
-    """Writes a PNG file, of sixteen bits where the colours have so many."""
+    """Writes a PNG file, with 16 bits if the colours have 16."""
     if colours.dtype == np.uint8:
         Image.fromarray(colours, "RGB").save(file, "PNG")
         return

@@ -1,4 +1,4 @@
-"""Which video format a raster is, or the nearest one and what differs; and whether the AVI InfoFrame says the same."""
+"""Finds the video format of a raster, or the nearest format and the differences. Compares it with the AVI InfoFrame."""
 
 from __future__ import annotations
 
@@ -10,29 +10,29 @@ from typing import Any, NamedTuple
 from vabgrot.formats.modes import CTA, Axis, Format, formats, of_vic
 from vabgrot.video.timings import DEPTH, PARTS, Avi, Figure, Meter, Place, Raster, rasters
 
-PULLED = 1001 / 1000  # the rates of CTA-861 are also these times lower
+PULLED = 1001 / 1000  # each rate of CTA-861 has a second one that is lower by this factor
 TOLERANCE = 0.005  # of a pixel clock (CTA-861, section 4: 0.5 percent)
-MOST_DIFFERENCES = 4  # of the numbers of a raster from those of a format that is called the nearest
+MOST_DIFFERENCES = 4  # the nearest format is named only up to this many differences
 HDMI_VICS = frozenset((93, 94, 95, 98))  # named by HDMI's own InfoFrame instead (HDMI 1.4, section 8.2.3)
 FIELDS = ("first field", "second field")
-SIZES = 8  # or rasters, of one capture: the most that are said
-MOST_SAID = 4  # differences from the format of an InfoFrame
+SIZES = 8  # the most rasters of one capture that are reported
+MOST_SAID = 4  # the most differences from an InfoFrame's format that are listed
 
 
 class Note(NamedTuple):
-    """A line on what was measured, and whether it is a fault."""
+    """A line about a measurement. `is_fault` marks a fault."""
 
     text: str
     is_fault: bool = True
 
 
 class Difference(NamedTuple):
-    """A number of a raster that is not that of a format."""
+    """A number of a raster that differs from a format's."""
 
     name: str
     found: str
     wanted: str
-    part: float  # how far off, as a part of what is wanted
+    part: float  # the error, relative to the wanted value
 
     def __str__(self) -> str:
         return f"{self.name} {self.found}, wants {self.wanted}"
@@ -40,18 +40,18 @@ class Difference(NamedTuple):
 
 @dataclass(frozen=True)
 class Rate:
-    """What is given of a capture's rate: its pixel clock in Hz, or its frames (interlaced: fields) a second."""
+    """The rate that the user gave: a pixel clock in Hz, or frames a second (fields, if interlaced)."""
 
     clock: float | None = None
     fields: float | None = None
 
     def clock_of(self, raster: Raster) -> float | None:
-        """The pixel clock in Hz; None where it is not known."""
+        """Returns the pixel clock in Hz, or None if it is not known."""
         return self.clock or (self.fields * raster.columns if self.fields and raster.columns else None)
 
 
 def number(value: float) -> str:
-    """A number of columns or lines."""
+    """Formats a number of columns or lines."""
     return f"{value:,.0f}" if value == int(value) else f"{value:,.1f}"
 
 
@@ -64,7 +64,7 @@ def sign(positive: bool) -> str:
 
 
 def axis_differences(name: str, figures: dict[str, Figure], wanted: dict[str, tuple[float, ...]], of: str = "") -> list[Difference]:
-    """Which parts of a line or a field are none of those that are wanted; the total only where another part was not seen."""
+    """Returns the parts of a line or a field that match none of the wanted values. The total is compared only if a part was not seen."""
     found = []
     names = [part for part in PARTS if part != "total" or len(figures) < len(PARTS)]
     for part in names:
@@ -76,14 +76,15 @@ def axis_differences(name: str, figures: dict[str, Figure], wanted: dict[str, tu
 
 
 def wanted_of(axis: Axis, front: float = 0, back: float = 0, more: int = 0) -> dict[str, tuple[float, ...]]:
-    """The parts of a line or field of a format, with so much more front and back porch; each that is right, the usual first."""
+    """Returns the allowed values for each part of a line or field of a format, the usual value first. `front`, `back` and `more` are
+    added to the porches and the total."""
     fronts = tuple(axis.front + front + one for one in range(more + 1))
     totals = tuple(axis.total + front + back + one for one in range(more + 1))
     return dict(zip(PARTS, ((axis.active,), fronts, (axis.sync,), (axis.back + back,), totals)))
 
 
 def differences(raster: Raster, wanted: Format) -> list[Difference]:
-    """What of a raster is not as in a format; nothing of what was not seen."""
+    """Returns the differences between a raster and a format. Parts that were not seen do not count."""
     found = axis_differences("H", raster.across, wanted_of(wanted.across))
     if raster.interlaced is not None and raster.interlaced != wanted.halves:
         scans = ("progressive", "interlaced")
@@ -99,21 +100,21 @@ def differences(raster: Raster, wanted: Format) -> list[Difference]:
 
 
 def has_clock(wanted: Format, clock: float | None) -> bool:
-    """Whether a format has such a pixel clock, or that of its rate of 1000/1001 of the other; any where none is known."""
+    """Returns whether a format allows this pixel clock, at its own rate or at the one that differs by 1000/1001. Without a clock every
+    format passes."""
     if clock is None:
         return True
     return wanted.clock / PULLED * (1 - TOLERANCE) <= clock <= wanted.clock * PULLED * (1 + TOLERANCE)
 
 
 def clock_difference(wanted: Format, clock: float) -> Difference:
-    """That a format wants another pixel clock, in Hz."""
+    """Returns the difference between a pixel clock in Hz and the format's."""
     return Difference("pixel clock", f"{clock:,.0f} Hz", f"{wanted.clock:,} Hz", 1.0)
 
 
 @dataclass(frozen=True)
 class Match:
-    """The formats that a raster is, or none; the one that is named, and what of it differs. `wanted` is None where no format
-    is near."""
+    """The formats that match a raster, the one that is named, and its differences. `wanted` is None if no format is near."""
 
     equal: tuple[Format, ...]
     wanted: Format | None
@@ -121,7 +122,8 @@ class Match:
 
 
 def match(raster: Raster, clock: float | None, vic: int | None) -> Match:
-    """The format of a raster with this pixel clock (in Hz, if known). Of several that fit as well, the VIC's goes first."""
+    """Finds the format of a raster with this pixel clock in Hz (None if not known). If several fit equally well, the format with this VIC
+    comes first."""
     unlike_of = {one: differences(raster, one) for one in formats()}
     equal = tuple(one for one, unlike in unlike_of.items() if not unlike)
     timed = tuple(one for one in equal if has_clock(one, clock))
@@ -151,7 +153,7 @@ def match(raster: Raster, clock: float | None, vic: int | None) -> Match:
 
 
 def headline(raster: Raster, matched: Match) -> Note:
-    """Which format a raster is, in words."""
+    """Says which format a raster has."""
     if matched.wanted is None:
         return Note("no format of CTA-861 or VESA DMT, and none is near")
     if matched.differences:
@@ -164,7 +166,7 @@ def headline(raster: Raster, matched: Match) -> Note:
 
 
 def unsteady(raster: Raster) -> list[Note]:
-    """Each number that is not the same throughout, and the first place where it is another."""
+    """Returns a note for each number that is not constant, with the first place where it differs."""
     figures = [(f"H {name}", "line", raster.across[name]) for name in PARTS if name in raster.across]
     for second, kind in enumerate(raster.down):
         of = f" of the {FIELDS[second]}" if raster.interlaced else ""
@@ -179,13 +181,13 @@ def unsteady(raster: Raster) -> list[Note]:
 
 
 def at(place: Place) -> str:
-    """A place in words."""
+    """Describes a place in words."""
     line = f" (line {place.line:,} of its field)" if place.line is not None else ""
     return f"at column {place.column:,}{line}"
 
 
 def late_notes(raster: Raster) -> list[Note]:
-    """Where VSYNC changes elsewhere than with HSYNC or in the middle of a line."""
+    """Returns a note if VSYNC changes neither with HSYNC nor in the middle of a line."""
     late = raster.late
     if late is None or not late.value and late.place is None:
         return []
@@ -196,7 +198,7 @@ def late_notes(raster: Raster) -> list[Note]:
 
 
 def avi_note(avi: Avi, times: int, column: int, raster: Raster, clock: float | None, equal: tuple[Format, ...]) -> Note:
-    """Whether an AVI InfoFrame says what a raster is."""
+    """Compares an AVI InfoFrame with a raster."""
     wanted = of_vic(avi.vic)
     says = f"AVI InfoFrame: {wanted.words if wanted else f'VIC {avi.vic}' if avi.vic else 'no VIC'}"
     says += f", pixel repetition {avi.repetition}" if avi.repetition else ""
@@ -219,7 +221,7 @@ def avi_note(avi: Avi, times: int, column: int, raster: Raster, clock: float | N
 
 
 def avis_of(meter: Meter, raster: Raster) -> dict[Avi, list[int]]:
-    """The columns of the AVI InfoFrames in the fields of a raster, by what they say."""
+    """Returns the different AVI InfoFrames in the fields of a raster, each with the columns at which it was sent."""
     begins = [begin for begin, _ in raster.spans]
     found: dict[Avi, list[int]] = {}
     for column, avi in meter.avis:
@@ -231,7 +233,7 @@ def avis_of(meter: Meter, raster: Raster) -> dict[Avi, list[int]]:
 
 @dataclass(frozen=True)
 class Timing:
-    """What is said of one raster: its size, its format, the pixel clock (in Hz, if known), and notes."""
+    """The result for one raster: size, format, pixel clock (in Hz, None if not known), and notes."""
 
     raster: Raster
     matched: Match
@@ -241,7 +243,7 @@ class Timing:
 
     @property
     def size(self) -> str:
-        """Pixels and rows, and the scan."""
+        """Width, height and scan in words."""
         width, rows = self.raster.size
         height = "rows not seen whole" if rows is None else f"{rows * (1 + bool(self.raster.interlaced)):,} rows"
         scan = {None: "", False: ", progressive", True: ", interlaced"}[self.raster.interlaced]
@@ -251,7 +253,7 @@ class Timing:
 
     @property
     def rate(self) -> str | None:
-        """The pixel clock and the rate in words; None where they are not known."""
+        """The pixel clock and the frame rate in words, or None if they are not known."""
         if self.clock is None:
             return None
         words = f"pixel clock {self.clock:,.0f} Hz"
@@ -262,7 +264,7 @@ class Timing:
 
     @property
     def table(self) -> list[tuple[str, list[str], str]]:
-        """The rows of a table: a name, a number for each of PARTS, and the polarity of the sync."""
+        """Returns the rows of a table: a name, one number for each of PARTS, and the polarity of the sync."""
         raster = self.raster
         names = [f"{one}, lines" for one in FIELDS] if raster.interlaced else ["down, lines"]
         rows = [("across, columns" if raster.bits == DEPTH else "across, pixels", raster.across, raster.wide)]
@@ -277,7 +279,7 @@ class Timing:
         return any(note.is_fault for note in (self.head, *self.notes))
 
     def plain(self) -> dict[str, Any]:
-        """The same for machines."""
+        """Returns the same as a value for JSON."""
         raster, wanted = self.raster, self.matched.wanted
 
         def figures(kind: dict[str, Figure]) -> dict[str, Any]:
@@ -305,7 +307,7 @@ class Timing:
 
 
 def plain_figure(one: Figure) -> dict[str, Any]:
-    """A number for machines: with `others` also the first other one and its place."""
+    """Returns a number as a value for JSON. If `others` is not 0, it includes the first different value and its place."""
     said: dict[str, Any] = {"value": whole(one.value), "times": one.times, "others": one.others}
     if one.place is not None and one.other is not None:
         said |= {"other": whole(one.other), "column": one.place.column, "line": one.place.line}
@@ -317,7 +319,7 @@ def whole(value: float) -> float | int:
 
 
 def change_note(found: list[Timing]) -> Note | None:
-    """That there is more than one raster; None where there is not."""
+    """Returns a note if the capture has more than one raster."""
     if len(found) < 2:
         return None
     count = f"{len(found)}" if len(found) <= SIZES else f"more than {SIZES}"
@@ -325,7 +327,7 @@ def change_note(found: list[Timing]) -> Note | None:
 
 
 def timings(meter: Meter, rate: Rate) -> list[Timing]:
-    """What is said of each raster of a listing, of the first SIZES and one more at most; nothing where it has no rows."""
+    """Returns the result for each raster of a capture: the first SIZES, and one more at most. Without rows there is none."""
     said = []
     for raster in islice(rasters(meter), SIZES + 1):
         clock, avis = rate.clock_of(raster), avis_of(meter, raster)

@@ -1,4 +1,4 @@
-"""Test pictures of any size, and a tone, as files that `tools/content` takes in place of images and sound."""
+"""Test pictures of any size, and a test tone, as files that `tools/content` accepts in place of images and sound."""
 
 from __future__ import annotations
 
@@ -22,9 +22,9 @@ PATTERN, TONE, TIMES = "pattern:", "tone:", "*"
 BARS = ((255, 255, 255), (255, 255, 0), (0, 255, 255), (0, 255, 0), (255, 0, 255), (255, 0, 0), (0, 0, 255), (0, 0, 0))
 BANDS = ((1, 1, 1), (1, 0, 0), (0, 1, 0), (0, 0, 1))  # of the ramps: grey, red, green and blue
 SQUARE = 8  # pixels of a square of the checkerboard
-STEP, BAR = 8, 16  # pixels that the bar moves a frame, and the part of the width that it has
+STEP, BAR = 8, 16  # pixels that the bar moves in each frame; the bar's width is this part of the picture's
 TAPS = (23, 18)  # of the pseudo-random sequence: x^23 + x^18 + 1 (ITU-T O.150)
-LEVEL, SECOND = 0.5, 1 << 23  # of a tone's peak, and the full scale of 24 bits
+LEVEL, SECOND = 0.5, 1 << 23  # the tone's peak relative to full scale, and full scale in 24 bits
 RATE = 48000
 
 
@@ -35,7 +35,7 @@ def bars(width: int, height: int, _: int) -> Picture:
 
 
 def ramp(width: int, height: int, _: int) -> Picture:
-    """Four bands, grey, red, green and blue, that rise from 0 to 255 across."""
+    """Four bands (grey, red, green and blue) that rise from 0 to 255 from left to right."""
     level = np.linspace(0, 255, width).round().astype(np.uint8)
     band = np.array(BANDS, np.uint8)[np.arange(height) * len(BANDS) // height]
     picture: Picture = level[None, :, None] * band[:, None, :]
@@ -43,7 +43,7 @@ def ramp(width: int, height: int, _: int) -> Picture:
 
 
 def zone(width: int, height: int, _: int) -> Picture:
-    """A zone plate: rings about the middle that become finer up to half a turn a pixel at the farther edge."""
+    """A zone plate: rings around the centre. They become finer, up to half a cycle a pixel at the farther edge."""
     x, y = np.arange(width) - width // 2, np.arange(height)[:, None] - height // 2
     level = 127.5 * (1 + np.cos(np.pi * (x * x + y * y) / max(width, height)))
     return np.repeat(level.round().astype(np.uint8)[:, :, None], 3, axis=2)
@@ -56,21 +56,23 @@ def checkerboard(width: int, height: int, _: int) -> Picture:
 
 
 def moving(width: int, height: int, frame: int) -> Picture:
-    """A white bar on grey that moves eight pixels to the right a frame."""
+    """A white bar on grey that moves eight pixels to the right in each frame."""
     size = max(1, width // BAR)
     level = np.where((np.arange(width) - STEP * frame) % width < size, 255, 64).astype(np.uint8)
     return np.broadcast_to(level[None, :, None], (height, width, 3))
 
 
 def noise(width: int, height: int, frame: int) -> Picture:
-    """Bytes of a pseudo-random sequence of 2^23 - 1 bits, the first bit of each lowest; frame k begins with k + 1 in its register."""
+    """Bytes of a pseudo-random sequence of 2^23 - 1 bits, each byte's lowest bit first. Frame k starts with k + 1 in the register."""
     bits = sequence(8 * 3 * width * height, frame % ((1 << TAPS[0]) - 1) + 1)
     return np.packbits(bits, bitorder="little").reshape(height, width, 3)
 
 
 def sequence(count: int, register: int) -> npt.NDArray[np.uint8]:
-    """So many bits of the sequence; the first are those of the register, its lowest first. Bit n is bit n - 23 and bit n - 18 added,
-    and so it is with twice, four times .. these steps, by which ever more bits are made at once."""
+    """Returns the first `count` bits of the sequence. It starts with the bits of the register, the lowest first.
+
+    Bit n is the sum (modulo 2) of bits n - 23 and n - 18. The same holds if both distances are multiplied by 2, 4 and so on, so each step
+    can produce twice as many bits as the one before."""
     long, short = TAPS
     bits = np.zeros(count + long, np.uint8)
     bits[:long] = [register >> place & 1 for place in range(long)]
@@ -97,14 +99,14 @@ PATTERNS: dict[str, Callable[[int, int, int], Picture]] = {
 
 @dataclass(frozen=True)
 class Wanted:
-    """A pattern by its name, and how many frames of it."""
+    """A pattern's name and the number of frames to make."""
 
     name: str
     frames: int
 
 
 def wanted_of(text: str) -> Wanted | None:
-    """The pattern that a word names, `pattern:NAME` or `pattern:NAME*N`; None where it names a file."""
+    """Returns the pattern that an operand names (`pattern:NAME` or `pattern:NAME*N`), or None if the operand is a file."""
     if not text.startswith(PATTERN):
         return None
     name, _, times = text.removeprefix(PATTERN).partition(TIMES)
@@ -117,7 +119,7 @@ def wanted_of(text: str) -> Wanted | None:
 
 @contextmanager
 def as_files(words: Sequence[str], size: tuple[int, int]) -> Iterator[list[str]]:
-    """The paths of images of which some words name patterns: of these a file is made for each frame, of this width and height."""
+    """Yields the paths of image files. For each operand that names a pattern, a temporary file of this size is made for each frame."""
     wanted = [wanted_of(word) for word in words]
     with tempfile.TemporaryDirectory() as folder:
         paths: list[str] = []
@@ -136,8 +138,8 @@ def as_files(words: Sequence[str], size: tuple[int, int]) -> Iterator[list[str]]
 
 @contextmanager
 def sound_file(word: str | None, seconds: float) -> Iterator[str | None]:
-    """The path of a sound: where the word is `tone:HZ` or `tone:HZ@RATE` of a file of 24 bits that is made, so many seconds of a
-    sine at half the full scale on both sides."""
+    """Yields the path of a sound file. For `tone:HZ` or `tone:HZ@RATE` it makes a 24-bit file: `seconds` of a sine at half the full scale
+    on both sides."""
     if word is None or not word.startswith(TONE):
         yield word
         return

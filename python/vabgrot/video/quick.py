@@ -1,4 +1,4 @@
-"""The colours of columns as `colours.coloured` has them, by tables: quick enough for a link that comes in."""
+"""Converts columns to the same colours as `colours.coloured`, with tables. It is fast enough for a live link."""
 
 from __future__ import annotations
 
@@ -21,15 +21,16 @@ from vabgrot.video.colours import (
     split422,
 )
 
-BAND = 16  # rows that are converted at a time, so that their numbers stay in a processor's cache
+BAND = 16  # rows converted at a time, so that the data stays in the processor's cache
 LEVELS = 1 << BYTE
 Tables = tuple[Bytes, Bytes, Parts, Parts]
 
 
 @lru_cache(8)
 def tables(signal: Signal) -> Tables:
-    """Of YCbCr of eight bits: red by Y and Cr, blue by Y and Cb, and green as a sum of what Y makes of it and what Cb and Cr do, in steps
-    of 255 with the half that rounds."""
+    """Returns the tables for 8-bit YCbCr: red by (Y, Cr), blue by (Y, Cb), and two summands of green, by Y and by (Cb, Cr).
+
+    The summands of green are in steps of 1/255. The half that rounds is included."""
     luma, chroma = (it.reshape(-1) for it in np.meshgrid(np.arange(LEVELS), np.arange(LEVELS), indexing="ij"))
     pairs = np.stack([luma, chroma, chroma], axis=1).astype(np.uint16)[None]
     steps = np.floor(parts(pairs, signal) * (LEVELS - 1) + HALF).astype(np.uint8)[0]
@@ -47,7 +48,7 @@ def tables(signal: Signal) -> Tables:
 
 @lru_cache(16)
 def levels(signal: Signal) -> Bytes | Samples:
-    """Of RGB: what a picture file has for each number of a component."""
+    """Returns the table for RGB: the value in a picture file for each value of a component."""
     size = signal.component
     every = np.arange(1 << size, dtype=np.uint16)[None, :, None].repeat(3, axis=2)
     is_deep = size > BYTE
@@ -57,7 +58,7 @@ def levels(signal: Signal) -> Bytes | Samples:
 
 
 def unpacked(columns: Bytes, size: int) -> Samples:
-    """As `colours.unpacked`, by shifts: components of ten, twelve or sixteen bits, which repeat after whole bytes."""
+    """Does the same as `colours.unpacked` with shifts. It supports 10, 12 and 16 bits, whose packing repeats after whole bytes."""
     rows, count, lanes = columns.shape
     width = count * BYTE // size
     group, octets = {10: (4, 5), 12: (2, 3), 16: (1, 2)}[size]
@@ -74,7 +75,7 @@ def unpacked(columns: Bytes, size: int) -> Samples:
 
 
 def of_ycc(luma: Bytes, blue: Bytes, red: Bytes, signal: Signal, found: Bytes) -> None:
-    """Writes the colours of Y, Cb and Cr of eight bits."""
+    """Writes the colours of 8-bit Y, Cb and Cr to `found`."""
     reds, blues, lumas, chromas = tables(signal)
     for begin in range(0, len(luma), BAND):
         band = found[begin : begin + BAND]
@@ -88,7 +89,7 @@ def of_ycc(luma: Bytes, blue: Bytes, red: Bytes, signal: Signal, found: Bytes) -
 
 
 def of_halves(columns: Bytes, signal: Signal) -> Bytes | Samples:
-    """The colours of YCbCr 4:2:2."""
+    """Returns the colours of YCbCr 4:2:2."""
     if columns[:, :, 2].any():
         return coloured(columns, signal)  # the source has more than eight bits
     plain = Signal(Encoding.YCC444, signal.matrix, signal.is_full)
@@ -105,7 +106,7 @@ def of_halves(columns: Bytes, signal: Signal) -> Bytes | Samples:
 
 
 def colours(columns: Bytes, signal: Signal) -> Bytes | Samples:
-    """What `coloured` makes of columns."""
+    """Returns the same colours as `coloured`."""
     if signal.is_plain:
         return columns
     if signal.encoding == Encoding.YCC422:
@@ -122,7 +123,7 @@ def colours(columns: Bytes, signal: Signal) -> Bytes | Samples:
 
 
 def deep(columns: Bytes, signal: Signal) -> Samples:
-    """The colours of components of more than eight bits."""
+    """Returns the colours of components with more than eight bits."""
     samples = unpacked(columns, signal.packed)[:, :: signal.times]
     if signal.encoding == Encoding.RGB:
         table: Samples = levels(signal).astype(np.uint16, copy=False)

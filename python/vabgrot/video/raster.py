@@ -1,7 +1,7 @@
-"""The meter of a reading: where its syncs and rows change, and what its packets say of the raster.
+"""Makes the meter of a reading: where its syncs and rows change, and what its packets say about the raster.
 
-Columns count over all epochs. The syncs are unknown (LOST) in columns that nothing covers and where an epoch ends, so no line and no field
-spans two alignments."""
+Columns count over all epochs. The syncs are unknown (LOST) in columns that nothing covers and at the end of an epoch. So no line and no
+field spans two alignments."""
 
 from __future__ import annotations
 
@@ -15,13 +15,14 @@ from vabgrot.formats.names import DEPTHS
 from vabgrot.reading import Reading
 from vabgrot.video.timings import LOST, Avi, Meter
 
-UNKNOWN = -1  # in place of the syncs of a column
-ROWS_LOST = (Kind.NOISE, Kind.BROKEN, Kind.LONG_LINE, Kind.EMPTY)  # faults that may take a row away, or make one
-LEAST_AVI = LAYOUTS["avi"].fields["PR"].byte  # bytes of an AVI InfoFrame that says how often pixels are sent
+UNKNOWN = -1  # the syncs of a column that are not known
+ROWS_LOST = (Kind.NOISE, Kind.BROKEN, Kind.LONG_LINE, Kind.EMPTY)  # faults that may remove a row or add one
+LEAST_AVI = LAYOUTS["avi"].fields["PR"].byte  # an AVI InfoFrame with this many bytes includes the pixel repetition
 
 
 def syncs_of(reading: Reading) -> tuple[Ints, Ints]:
-    """HSYNC plus twice VSYNC wherever it is said: columns and values; UNKNOWN from where on it is not known."""
+    """Returns the columns at which the syncs are reported, and the values there (HSYNC plus twice VSYNC). UNKNOWN marks where they stop
+    being known."""
     events, at = reading.events, reading.at
     runs, bounds, packets = events.of(Kind.RUN), events.of(Kind.OPEN, Kind.CLOSE), events.of(Kind.PACKET)
     columns, values = [at[runs], at[bounds], at[bounds] + 1], [events.value[runs] & 3, events.value[bounds], events.second[bounds]]
@@ -41,7 +42,7 @@ def syncs_of(reading: Reading) -> tuple[Ints, Ints]:
 
 
 def entries(columns: Ints, values: Ints, bit: int) -> Ints:
-    """The changes of one sync: four times its column, plus its level or LOST."""
+    """Returns the changes of one sync. Each is four times its column, plus its level or LOST."""
     levels = np.where(values == UNKNOWN, LOST, values // bit & 1)
     keep = np.ones(len(levels), bool)
     keep[1:] = (levels[1:] != levels[:-1]) | (levels[1:] == LOST)
@@ -50,7 +51,8 @@ def entries(columns: Ints, values: Ints, bit: int) -> Ints:
 
 
 def damaged_words(reading: Reading) -> tuple[Ints, Ints]:
-    """The columns whose syncs are damaged, and from where on they are known again: after a damaged guard band, behind its row."""
+    """Returns the columns with damaged syncs, and for each the column from which they are known again. After a damaged guard band that is
+    the end of its row."""
     events, at = reading.events, reading.at
     rows, faults = events.of(Kind.LINE), events.of(Kind.GUARD, Kind.WORD)
     words = at[faults[(events.kind[faults] == Kind.GUARD) | (events.value[faults] == 0)]]
@@ -63,7 +65,7 @@ def damaged_words(reading: Reading) -> tuple[Ints, Ints]:
 
 
 def hurt_of(content: Content) -> Ints:
-    """Columns at which a row or a sync may be missing, or be there by damage."""
+    """Returns the columns at which damage may have removed or added a row or a sync."""
     reading = content.reading
     lost = reading.at[reading.events.of(*ROWS_LOST)]
     begins = [reading.gaps[:, 0], reading.tails[:, 0], [one.before for one in reading.epochs[1:]]]
@@ -71,21 +73,21 @@ def hurt_of(content: Content) -> Ints:
 
 
 def avis_of(packets: Packets) -> list[tuple[int, Avi]]:
-    """What AVI InfoFrames say. One with a wrong checksum says nothing."""
+    """Returns what the AVI InfoFrames say. One with a wrong checksum is ignored."""
     avis = packets.of(Type.AVI)
     both = zip(avis.at.tolist(), avis)
     return [(at, Avi(it.number("VIC"), it.number("PR"))) for at, it in both if not it.total and it.length >= LEAST_AVI]
 
 
 def depths_of(packets: Packets) -> list[tuple[int, int]]:
-    """The bits of a pixel that General Control packets say."""
+    """Returns the bits of a pixel according to the General Control packets."""
     controls = packets.of(Type.CONTROL)
     depths = ((at, it.number("CD")) for at, it in zip(controls.at.tolist(), controls))
     return [(at, DEPTHS[depth]) for at, depth in depths if depth in DEPTHS]
 
 
 def meter_of(content: Content) -> Meter:
-    """What is measured of a reading."""
+    """Measures a reading."""
     reading = content.reading
     events, at = reading.events, reading.at
     columns, values = syncs_of(reading)

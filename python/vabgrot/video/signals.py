@@ -1,4 +1,5 @@
-"""How a source sends its pixels, by its AVI InfoFrames and general control packets, and what is assumed where they do not say."""
+"""Determines how a source sends its pixels, from its AVI InfoFrames and General Control packets, and what to assume if they do not say
+it."""
 
 from collections.abc import Mapping
 from dataclasses import dataclass, field
@@ -15,7 +16,7 @@ from vabgrot.video.colours import BT601, BT709, BT2020, DEPTHS, Encoding, Matrix
 
 PHASES = {24: 1, 30: 5, 36: 3, 48: 2}  # the columns of a group of pixels (HDMI 1.4, section 6.5.2)
 BY_EXTENDED = {0: BT601, 1: BT709, 2: BT601, 3: BT601, 6: BT2020}  # the matrix by EC of an AVI InfoFrame
-HD = 1280  # pixels of a row from which on a format is one of high definition
+HD = 1280  # pixels of a row; a format at least this wide is high definition
 NOT_CONVERTED = "the bytes of the lanes are shown as red, green and blue"
 TOLD = "S B A Y R M C SC Q EC ITC VIC PR top bottom left right".split()  # the fields of an `avi` line of a content listing
 Avi = Mapping[str, int]  # the numbers of an AVI InfoFrame; YQ and CN only where they are known
@@ -23,7 +24,7 @@ Avi = Mapping[str, int]  # the numbers of an AVI InfoFrame; YQ and CN only where
 
 @dataclass(frozen=True)
 class Rendering:
-    """How the rows of a frame are to be read, and what is assumed for it, in words."""
+    """How to read the rows of a frame, and in words what had to be assumed."""
 
     signal: Signal
     notes: tuple[str, ...] = ()
@@ -31,47 +32,47 @@ class Rendering:
 
 @dataclass
 class Signals:
-    """Takes InfoFrames and general control packets, and tells how rows are sent that end behind them. `has_packets` is False of
-    DVI, whose pixels are RGB of 24 bits."""
+    """Takes InfoFrames and General Control packets, and says how the rows of a frame that ends after them are sent. With DVI
+    `has_packets` is False: pixels are RGB with 24 bits."""
 
     has_packets: bool = True
     avi: Avi | None = None
-    depth: int | None = None  # CD of the last general control packet that tells one
-    phase: int | None = None  # PP of that packet, None where it is not told
+    depth: int | None = None  # CD of the last General Control packet with a depth
+    phase: int | None = None  # PP of that packet, None if not known
     odd: set[str] = field(default_factory=set)
 
     def take_packet(self, packet: Packet) -> None:
-        """A packet without a lost block; one whose length or sum is wrong tells nothing."""
+        """Takes a packet without a lost block. It is ignored if its length or checksum is wrong."""
         if packet.kind == Type.CONTROL:
             self.take_control(packet.number("CD"), packet.number("PP"))
         elif packet.kind == Type.AVI and not packet.total:
             self.avi = packet.numbers or self.avi
 
     def take_packets(self, packets: Packets) -> None:
-        """Packets; those that are known tell something."""
+        """Takes packets. Those with a lost block are ignored."""
         which = ~packets.lost & np.isin(packets.kind, (Type.AVI, Type.CONTROL))
         for packet in packets[which]:
             self.take_packet(packet)
 
     def take_control(self, depth: int, phase: int | None = None) -> None:
-        """CD and PP of a general control packet; a CD of 0 tells no depth, and leaves the last one."""
+        """Takes CD and PP of a General Control packet. A CD of 0 means "no depth given" and changes nothing."""
         if depth:
             self.depth, self.phase = depth, phase
 
     def take_line(self, name: str, numbers: list[int]) -> None:
-        """An `avi` or a `gcp` line of a content listing, which tells neither YQ, CN nor PP."""
+        """Takes an `avi` or a `gcp` line of a content listing. Such lines contain neither YQ, CN nor PP."""
         if name == "gcp":
             self.take_control(numbers[2])
             return
         self.avi = dict(zip(TOLD, numbers))
 
     def take_info(self, kind: int, version: int, payload: bytes) -> None:
-        """An `info` line of a content listing."""
+        """Takes an `info` line of a content listing."""
         if kind == Type.AVI:
             self.avi = making.infoframe(kind, version, payload).numbers or self.avi
 
     def reading(self, columns: int) -> Rendering:
-        """How rows of so many columns are read."""
+        """Says how to read rows that are `columns` columns wide."""
         notes: list[str] = []
         bits = self._bits(notes)
         if self.avi is None:
@@ -109,8 +110,8 @@ class Signals:
 
     @staticmethod
     def _matrix(avi: Avi, width: int, notes: list[str]) -> Matrix | None:
-        """The matrix by the colorimetry, and where none is told the one that CTA-861 has for the size; None where the colours are
-        not converted."""
+        """Returns the matrix that the colorimetry names. If none is given, it is the one that CTA-861 has for the size. Returns None if
+        the colours are not converted."""
         if avi["C"] == 3:
             if avi["EC"] not in BY_EXTENDED:
                 notes.append(f"the colorimetry {EXTENDED.of(avi['EC'])} is not converted: {NOT_CONVERTED}")
@@ -125,7 +126,7 @@ class Signals:
 
     @staticmethod
     def _is_full(avi: Avi, notes: list[str]) -> bool:
-        """Whether YCbCr is of full range: YQ says so, and where the listing has none, Q, which a source gives the same range."""
+        """Returns whether YCbCr has full range. YQ says so. A listing without YQ has Q, which a source has to set to the same range."""
         if "YQ" in avi:
             return avi["YQ"] == 1
         if avi["Q"] in (1, 2):
@@ -134,7 +135,7 @@ class Signals:
         return False
 
     def _judge_phase(self, signal: Signal, columns: int, notes: list[str]) -> None:
-        """Rows are read from packing phase 0 on; a packing phase that tells another end of a row is noted."""
+        """Adds a note if the packing phase does not fit the end of a row. Rows are always read from phase 0."""
         group = PHASES[signal.bits]
         if self.phase is None or group == 1:
             return

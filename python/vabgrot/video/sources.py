@@ -1,4 +1,4 @@
-"""Picture files as the rows of a raster: in which mode they are sent, and with which bytes."""
+"""Reads picture files as the rows of a raster, and chooses the mode and the bytes in which they are sent."""
 
 from collections.abc import Iterator
 from contextlib import contextmanager
@@ -27,8 +27,8 @@ CODES = {bits: code for code, bits in DEPTHS.items()}
 
 @dataclass(frozen=True)
 class Sender:
-    """How pictures are sent: their signal, the bits of a component that the source has, the mode in pixels and that in columns,
-    in which a pixel of deep colour takes more than one (HDMI 1.4, section 6.5.1)."""
+    """How to send pictures: signal, bits of a component, the mode in pixels, and the mode in columns. In deep colour a pixel takes more
+    than one column (HDMI 1.4, section 6.5.1)."""
 
     signal: Signal
     size: int
@@ -36,7 +36,7 @@ class Sender:
 
     @property
     def columns(self) -> Mode:
-        """The mode of the columns: of each line the edges are where those of its pixels are, or where the next column begins."""
+        """The mode in columns. Each edge of a line is where it is in pixels, or at the start of the next column."""
         it, part = self.mode, Fraction(self.signal.packed, 8)
         if part == 1:
             return it
@@ -48,11 +48,11 @@ class Sender:
 
     @property
     def is_exact(self) -> bool:
-        """Whether a line takes as much time as its pixels do."""
+        """Whether a line takes exactly the time of its pixels."""
         return bool(self.columns.across == self.mode.across * Fraction(self.signal.packed, 8))
 
     def clock(self, pixels: int) -> int:
-        """The rate of columns by that of pixels, in Hz."""
+        """Returns the rate of columns in Hz for a pixel rate in Hz."""
         return (
             round(Fraction(pixels * self.columns.columns, self.mode.columns))
             if self.is_exact
@@ -61,11 +61,11 @@ class Sender:
 
     @property
     def picture(self) -> tuple[int, int]:
-        """The size of a picture that is sent."""
+        """The width and height of the pictures."""
         return self.mode.active_across // self.signal.times, self.mode.active_down
 
     def avi(self, numbers: dict[str, int]) -> dict[str, int]:
-        """What the AVI InfoFrame says of the signal, beside other numbers of it."""
+        """Returns the fields of the AVI InfoFrame: `numbers`, completed by those that describe the signal."""
         it = self.signal
         side = 1 + it.is_full
         if it.encoding == Encoding.RGB:
@@ -74,7 +74,7 @@ class Sender:
         return numbers | colour | {"Y": int(it.encoding), "Q": side, "YQ": int(it.is_full), "PR": it.times - 1}
 
     def control(self) -> Packet | None:
-        """The general control packet that says the depth and the packing phase; None where pixels have 24 bits."""
+        """Returns the General Control packet with the depth and the packing phase, or None if pixels have 24 bits."""
         if self.signal.packed == 8:
             return None
         group = PHASES[self.signal.bits]
@@ -93,7 +93,7 @@ class Sender:
 
 @contextmanager
 def opened(path: str) -> Iterator[Image.Image]:
-    """An image; what speaks against its file is told with the file's name."""
+    """Opens an image. Errors name the file."""
     try:
         with Image.open(path) as image:
             yield image
@@ -102,19 +102,19 @@ def opened(path: str) -> Iterator[Image.Image]:
 
 
 def size_of(path: str) -> tuple[int, int]:
-    """The width and height of an image; of its file only the head is read."""
+    """Returns the width and height of an image. Only the head of the file is read."""
     with opened(path) as image:
         width, height = image.size
     return width, height
 
 
 def shallow(image: Image.Image) -> Image.Image:
-    """A grey image of 16 bits a pixel as one of eight: 65535 becomes 255."""
+    """Converts a grey image of 16 bits a pixel to 8 bits: 65535 becomes 255."""
     return image.convert("I").point(lambda level: level * (1 / 257) + 0.5).convert("L")
 
 
 def deep_png(path: str) -> NDArray[np.uint16] | None:
-    """The colours of a PNG file of sixteen bits a component; None of another file. Alpha is left out."""
+    """Returns the colours of a PNG file with 16 bits a component, without alpha. Returns None for any other file."""
     try:
         with open(path, "rb") as file:
             reader = png.Reader(file=file)
@@ -130,7 +130,8 @@ def deep_png(path: str) -> NDArray[np.uint16] | None:
 
 
 def colours_in(path: str, size: tuple[int, int], is_deep: bool) -> Colours:
-    """The colours of an image, scaled to a size: bytes, or where `is_deep` the numbers of a PNG file of sixteen bits a component."""
+    """Returns the colours of an image, scaled to `size`: bytes, or 16-bit numbers if `is_deep` is set and the file is a PNG file with 16
+    bits."""
     with opened(path) as file:
         found = deep_png(path) if is_deep and file.format == "PNG" else None
         if found is None:

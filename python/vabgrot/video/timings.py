@@ -1,4 +1,4 @@
-"""The timing of a capture: the parts of its lines and fields, the polarity of its sync pulses, and how steady they are."""
+"""Measures the timing of a capture: the parts of its lines and fields, the polarity of its sync pulses, and how steady they are."""
 
 from __future__ import annotations
 
@@ -13,14 +13,14 @@ from vabgrot.events import Ints
 from vabgrot.formats.characters import PACKET
 
 PARTS = ("active", "front porch", "sync", "back porch", "total")
-DEPTH = 24  # bits of a pixel that takes one column
-LOST = 2  # in place of a level: what follows is not known to follow at once
-STABLE = 16  # neighbouring rows of one width and one level of both syncs, from which on the two hold
-GLITCH = 2  # columns: the most of a change within a damaged packet that is no sync pulse
+DEPTH = 24  # the bits of a pixel if it takes one column
+LOST = 2  # instead of a level: some columns before the next change are not known
+STABLE = 16  # a width or polarity counts as new if this many rows in succession have it
+GLITCH = 2  # columns; a shorter change within a damaged packet is no sync pulse
 
 
 class Place(NamedTuple):
-    """Where something is: the column of the listing, and the line of its field, from 1; None where it is not known."""
+    """A place: its column, and its line in the field, counted from 1 (None if not known)."""
 
     column: int
     line: int | None
@@ -28,8 +28,10 @@ class Place(NamedTuple):
 
 @dataclass(frozen=True)
 class Figure:
-    """One number of a raster: the most frequent value, of how many lines or fields; and of how many it is another, the first
-    such value and its place. Columns across, lines down; whole numbers, or half ones down."""
+    """A number of a raster: its most frequent value and how many lines or fields have it. `others` counts those with a different value;
+    the first of these is given with its place.
+
+    Horizontal numbers are in columns, vertical ones in lines. They are whole numbers; vertical ones may be halves."""
 
     value: float
     times: int
@@ -40,13 +42,16 @@ class Figure:
 
 @dataclass(frozen=True)
 class Raster:
-    """What the fields of one size have in common. `size` is the pixels of a row and the rows of a field, None where no field
-    is whole. `down` has one item, or where the fields are interlaced two: of those that begin with HSYNC, and of those that
-    begin half a line later. What was not seen is missing. `late` says how many columns after an edge of HSYNC, or the middle
-    between two, VSYNC changes; `wide` and `tall` whether HSYNC and VSYNC are positive, None where they do not change; `absent`
-    names the one that should have, since there are rows, or blank lines between rows. `bits` are those of a pixel: where they are
-    more than 24, `size`, `across` and `columns` are in pixels, and not in columns of the listing. `spans` are the first column
-    of each field and the one after its last."""
+    """What all fields of one size have in common. Numbers that were not seen are missing.
+
+    - `size`: pixels of a row and rows of a field; None if no field is complete.
+    - `down`: one item, or two if the fields are interlaced. The first is for fields that begin with HSYNC, the second for those that
+      begin half a line later.
+    - `late`: by how many columns VSYNC changes after an edge of HSYNC, or after the middle between two.
+    - `wide`, `tall`: whether HSYNC and VSYNC are positive; None if they do not change.
+    - `absent`: the syncs that do not change although there are rows, or blank lines between rows.
+    - `bits`: bits of a pixel. If they are more than 24, `size`, `across` and `columns` count pixels, not columns of the listing.
+    - `spans`: for each field its first column and the column after its last."""
 
     size: tuple[int, int | None]
     fields: int
@@ -62,7 +67,7 @@ class Raster:
 
     @property
     def columns(self) -> float | None:
-        """The columns of a field, on the average of both where it is interlaced; None where they were not seen."""
+        """The columns of a field; for interlaced video the mean of both kinds. None if they were not seen."""
         totals = [part["total"].value for part in self.down if "total" in part]
         if "total" not in self.across or not totals or len(totals) < len(self.down):
             return None
@@ -70,7 +75,8 @@ class Raster:
 
 
 class Avi(NamedTuple):
-    """What an AVI InfoFrame says: the video identification code, and the pixel repetition (0 where pixels are sent once)."""
+    """The fields of an AVI InfoFrame that matter here: the video identification code, and the pixel repetition (0 if pixels are sent
+    once)."""
 
     vic: int
     repetition: int
@@ -78,7 +84,7 @@ class Avi(NamedTuple):
 
 @dataclass
 class Field:
-    """The columns from one leading edge of VSYNC to the next, or up to where what was seen breaks off."""
+    """The columns from one leading edge of VSYNC to the next, or to the place where the syncs stop being known."""
 
     begin: int
     stop: int
@@ -90,33 +96,34 @@ class Field:
 
     @property
     def is_whole(self) -> bool:
-        """Whether all its rows were seen, and some are there."""
+        """Whether the field has rows and all of them were seen."""
         return not self.is_hurt and self.trail is not None and self.end is not None and self.rows.stop > self.rows.start
 
 
 @dataclass(frozen=True, eq=False)
 class Meter:
-    """Where HSYNC, VSYNC and rows change, in columns over all epochs. A change is four times its column, plus its level or LOST."""
+    """The places where HSYNC, VSYNC and rows change, in columns over all epochs. A change is four times its column, plus its level or
+    LOST."""
 
     hsync: Ints
     vsync: Ints
-    firsts: Ints  # of rows: the columns of the first pixels, how many there are, and the syncs before them
+    firsts: Ints  # rows: the columns of their first pixels, their widths, and the syncs before them
     widths: Ints
     levels: Ints
-    words: Ints  # damaged columns, and from where on the syncs are known again
+    words: Ints  # damaged columns, and the columns from which the syncs are known again
     known: Ints
-    damaged: Ints  # packets with a fault, by their first columns
-    slips: Ints  # the first columns after them
-    hurt: Ints  # columns at which a row may be missing, or be there by damage
-    flawed: Ints  # damaged control columns, at which a row may begin or end elsewhere
+    damaged: Ints  # packets with a fault: their first columns
+    slips: Ints  # the first columns after slips
+    hurt: Ints  # columns at which damage may have removed or added a row
+    flawed: Ints  # damaged control columns: they may have moved the begin or end of a row
     avis: list[tuple[int, Avi]]
-    depths: list[tuple[int, int]]  # columns, and the bits of a pixel from there on
+    depths: list[tuple[int, int]]  # columns, and the bits of a pixel from then on
     next: int  # the column after the last one
 
 
 class Edges(NamedTuple):
-    """The changes of one sync line: columns, levels (or LOST), whether each is a change that was seen, and whether damage may
-    have moved it. All of one length."""
+    """The changes of one sync: columns, levels (or LOST), whether the change itself was seen, and whether damage may have moved it. All
+    arrays have one length."""
 
     columns: Ints
     levels: Ints
@@ -125,8 +132,8 @@ class Edges(NamedTuple):
 
 
 class Lines(NamedTuple):
-    """The leading edges of HSYNC (`leads`), and of the lines between two of which all was seen: their first columns, parts
-    (`sync`, `total`), which row they have (-1 where none), and whether the parts are certain."""
+    """The leading edges of HSYNC (`leads`), and the lines between two of them that were seen completely. For each line: its first column,
+    its parts (`sync`, `total`), its row (-1 if it has none), and whether the parts are certain."""
 
     leads: Ints
     start: Ints
@@ -137,7 +144,7 @@ class Lines(NamedTuple):
 
 
 def spans(begins: Ints, ends: Ints) -> Ints:
-    """Where columns from each of `begins` on up to before each of `ends` lie, without overlaps: rows of the two, in order."""
+    """Returns the union of the intervals from `begins` to `ends` (exclusive) as sorted rows without overlaps."""
     if not len(begins):
         return np.zeros((0, 2), np.int64)
     order = np.argsort(begins, kind="stable")
@@ -147,13 +154,13 @@ def spans(begins: Ints, ends: Ints) -> Ints:
 
 
 def within(columns: Ints, places: Ints) -> tuple[Ints, npt.NDArray[np.bool_]]:
-    """The span that begins last before each column, and whether the column is in it or just behind it."""
+    """Returns for each column the last span that begins at or before it, and whether the column is in that span or directly after it."""
     span = np.searchsorted(places[:, 0], columns, "right") - 1
     return span, (span >= 0) & (columns <= places[np.maximum(span, 0), 1])
 
 
 def without_pulses(entries: Ints, places: Ints, most: int) -> Ints:
-    """Changes without those that damage made: back and forth within one of these spans, of at most so many columns."""
+    """Removes pulses that damage made: a value that changes and returns within one of these spans and lasts at most `most` columns."""
     if not len(places) or len(entries) < 3:
         return entries
     columns, known = entries >> 2, entries & 3 != LOST
@@ -168,15 +175,15 @@ def without_pulses(entries: Ints, places: Ints, most: int) -> Ints:
 
 
 def period_of(hsync: Edges) -> int:
-    """The columns of a line: what most leading edges of HSYNC are apart; 0 where there are no two."""
+    """Returns the columns of a line: the most frequent distance of two leading edges of HSYNC, or 0 if there are no two."""
     rises = hsync.columns[hsync.seen & (hsync.levels == 1)]
     apart, counts = np.unique(np.diff(rises), return_counts=True)
     return int(apart[np.argmax(counts)]) if len(apart) else 0
 
 
 def without_gaps(entries: Ints, most: int, slips: Ints) -> tuple[list[int], dict[int, int]]:
-    """Changes without what is not known for so many columns at most, unless a lane slips there; and where that began, by the columns
-    behind it."""
+    """Removes unknown stretches of at most `most` columns, unless a lane slips there. Also returns where each removed stretch began, by
+    the column after it."""
     kept: list[int] = []
     gaps: dict[int, int] = {}
     for entry in entries.tolist():
@@ -192,7 +199,7 @@ def without_gaps(entries: Ints, most: int, slips: Ints) -> tuple[list[int], dict
 
 
 def without_short(entries: list[int], most: int) -> list[int]:
-    """Changes without values that last for so many columns at most between others that are like each other."""
+    """Removes glitches: a value that lasts at most `most` columns between two equal values. Unknown values stay."""
     kept: list[int] = []
     for entry in entries:
         if len(kept) > 1 and LOST != kept[-2] & 3 == entry & 3 != kept[-1] & 3 != LOST and (entry >> 2) - (kept[-1] >> 2) <= most:
@@ -203,9 +210,9 @@ def without_short(entries: list[int], most: int) -> list[int]:
 
 
 def held(entries: Ints, period: int, slips: Ints) -> Ints:
-    """Changes of VSYNC as most columns of the lines of so many columns have it: what lasts for less than a line is none, the shortest
-    first, since one wrong bit of a character can turn it and a row holds it; nor does it end where it is not known for up to a line and a
-    half."""
+    """Returns the changes of VSYNC without errors. Values that last less than a line are removed, the shortest first: one wrong bit can
+    change VSYNC, and a row keeps the wrong value to its end. An unknown stretch of up to one and a half lines does not end a value
+    either."""
     kept, gaps = without_gaps(entries, 3 * period // 2, slips)
     for most in (GLITCH, period - 1):
         kept = without_short(kept, most)
@@ -214,7 +221,7 @@ def held(entries: Ints, period: int, slips: Ints) -> Ints:
 
 
 def edges(entries: Ints, words: Ints, damaged: Ints) -> Edges:
-    """The changes of a sync line, without those that damaged control characters and packets made."""
+    """Returns the changes of a sync without those that damaged control characters and packets made."""
     entries = without_pulses(entries, words, np.iinfo(np.int64).max)
     entries = without_pulses(entries, damaged, GLITCH)
     columns, levels = entries >> 2, entries & 3
@@ -228,7 +235,7 @@ def edges(entries: Ints, words: Ints, damaged: Ints) -> Edges:
 
 
 def lines_of(hsync: Edges, active: int, firsts: Ints) -> Lines:
-    """The lines of a raster whose HSYNC pulses have this level, and the first row of each."""
+    """Returns the lines of a raster whose HSYNC pulses have the level `active`, with the first row of each."""
     leads = np.flatnonzero(hsync.seen & (hsync.levels == active))
     whole = leads[leads + 2 < len(hsync.columns)]
     whole = whole[(hsync.levels[whole + 1] != LOST) & (hsync.levels[whole + 2] != LOST)]
@@ -241,7 +248,7 @@ def lines_of(hsync: Edges, active: int, firsts: Ints) -> Lines:
 
 
 def fields_of(vsync: Edges, active: int, stop: int) -> list[Field]:
-    """The fields, up to the column `stop`, of a raster whose VSYNC pulses have this level."""
+    """Returns the fields, up to the column `stop`, of a raster whose VSYNC pulses have the level `active`."""
     found: list[Field] = []
     begin, lead, trail = int(vsync.columns[0]), None, None
     for column, level, seen in zip(vsync.columns.tolist(), vsync.levels.tolist(), vsync.seen.tolist()):
@@ -258,18 +265,18 @@ def fields_of(vsync: Edges, active: int, stop: int) -> list[Field]:
 
 
 class Ruler:
-    """Tells of a column how many lines it is behind the first leading edge of HSYNC, to the next half. `total` is the columns
-    of a line, 0 where none was seen whole."""
+    """Measures in half lines how far a column is after the first leading edge of HSYNC. `total` is the columns of a line, or 0 if no line
+    was seen completely."""
 
     def __init__(self, leads: Ints, total: float) -> None:
         self.leads, self.total = leads, total
 
     def line(self, column: int) -> int:
-        """The line that a column is in, -1 before the first one."""
+        """Returns the number of the line with this column, or -1 before the first line."""
         return int(np.searchsorted(self.leads, column, "right")) - 1
 
     def halves(self, column: int) -> tuple[float | None, int]:
-        """How many lines, None before the first one; and how many columns further the column is."""
+        """Returns the number of lines, rounded to halves (None before the first line), and the columns by which the column is later."""
         line = self.line(column)
         if line < 0 or not self.total:
             return None, 0
@@ -280,7 +287,8 @@ class Ruler:
 
 
 def figure(values: npt.ArrayLike, places: Sequence[int] | Ints, place: Callable[[int], Place]) -> Figure | None:
-    """The number that most of these are, and where (`place` of its column) the first other one is; None where there are none."""
+    """Returns the most frequent value, and the first different value with its place. Returns None if there are no values. `place` makes a
+    place of a column."""
     numbers = np.asarray(values, float)
     if not len(numbers):
         return None
@@ -294,14 +302,14 @@ def figure(values: npt.ArrayLike, places: Sequence[int] | Ints, place: Callable[
 
 
 def whole_place(column: int) -> Place:
-    """The place of a field, by its first column."""
+    """Returns the place of a field, given its first column."""
     return Place(column, None)
 
 
 @dataclass
 class Part:
-    """Columns of a listing in which rows have one width and the syncs one polarity, for the most part. `bits` are those of a
-    pixel: in deep colour 24 of them are sent a column (HDMI 1.4, section 6.5)."""
+    """A range of columns in which most rows have one width and the syncs one polarity. `bits` are those of a pixel: in deep colour each
+    column carries 24 of them (HDMI 1.4, section 6.5)."""
 
     begin: int
     stop: int
@@ -311,14 +319,14 @@ class Part:
     bits: int
 
     def pixels(self, columns: Ints) -> Ints:
-        """How many pixels take so many columns, to the nearest."""
+        """Converts numbers of columns to numbers of pixels, rounded."""
         if self.bits == DEPTH:
             return columns
         pixels: Ints = np.rint(columns * (DEPTH / self.bits)).astype(np.int64)
         return pixels
 
     def slice(self, entries: Ints) -> Ints:
-        """The changes in these columns, and before them the level at the first, where it is known."""
+        """Returns the changes in these columns. The level at the first column, if it is known, comes before them."""
         first, behind = np.searchsorted(entries >> 2, (self.begin, self.stop))
         level = int(entries[first - 1]) & 3 if first else LOST
         before = [self.begin << 2 | LOST] + [self.begin << 2 | level] * (level != LOST)
@@ -326,8 +334,8 @@ class Part:
 
 
 def parts_of(meter: Meter) -> Iterator[Part]:
-    """The parts of what a meter took: a new one begins with a row from which on another width or polarity holds for STABLE
-    rows, and the one before ends with the row before."""
+    """Splits a capture into parts. A new part begins with the row from which STABLE rows have another width or polarity; the part before
+    ends there."""
     firsts, widths, levels = meter.firsts, meter.widths, meter.levels
     pairs = widths << 2 | levels & 3
     begins = np.flatnonzero(np.diff(pairs, prepend=-1))
@@ -345,7 +353,7 @@ def parts_of(meter: Meter) -> Iterator[Part]:
 
 
 def down_of(one: Field, ruler: Ruler, firsts: Ints) -> dict[str, float]:
-    """The parts of a field down, as far as they were seen."""
+    """Returns the vertical parts of a field, as far as they were seen."""
     known = {name: ruler.halves(at)[0] for name, at in (("lead", one.lead), ("trail", one.trail), ("end", one.end)) if at is not None}
     seen = {name: at for name, at in known.items() if at is not None}
     found: dict[str, float] = {}
@@ -366,7 +374,7 @@ def down_of(one: Field, ruler: Ruler, firsts: Ints) -> dict[str, float]:
 
 
 def phase_of(one: Field, ruler: Ruler, interlaced: bool) -> int:
-    """0 where a field begins with HSYNC, 1 where it begins half a line later."""
+    """Returns 0 if a field begins with HSYNC, and 1 if it begins half a line later."""
     for at in (one.lead, one.trail):
         lines = ruler.halves(at)[0] if at is not None else None
         if lines is not None:
@@ -376,7 +384,7 @@ def phase_of(one: Field, ruler: Ruler, interlaced: bool) -> int:
 
 
 def sized(part: Part, found: list[Field]) -> list[tuple[int, int | None]]:
-    """The size of each field: pixels of a row, and rows. One that is not whole has that of its neighbour."""
+    """Returns the size of each field: pixels of a row, and rows. An incomplete field gets the size of its neighbour."""
     sizes: list[tuple[int, int | None] | None] = []
     for one in found:
         widths, counts = np.unique(part.pixels(part.widths[one.rows]), return_counts=True)
@@ -391,7 +399,7 @@ def sized(part: Part, found: list[Field]) -> list[tuple[int, int | None]]:
 
 
 def across_of(part: Part, lines: Lines, mask: npt.NDArray[np.bool_], ruler: Ruler, found: list[Field]) -> dict[str, Figure]:
-    """The parts of lines: of all `total` and `sync`, of those with a row the others."""
+    """Returns the horizontal parts: `total` and `sync` of all lines, the others of the lines with a row."""
     begins = np.array([one.lead if one.lead is not None else -1 for one in found], np.int64)
     firsts_of = np.array([one.begin for one in found], np.int64)
 
@@ -416,7 +424,7 @@ def across_of(part: Part, lines: Lines, mask: npt.NDArray[np.bool_], ruler: Rule
 
 
 def late_of(found: list[Field], vsync: Edges, ruler: Ruler) -> Figure | None:
-    """How many columns after an edge of HSYNC VSYNC changes."""
+    """Returns by how many columns VSYNC changes after an edge of HSYNC."""
     doubtful = set(vsync.columns[vsync.doubtful].tolist())
     changes = [at for one in found for at in (one.lead, one.trail) if at is not None and at not in doubtful]
     late = [(at, columns) for at in changes for lines, columns in [ruler.halves(at)] if lines is not None]
@@ -424,14 +432,14 @@ def late_of(found: list[Field], vsync: Edges, ruler: Ruler) -> Figure | None:
 
 
 def are_hurt(hurt: Ints, begins: npt.ArrayLike, ends: npt.ArrayLike) -> npt.NDArray[np.bool_]:
-    """Whether a row may be missing from each column to before another."""
+    """Returns for each range of columns whether a row may be missing there."""
     found: npt.NDArray[np.bool_] = np.searchsorted(hurt, begins) < np.searchsorted(hurt, ends)
     return found
 
 
 def rasters_of(part: Part, hsync: Edges, vsync: Edges, hurt: Ints, flawed: Ints) -> Iterator[Raster]:
-    """The rasters of a part, one for each size of its fields, in the order in which they begin. Fields and lines in which one of the
-    `hurt` columns lies are not measured, nor are lines with one of the `flawed` ones."""
+    """Yields the rasters of a part, one for each size of its fields, in the order in which they begin. Fields and lines that contain a
+    `hurt` column are not measured, nor lines that contain a `flawed` one."""
     wide, tall = part.level & 1, part.level >> 1
     lines = lines_of(hsync, 1 - wide, part.firsts)
     both = np.union1d(hurt, flawed)
@@ -442,7 +450,7 @@ def rasters_of(part: Part, hsync: Edges, vsync: Edges, hurt: Ints, flawed: Ints)
         one.rows = slice(int(first), int(behind))
     totals = np.unique(lines.end[lines.sure] - lines.start[lines.sure], return_counts=True)
     ruler = Ruler(lines.leads, float(totals[0][np.argmax(totals[1])]) if len(totals[0]) else 0.0)
-    for one in found:  # damage within a line of an edge may have made the edge
+    for one in found:  # damage within a line of an edge may be its cause
         one.is_hurt = bool(are_hurt(hurt, one.begin - ruler.total, one.stop + ruler.total))
     number = np.searchsorted([one.begin for one in found], lines.start, "right") - 1
     groups: dict[tuple[int, int | None], list[int]] = {}
@@ -461,8 +469,8 @@ def rasters_of(part: Part, hsync: Edges, vsync: Edges, hurt: Ints, flawed: Ints)
 
 
 def is_interlaced(its: list[Field], ruler: Ruler) -> bool | None:
-    """Whether VSYNC begins or ends in the middle of a line in some field. Where it does not, both ends of a field must have
-    been seen: of the fields of an interlaced raster every second one begins with HSYNC."""
+    """Returns whether VSYNC begins or ends in the middle of a line in some field. "No" requires that both ends of a field were seen,
+    because in interlaced video every second field begins with HSYNC."""
     ends = [(one.trail if one.lead is None else one.lead, one.end) for one in its]
     lines = [[ruler.halves(at)[0] for at in pair if at is not None] for pair in ends]
     seen = [[at for at in one if at is not None] for one in lines]
@@ -472,7 +480,7 @@ def is_interlaced(its: list[Field], ruler: Ruler) -> bool | None:
 
 
 def absent_of(part: Part, hsync: Edges, vsync: Edges) -> tuple[str, ...]:
-    """The syncs that never change though there are some rows, or rows with blank lines between."""
+    """Returns the syncs that never change although there are rows, or rows with blank lines between them."""
     periods = np.diff(part.firsts)
     has_blank = len(periods) > 1 and periods.max() > 2 * np.median(periods)
     absent = (("HSYNC", hsync, len(periods) > 1), ("VSYNC", vsync, has_blank))
@@ -480,7 +488,7 @@ def absent_of(part: Part, hsync: Edges, vsync: Edges) -> tuple[str, ...]:
 
 
 def downs_of(its: list[Field], ruler: Ruler, firsts: Ints, interlaced: bool) -> tuple[dict[str, Figure], ...]:
-    """The parts of fields down: one set of figures, or one for each of the two kinds of fields."""
+    """Returns the vertical parts of fields: one set of figures, or two if the fields are interlaced."""
     values: tuple[dict[str, tuple[list[float], list[int]]], ...] = ({}, {})
     for one in its:
         phase = phase_of(one, ruler, interlaced) if interlaced else 0
@@ -496,7 +504,7 @@ def downs_of(its: list[Field], ruler: Ruler, firsts: Ints, interlaced: bool) -> 
 
 
 def rasters(meter: Meter) -> Iterator[Raster]:
-    """The rasters of all that a meter took, in the order in which they begin; none where there are no rows."""
+    """Yields the rasters of everything the meter took, in the order in which they begin. Without rows there is none."""
     if not len(meter.firsts):
         return
     words = spans(meter.words, meter.known)

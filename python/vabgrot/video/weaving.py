@@ -1,4 +1,4 @@
-"""Fields of interlaced video woven into frames."""
+"""Weaves the fields of interlaced video into frames."""
 
 from collections.abc import Iterator
 from dataclasses import dataclass
@@ -7,13 +7,13 @@ from typing import Generic, Protocol, TypeVar
 
 from vabgrot.events import UNTOLD
 
-NEAR = Fraction(1, 8)  # of a line, by which the places of two fields may differ from half a line
+NEAR = Fraction(1, 8)  # lines; two fields are half a line apart if their distance differs from that by at most this
 HALF = Fraction(1, 2)
 
 
 class Timed(Protocol):
-    """A field as far as weaving looks at it: its width in pixels, its rows, and the lines from its VSYNC to its first row, None where
-    they are not known."""
+    """What weaving needs to know about a field: width in pixels, rows, and the lines from its VSYNC to its first row (None if not known).
+    """
 
     @property
     def size(self) -> tuple[int, int]:
@@ -21,7 +21,7 @@ class Timed(Protocol):
 
     @property
     def lines_down(self) -> Fraction | None:
-        """The lines from VSYNC to the first row, with their parts."""
+        """The lines from VSYNC to the first row, as a fraction."""
 
 
 Field = TypeVar("Field", bound=Timed)
@@ -29,8 +29,8 @@ Field = TypeVar("Field", bound=Timed)
 
 @dataclass(frozen=True)
 class Pair(Generic[Field]):
-    """An upper and a lower field of one frame, or a picture (`upper`) alone: `lower` is None. `is_field` says that it is a field
-    whose other one is missing."""
+    """The two fields of a frame. A picture without a partner has `lower` None; `is_field` then says whether it is a field that lost its
+    partner."""
 
     upper: Field
     lower: Field | None = None
@@ -38,15 +38,15 @@ class Pair(Generic[Field]):
 
 
 def lines_down(change: int | None, firsts: list[int]) -> Fraction | None:
-    """The lines from the column of a change of VSYNC to the first of some rows, by the columns in which these begin. A row of
-    unknown column, or a single one, does not tell it."""
+    """Returns the lines from a change of VSYNC to the first row. `firsts` are the first columns of rows. Returns None for a single row,
+    or if the column of the first row is not known."""
     if change is None or len(firsts) < 2 or firsts[0] == UNTOLD or firsts[1] <= firsts[0]:
         return None
     return Fraction(firsts[0] - change, firsts[1] - firsts[0])
 
 
 def half_line(first: Timed, second: Timed) -> int:
-    """1 where the second of two fields in a row stands half a line lower, -1 where it stands half a line higher, else 0."""
+    """Returns 1 if the second of two fields is half a line lower than the first, -1 if it is half a line higher, and 0 otherwise."""
     one, other = first.lines_down, second.lines_down
     if one is None or other is None or first.size != second.size:
         return 0
@@ -55,15 +55,15 @@ def half_line(first: Timed, second: Timed) -> int:
 
 
 class Weaver(Generic[Field]):
-    """Takes pictures in order. Two that follow one another and stand half a line apart are the fields of interlaced video; the
-    one that stands higher is the upper, and begins a frame (CTA-861: the first field)."""
+    """Takes pictures in order and finds the fields of interlaced video: two successive pictures that are half a line apart. The higher
+    one is the upper field and begins the frame (CTA-861: the first field)."""
 
     def __init__(self) -> None:
         self.held: Field | None = None
         self.is_interlaced = False
 
     def take(self, field: Field) -> Iterator[Pair[Field]]:
-        """The frames that are whole with this picture."""
+        """Takes a picture. Yields the frame that it completes, if any."""
         held, self.held = self.held, field
         if held is None:
             return
@@ -77,7 +77,7 @@ class Weaver(Generic[Field]):
             yield Pair(held, is_field=self.is_interlaced)
 
     def end(self) -> Iterator[Pair[Field]]:
-        """What is still held."""
+        """Yields the last picture if it is still waiting for a partner."""
         held, self.held = self.held, None
         if held is not None:
             yield Pair(held, is_field=self.is_interlaced)
