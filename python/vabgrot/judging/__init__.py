@@ -1,1 +1,1 @@
-"""Whether a capture is as the standards ask: what is gathered of it, the rules, and the verdict on each."""
+"""Judges a capture against the standards: the record of the capture, the rules, and a verdict on each rule."""

@@ -1,5 +1,7 @@
-"""Which characters of a capture were damaged: by what is known of control periods, guards, packets and the video coding, or by a
-capture of the same that is right."""
+"""Finds the damaged characters of a capture.
+
+Two methods: use what is known about control periods, guards, packets and the video coding, or compare with an undamaged capture of the
+same source."""
 
 from __future__ import annotations
 
@@ -21,12 +23,12 @@ from vabgrot.lanes.search import damage_of
 KINDS = ("control", "guard", "packet", "video")
 IS_TERC4 = np.isin(np.arange(1024), TERC4)
 TO_TERC4 = BITS[np.arange(1024)[:, None] ^ np.array(TERC4)[None, :]].min(axis=1)
-TOGETHER = 1024  # rows that are looked at together
-FEW = 2  # characters of a preamble that are wrong by damage; more are the source's
+TOGETHER = 1024  # rows processed at a time
+FEW = 2  # up to this many wrong characters of a preamble count as damage; if more are wrong, the source is
 
 
 class Hit(NamedTuple):
-    """A damaged character: its column, its lane, what it stands in, and how many of its bits are wrong, at least."""
+    """A damaged character: its column, its lane, the kind of its surroundings, and how many of its bits are wrong, at least."""
 
     column: int
     lane: int
@@ -35,13 +37,14 @@ class Hit(NamedTuple):
 
 
 def exposed(spans: Spans) -> dict[str, int]:
-    """How many characters of each kind a lane has."""
+    """Returns the number of characters of each kind on one lane."""
     guards = sum(2 * len(pairs) for pairs in spans.guards)
     return dict(zip(KINDS, (int(spans.runs[1].sum()), guards, PACKET * len(spans.packets), int(spans.rows[1].sum()))))
 
 
 def in_control(spans: Spans, columns: Columns) -> Iterator[Hit]:
-    """The damaged characters of control periods: those that are none, and those of one column that are another one's by one bit."""
+    """Yields the damaged characters of control periods: those that are no control characters, and those that differ in one bit from the
+    characters on both sides."""
     begins, counts, values = spans.runs
     words = {(at, numbers[0]) for at, numbers in spans.of_kind("word")}
     for at, lane in sorted(words):
@@ -62,7 +65,7 @@ def in_control(spans: Spans, columns: Columns) -> Iterator[Hit]:
 
 
 def in_preambles(spans: Spans, columns: Columns) -> Iterator[Hit]:
-    """The damaged characters of preambles of which few are wrong."""
+    """Yields the damaged characters of preambles. Preambles with more than FEW wrong characters are left out."""
     rows = set(spans.guards[0].tolist())
     for at, _ in spans.of_kind("preamble"):
         wanted = (CONTROL[1], CONTROL[0 if at in rows else 1])
@@ -78,7 +81,7 @@ def in_preambles(spans: Spans, columns: Columns) -> Iterator[Hit]:
 
 
 def in_guards(spans: Spans, columns: Columns) -> Iterator[Hit]:
-    """The damaged characters of guards of which it is known what they guard."""
+    """Yields the damaged characters of guard bands, if it is known what follows or precedes the guard band."""
     rows, islands = set(spans.guards[0].tolist()), {at for pairs in spans.guards[1:] for at in pairs.tolist()}
     for at, _ in spans.of_kind("guard"):
         is_row = at in rows or at - 1 in rows
@@ -92,7 +95,7 @@ def in_guards(spans: Spans, columns: Columns) -> Iterator[Hit]:
 
 
 def in_packets(spans: Spans, columns: Columns) -> Iterator[Hit]:
-    """The damaged characters of packets: those that are none of TERC4, and those of which a block shows a wrong bit."""
+    """Yields the damaged characters of packets: those that are no TERC4 characters, and those with a wrong bit in a block."""
     told: dict[int, list[tuple[str, tuple[int, ...]]]] = {}
     for kind in ("symbols", "mended", "lost"):
         for at, numbers in spans.of_kind(kind):
@@ -111,12 +114,12 @@ def in_packets(spans: Spans, columns: Columns) -> Iterator[Hit]:
 
 
 def where(block: int, bit: int) -> tuple[int, int]:
-    """The lane and the column of a packet that carry a bit of a block: 0 to 3 are the bodies, 4 is the header."""
+    """Returns the lane and the column that carry bit `bit` of a block. Blocks 0 to 3 are the bodies, block 4 is the header."""
     return (0, bit) if block == 4 else (1 + bit % 2, bit // 2)
 
 
 def to_nibble(word: int, block: int) -> int:
-    """By how many bits a character of TERC4 differs from the one whose bit of this block is the other one."""
+    """Returns in how many bits a character of TERC4 differs from the one with the opposite bit of this block."""
     if word not in TERC4:
         return int(TO_TERC4[word])
     other = TERC4.index(word) ^ 1 << (2 if block == 4 else block)
@@ -124,7 +127,7 @@ def to_nibble(word: int, block: int) -> int:
 
 
 def in_rows(spans: Spans, columns: Columns) -> Iterator[Hit]:
-    """The damaged characters of rows: the least damage that makes of coded rows those that came."""
+    """Yields the damaged characters of rows: the smallest damage that turns validly coded rows into those received."""
     firsts, widths = spans.rows
     told = sorted({(numbers[0], int(np.searchsorted(firsts, at, "right")) - 1) for at, numbers in spans.of_kind("code")})
     groups: dict[tuple[int, int], list[int]] = {}
@@ -140,7 +143,7 @@ def in_rows(spans: Spans, columns: Columns) -> Iterator[Hit]:
 
 
 def hits_of(spans: Spans, columns: Columns) -> list[Hit]:
-    """The damaged characters of a capture, by what is known, in the order of their columns."""
+    """Returns the damaged characters that this capture itself shows, in the order of their columns."""
     found: list[Hit] = []
     for part, (begins, lengths) in zip((in_control, in_guards, in_packets, in_rows), periods(spans)):
         hits = [*part(spans, columns)]
@@ -152,27 +155,27 @@ def hits_of(spans: Spans, columns: Columns) -> list[Hit]:
 
 
 def periods(spans: Spans) -> list[tuple[Ints, Ints]]:
-    """Of each kind the first columns of what is known of it, and the numbers of columns."""
+    """Returns for each kind the first columns of its stretches and their lengths."""
     pairs, packets = np.sort(np.concatenate(spans.guards)), spans.packets
     return [spans.runs[:2], (pairs, np.full(len(pairs), 2)), (packets, np.full(len(packets), PACKET)), spans.rows]
 
 
-# ---- against a capture of the same
+# ---- comparison with another capture of the same source
 
-PART = 1 << 18  # columns that are compared at once
-WINDOW, TRIED = 64, 24  # columns of a pattern that is looked for, and how many patterns are
-RAREST = 3  # columns of a pattern by which it is looked for
+PART = 1 << 18  # columns compared at a time
+WINDOW, TRIED = 64, 24  # columns of a search pattern, and how many patterns are tried
+RAREST = 3  # the rarest columns of a pattern: the search begins with these
 
 
 def joined(words: npt.NDArray[np.uint16]) -> Ints:
-    """The columns as numbers of thirty bits."""
+    """Returns the three characters of each column as one number of 30 bits."""
     wide = words.astype(np.int64)
     return np.asarray(wide[0] | wide[1] << 10 | wide[2] << 20)
 
 
 def offset_of(mine: Columns, other: Columns) -> int | None:
-    """By how many columns what stands in `mine` stands later in `other`: the offset for which most of some patterns speak; None
-    where none is found in both."""
+    """Returns by how many columns the contents of `mine` are later in `other`: the offset with the most votes of the search patterns.
+    Returns None if no pattern is in both."""
     whole = joined(other.at(0, min(other.count, 1 << 24)))
     order = np.argsort(whole, kind="stable")
     votes: Counter[int] = Counter()
@@ -183,7 +186,7 @@ def offset_of(mine: Columns, other: Columns) -> int | None:
 
 
 def found_in(whole: Ints, order: Ints, pattern: Ints) -> Iterator[int]:
-    """Where most of a pattern is found, by those of its columns that are there and rarest; `order` sorts the whole."""
+    """Yields the places at which most of a pattern is found. The search begins with the pattern's rarest columns. `order` sorts `whole`."""
     first, last = np.searchsorted(whole, pattern, "left", sorter=order), np.searchsorted(whole, pattern, "right", sorter=order)
     known = np.flatnonzero(last > first)
     for rarest in known[np.argsort((last - first)[known], kind="stable")][:RAREST].tolist():
@@ -194,15 +197,16 @@ def found_in(whole: Ints, order: Ints, pattern: Ints) -> Iterator[int]:
 
 
 class Compared(NamedTuple):
-    """What came of a comparison: the damaged characters, and the characters of each kind that a lane has in both."""
+    """The result of a comparison: the damaged characters, and for each kind the number of characters on one lane that both captures have.
+    """
 
     hits: list[Hit]
     exposed: dict[str, int]
 
 
 def compared(mine: Columns, other: Columns, spans: Spans, offset: int, count: int) -> Compared:
-    """The first `count` characters that are not as in another capture, whose columns are `offset` later; `spans` are those of the other
-    one, which says what each stands in."""
+    """Compares two captures; the columns of `other` are `offset` later. Returns the first `count` characters that differ. `spans` are
+    those of `other`, and give the kind of each character."""
     first, behind = max(0, -offset), min(count, other.count - offset)
     hits: list[Hit] = []
     counts = np.zeros(len(KINDS), np.int64)
@@ -219,7 +223,7 @@ def compared(mine: Columns, other: Columns, spans: Spans, offset: int, count: in
 
 
 def kinds_of(spans: Spans, column: int, count: int) -> Ints:
-    """The number of the kind of each of so many columns, len(KINDS) where nothing is known."""
+    """Returns the kind of each column as its number in KINDS, or len(KINDS) if nothing is known."""
     found = np.full(count, len(KINDS), np.int64)
     for kind, (begins, lengths) in enumerate(periods(spans)):
         near = (begins + lengths > column) & (begins < column + count)

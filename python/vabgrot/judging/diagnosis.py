@@ -1,4 +1,4 @@
-"""Why rows, openings or packets fail alike, in words: mistakes that a source makes each time."""
+"""Explains in words why many rows, openings or packets fail in the same way: mistakes that a source makes each time."""
 
 from __future__ import annotations
 
@@ -30,16 +30,16 @@ from vabgrot.lanes.columns import Columns, Words
 from vabgrot.lanes.looking import IS_CONTROL
 from vabgrot.lanes.openings import beginnings
 
-MOST = 400  # faults of a kind that are looked at
-ALIKE = 0.8  # of them, from which on they fail alike
-LEAST = 3  # of them, from which on that is said
-LOOKED = 1 << 22  # bits of each lane in which the lanes' order is looked for
-GENERATOR = 0x83  # x^8 + x^7 + x^6 + 1, of blocks whose first bit is the highest power (HDMI 1.4, section 5.2.3.5)
+MOST = 400  # faults of a kind that are examined
+ALIKE = 0.8  # the share of these that must fail in the same way
+LEAST = 3  # the least number of faults for a cause
+LOOKED = 1 << 22  # bits of each lane that are searched for the order of the lanes
+GENERATOR = 0x83  # x^8 + x^7 + x^6 + 1; the first bit of a block is the highest power (HDMI 1.4, section 5.2.3.5)
 NIBBLES = {word: nibble for nibble, word in enumerate(TERC4)}
 
 
 class Cause(NamedTuple):
-    """What makes faults alike: in words, of how many of how many that were looked at, and the column of the first."""
+    """A common cause of faults: in words, how many of the examined faults have it, and the column of the first one."""
 
     words: str
     times: int
@@ -51,20 +51,20 @@ class Cause(NamedTuple):
 
 
 def alike(found: list[tuple[str, int]], of: int) -> Iterator[Cause]:
-    """The causes that most of these faults have: words and columns."""
+    """Yields the causes that most of these faults share."""
     for words, times in Counter(words for words, _ in found).most_common():
         if times >= LEAST and times >= ALIKE * of:
             yield Cause(words, times, of, next(column for one, column in found if one == words))
 
 
 class Physician:
-    """Looks at the faults of a capture."""
+    """Examines the faults of a capture."""
 
     def __init__(self, spans: Spans, columns: Columns) -> None:
         self.spans, self.columns = spans, columns
 
     def causes(self) -> Iterator[Cause]:
-        """What makes faults alike, kind by kind."""
+        """Yields the common causes, kind by kind."""
         yield from self.of_rows()
         yield from self.of_openings()
         yield from self.of_preambles()
@@ -72,7 +72,7 @@ class Physician:
         yield from self.of_packets()
 
     def of_rows(self) -> Iterator[Cause]:
-        """Rows that are right at another disparity."""
+        """Yields the cause "rows are right at another disparity"."""
         firsts, widths = self.spans.rows
         told = sorted({(int(np.searchsorted(firsts, at, "right")) - 1, numbers[0]) for at, numbers in self.spans.of_kind("code")})
         found = []
@@ -84,12 +84,13 @@ class Physician:
                 words += ", but goes on with that of the row before" if before in starts else ""
                 found.append((words, int(firsts[row])))
         said = list(alike(found, min(len(told), MOST)))
-        if not said:  # of some rows alone the disparity is carried on in a manner that is seen
+        if not said:  # only some rows show that the disparity is carried over
             said = list(alike([(words.partition(", but")[0], at) for words, at in found], min(len(told), MOST)))
         yield from said
 
     def carried(self, row: int, lane: int) -> int:
-        """The disparity at the end of the row before one, where that was not set to 0 since the first row."""
+        """Returns the disparity at the end of the row before. That row began at 0, or at another disparity at which it is coded without a
+        fault."""
         firsts, widths = self.spans.rows
         total = 0
         for number in range(max(0, row - 1), row):
@@ -99,13 +100,13 @@ class Physician:
         return total
 
     def of_openings(self) -> Iterator[Cause]:
-        """Control periods that end in no guard band."""
+        """Yields what is wrong with control periods that end without a guard band."""
         places = [at for at, _ in self.spans.of_kind("noise")]
         firsts = [at for at in places[: 4 * MOST] if at and IS_CONTROL[self.columns.at(at - 1, 1)[:, 0]].sum() >= 2][:MOST]
         yield from alike([(words, at) for at in firsts if (words := self.opening(at))], len(firsts))
 
     def opening(self, at: int) -> str:
-        """What is wrong with an opening at a column, "" where that is not known."""
+        """Says what is wrong with an opening; "" if that is not known."""
         opens, words = announced(self.columns, at), self.columns.at(at, 64)
         ends = np.flatnonzero(IS_CONTROL[words].sum(axis=0) >= 2)
         inside = words[:, : int(ends[0])] if len(ends) else words
@@ -123,14 +124,14 @@ class Physician:
         return ""
 
     def of_preambles(self) -> Iterator[Cause]:
-        """Preambles that are too short, or have other bits."""
+        """Yields what is wrong with preambles that are too short or have other bits."""
         rows = set(self.spans.guards[0].tolist())
         for is_row in (True, False):
             told = [at for at, _ in self.spans.of_kind("preamble") if (at in rows) == is_row][:MOST]
             yield from alike([(self.preamble(at, is_row), at) for at in told], len(told))
 
     def preamble(self, at: int, is_row: bool) -> str:
-        """What is wrong with the preamble before a column."""
+        """Says what is wrong with the preamble before a column."""
         wanted = VIDEO_PREAMBLE if is_row else ISLAND_PREAMBLE
         words = self.columns.at(max(at - 16, 0), min(at, 16))[1:]
         right = (words == np.array(wanted)[:, None]).all(axis=0)
@@ -145,7 +146,7 @@ class Physician:
         return f"CTL0 to CTL3 are {bits} before {of}, want {'1000' if is_row else '1010'}"
 
     def of_guards(self) -> Iterator[Cause]:
-        """Guard columns that are wrong in the same manner."""
+        """Yields what is wrong with guard columns that all have the same error."""
         told = [at for at, _ in self.spans.of_kind("guard")][:MOST]
         rows = set(self.spans.guards[0].tolist())
         found = []
@@ -159,7 +160,7 @@ class Physician:
         yield from alike(found, len(told))
 
     def of_packets(self) -> Iterator[Cause]:
-        """Packets whose parity is right in another form."""
+        """Yields the cause of packets with a parity that would be right in another form."""
         told = sorted({at for kind in ("mended", "lost") for at, _ in self.spans.of_kind(kind)})[:MOST]
         found = []
         for at in told:
@@ -169,7 +170,7 @@ class Physician:
 
 
 class Block(NamedTuple):
-    """A block of a packet: its bits without the parity, the first lowest, how many they are, and the parity byte."""
+    """A block of a packet: its bits without the parity (the first one lowest), their number, and the parity byte."""
 
     data: int
     size: int
@@ -177,7 +178,7 @@ class Block(NamedTuple):
 
 
 def blocks_of(words: Words) -> list[Block]:
-    """The header's and the bodies' blocks of a packet, as they were received; nothing where a character is none of TERC4."""
+    """Returns the received blocks of a packet: the header's and the bodies'. Returns none if a character is not in TERC4."""
     if words.shape[1] < PACKET or not np.isin(words, TERC4).all():
         return []
     nibbles = [[NIBBLES[int(word)] for word in lane] for lane in words]
@@ -189,7 +190,7 @@ def blocks_of(words: Words) -> list[Block]:
 
 
 def parity_of(block: Block) -> int:
-    """The parity byte that a block wants."""
+    """Returns the correct parity byte of a block."""
     rest = 0
     for place in range(block.size):
         bit = (rest ^ block.data >> place) & 1
@@ -209,8 +210,7 @@ FORMS: dict[str, Callable[[Block], int]] = {
 
 
 def of_lanes(path: Path) -> list[str]:
-    """What is exchanged, inverted or turned round of the lanes of a capture, in words; nothing where they are right or nothing can be
-    told."""
+    """Says which lanes of a capture are exchanged, inverted or bit-reversed. Returns nothing if they are right, or if it cannot be told."""
     found_of = [looking.looked(bits) for bits in beginnings(path, LOOKED)]
     looked = [one for one in found_of if one is not None]
     if len(looked) < len(found_of):
@@ -234,14 +234,14 @@ def of_lanes(path: Path) -> list[str]:
 
 
 def exchange_of(rows: Words) -> looking.Fit:
-    """The order of lanes with the most right openings, of those that are as good the one that leaves most lanes where they are."""
+    """Returns the order of lanes with the most valid openings. If several are equally good, it is the one that moves the fewest lanes."""
     orders = {order: looking.right_openings(rows[list(order)]) for order in permutations(range(3))}
     best = max(orders, key=lambda order: (orders[order], sum(order[lane] == lane for lane in range(3))))
     return looking.Fit(orders[best], best, ())
 
 
 def causes_of(path: Path, spans: Spans, columns: Columns) -> list[str]:
-    """Why a capture's faults are alike, in words; first what is wrong with its lanes."""
+    """Returns the common causes of a capture's faults in words. What is wrong with its lanes comes first."""
     if not spans.faults:
         return []
     return of_lanes(path) or [f"{cause}, first at column {cause.column:,}" for cause in Physician(spans, columns).causes()]

@@ -1,4 +1,4 @@
-"""The rate of wrong bits of a capture without a reference: what was counted, and for rows of pixels what is estimated."""
+"""Determines the rate of wrong bits without a reference: by counting, and for rows of pixels by an estimate."""
 
 from __future__ import annotations
 
@@ -15,14 +15,14 @@ from vabgrot.lanes.columns import Columns
 from vabgrot.lanes.estimate import NOTHING, Estimate, Kind, Part, estimate, limits_of
 from vabgrot.lanes.search import Ints, Seen, seen
 
-MOST_CHARACTERS = 1 << 22  # of the rows of a lane by which damage is estimated
-LEAST_CLEAN = 0.25  # of these rows are clean ones at least, if there are as many
-TOGETHER = 1 << 21  # characters that are looked at together
-LEAST_MEASURED = 0.5  # of the pixels of a capture, without which there is no upper limit
+MOST_CHARACTERS = 1 << 22  # the most characters of a lane's rows that an estimate uses
+LEAST_CLEAN = 0.25  # the least share of clean rows among these, if the capture has enough
+TOGETHER = 1 << 21  # characters processed at a time
+LEAST_MEASURED = 0.5  # the least share of measured pixels; with fewer there is no upper limit
 
 
 class Row(NamedTuple):
-    """A row of pixels of a capture: where it is, and whether its lane has a fault in it."""
+    """A row of pixels on one lane: where it is, and whether it has a fault there."""
 
     columns: Columns
     first: int
@@ -31,7 +31,7 @@ class Row(NamedTuple):
 
 
 class Video(NamedTuple):
-    """What is known of the damage of a lane's rows: an estimate, the least damage in both units, and the characters of all rows."""
+    """The damage of the rows of one lane: an estimate, the least damage in both units, and the number of characters."""
 
     estimate: Estimate
     seen: tuple[int, int]
@@ -39,7 +39,7 @@ class Video(NamedTuple):
 
 
 class Rate(NamedTuple):
-    """A rate of wrong bits with its limits. Without an upper one, all are lower limits, and `why` says why."""
+    """A rate of wrong bits with its limits. If `upper` is None, all numbers are lower limits, and `why` gives the reason."""
 
     rate: float
     lower: float
@@ -48,7 +48,7 @@ class Rate(NamedTuple):
 
 
 def rows_in(spans: Spans, columns: Columns, lane: int) -> Iterator[Row]:
-    """The rows of a lane."""
+    """Yields the rows of a lane."""
     firsts, widths = spans.rows
     told = {int(np.searchsorted(firsts, at, "right")) - 1 for at, numbers in spans.of_kind("code") if numbers[0] == lane}
     for number, (first, width) in enumerate(zip(firsts.tolist(), widths.tolist())):
@@ -57,12 +57,12 @@ def rows_in(spans: Spans, columns: Columns, lane: int) -> Iterator[Row]:
 
 
 def words_of(rows: Sequence[Row], lane: int) -> Ints:
-    """The characters of rows of one width, a pixel the first axis."""
+    """Returns the characters of rows of one width. The first axis is the pixel."""
     return np.stack([row.columns.words(lane, row.first, row.width) for row in rows], axis=1).astype(np.int64)
 
 
 def video_of(parts: Sequence[tuple[Spans, Columns]], lane: int) -> Video:
-    """What is known of the damage of a lane, in parts of a capture that have alignments of their own."""
+    """Determines the damage of a lane. Each part of the capture has its own alignment."""
     rows = [row for spans, columns in parts for row in rows_in(spans, columns, lane)]
     every = sum(row.width for row in rows)
     sizes = Counter(row.width for row in rows)
@@ -73,7 +73,7 @@ def video_of(parts: Sequence[tuple[Spans, Columns]], lane: int) -> Video:
 
 
 def least_of(rows: Sequence[Row], lane: int) -> tuple[int, int]:
-    """The least damage of all rows, in both units."""
+    """Returns the least damage of all rows, in both units."""
     bits, characters = 0, 0
     for width in {row.width for row in rows if row.is_faulty}:
         faulty = [row for row in rows if row.is_faulty and row.width == width]
@@ -85,7 +85,7 @@ def least_of(rows: Sequence[Row], lane: int) -> tuple[int, int]:
 
 
 def estimate_of(rows: Sequence[Row], lane: int) -> Estimate:
-    """The estimate of rows of one width. If there are too many, it is that of some of them that are chosen at random."""
+    """Returns the estimate for rows of one width. If there are too many, it uses a random choice of them."""
     random = np.random.default_rng(lane)
     most = max(2, MOST_CHARACTERS // rows[0].width)
     faulty = [row for row in rows if row.is_faulty]
@@ -102,7 +102,7 @@ def estimate_of(rows: Sequence[Row], lane: int) -> Estimate:
 
 
 def rate_of(counted: tuple[int, int], others: tuple[int, int], videos: Sequence[Video], confidence: float) -> Rate:
-    """The rate by the wrong bits that were counted in all and their characters, by those outside of rows, and by what is known of
+    """Returns the rate of wrong bits. `counted` are the wrong bits and the characters of the whole capture, `others` those outside of
     rows."""
     wrong, characters = others
     parts = [Part(float(wrong), float(wrong), 1.0, float(characters)), *(video.estimate.part for video in videos)]
@@ -114,7 +114,7 @@ def rate_of(counted: tuple[int, int], others: tuple[int, int], videos: Sequence[
 
 
 def why_not(videos: Sequence[Video]) -> str:
-    """Why there is no upper limit; "" if there is one."""
+    """Says why there is no upper limit; "" if there is one."""
     every, measured = (sum(numbers) for numbers in zip(*((it.characters, it.estimate.part.characters) for it in videos), (0, 0)))
     if measured < LEAST_MEASURED * every:
         return f"only {measured / every:.0%} of the pixels stand in rows in which most damage shows"
@@ -122,7 +122,7 @@ def why_not(videos: Sequence[Video]) -> str:
 
 
 def plain_of(video: Video) -> Mapping[str, Any]:
-    """What is known of a lane, for machines."""
+    """Returns the damage of a lane as a value for JSON."""
     found = video.estimate
     return {
         "kind": found.kind,
@@ -137,7 +137,8 @@ def plain_of(video: Video) -> Mapping[str, Any]:
 
 
 def words_of_video(name: str, video: Video) -> str:
-    """What is known of a lane in words, "" if single bits are wrong and nearly all of that is seen, or nothing is wrong."""
+    """Describes the damage of a lane. Returns "" if nothing is wrong, or if only single bits are wrong and nearly all of them are
+    visible."""
     found = video.estimate
     if not any(video.seen) or found.kind == Kind.SINGLE and not found.why:
         return ""

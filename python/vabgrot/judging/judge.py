@@ -1,7 +1,7 @@
-"""All rules over one capture, and who is to blame for a failure: the source, or the damage of the link.
+"""Applies all rules to a capture, and decides whether the source or the damage of the link causes a failure.
 
-The damage is measured in control periods, where it is seen at once. A kind of fault is the source's if it comes LEAST times, and TIMES as
-often as that damage makes it."""
+The damage is measured in control periods, where every wrong character shows. A kind of fault is the source's if it appears at least LEAST
+times, and TIMES as often as this damage explains."""
 
 from __future__ import annotations
 
@@ -21,14 +21,14 @@ from vabgrot.judging.spans import epoch_spans
 from vabgrot.judging.verdicts import DAMAGED, FAIL, Case, Verdict, unjudged
 from vabgrot.reading import openings_of
 
-LEAST, TIMES = 3, 4  # how many things, and how many times as many as the link's damage makes, until they are the source's
-UNSEEN = 3  # events: with 95 % confidence no more happened in what was looked at, if none was seen
-LOOKED, SINGLE = 64, 2  # rows whose characters are looked at, and the most damaged ones of a row on the average
-OF_OPENING = 60  # characters of an opening: preamble and guard bands, before and after
-OFTEN = 1e-3  # damaged characters, from which on some damaged blocks of packets pass as right
+LEAST, TIMES = 3, 4  # a fault is the source's from this number on, and if it is this many times as frequent as damage makes it
+UNSEEN = 3  # events: if none was seen, there were at most this many, with 95 % confidence
+LOOKED, SINGLE = 64, 2  # rows that are examined, and the most damaged characters of a row, on average
+OF_OPENING = 60  # characters of an opening: preamble and guard bands, on both sides
+OFTEN = 1e-3  # the share of damaged characters at which some damaged blocks of packets pass as correct
 OF_CONTENTS = frozenset(("InfoFrame length", "checksum", "reserved bits", "general control", "clock regeneration", "sample parity"))
 OF_RASTER = frozenset(("format", "AVI format"))
-OF_PRESENCE = frozenset(("AVI InfoFrame", "audio InfoFrame", "samples a line"))  # a mended packet came, whatever it says
+OF_PRESENCE = frozenset(("AVI InfoFrame", "audio InfoFrame", "samples a line"))  # a repaired packet counts as present, whatever it contains
 
 
 @dataclass(frozen=True, eq=False)
@@ -39,20 +39,20 @@ class Damage:
 
     @cached_property
     def rate(self) -> float:
-        """At most which part of all characters is damaged, by control periods."""
+        """An upper limit of the share of damaged characters, measured in control periods."""
         control = 3 * int(self.case.record.periods[1].sum())
         return min(1.0, (len(self.case.record.flaws.get("word", [])) + UNSEEN) / control) if control else 1.0
 
     @cached_property
     def is_astray(self) -> bool:
-        """Whether openings fit first, and none does from some place on: a lane lost whole characters, and nothing was aligned anew."""
+        """Whether openings fit at first and none fits after some place: a lane lost whole characters, and the alignment was not renewed."""
         _, whole = openings_of(self.case.content.reading.events)
         right = np.flatnonzero(whole)
         return bool(len(right)) and len(whole) - 1 - int(right[-1]) >= 10 * LEAST
 
     @cached_property
     def makes_rasters(self) -> bool:
-        """Whether something was lost, and all numbers of the raster that no format has were seen once."""
+        """Whether damage explains a raster without a format: something was lost, and each number that fits no format was seen only once."""
         if not self.case.timings or not len(self.case.lost):
             return False
         raster = self.case.timings[0].raster
@@ -63,7 +63,8 @@ class Damage:
 
     @cached_property
     def has_single_characters(self) -> bool:
-        """Whether rows with a wrong code are right but for single characters, so that a coder's mistake does not explain them."""
+        """Whether rows with wrong coding have only single wrong characters, so that damage explains them and an encoder's mistake does
+        not."""
         reading = self.case.content.reading
         epoch = reading.epochs[0]
         columns = reading.characters(epoch) if reading.path.is_file() else None
@@ -76,7 +77,7 @@ class Damage:
         return sum(1 for _ in in_rows(spans, columns)) <= SINGLE * len(spans.faults)
 
     def is_source(self, name: str, kinds: tuple[str, ...], of: str) -> bool:
-        """Whether fault lines are more than the damage makes."""
+        """Whether there are more fault lines than the damage makes."""
         if self.is_astray or name == "video coding" and self.has_single_characters:
             return False
         flaws = [flaw for kind in kinds for flaw in self.case.record.flaws.get(kind, [])]
@@ -86,7 +87,7 @@ class Damage:
         return places >= LEAST and places > TIMES * by_link * max(items, 1)
 
     def exposed(self, name: str, of: str) -> tuple[int, float]:
-        """How many things may fail a rule, and how many characters each has."""
+        """Returns how many things a rule checks, and how many characters each of them has."""
         record = self.case.record
         if name == "video coding":
             widths = record.spans.rows[1]
@@ -96,7 +97,7 @@ class Damage:
         return of_link.counts_of(self.case)[of], 3.0 * PACKET if of == "packets" else OF_OPENING
 
     def blamed(self, one: Verdict, intact: dict[str, Verdict]) -> Verdict:
-        """A failure with who made it. `intact` are the verdicts by packets without damage alone."""
+        """Returns the verdict with the cause of a failure. `intact` are the verdicts that use undamaged packets only."""
         name, why = one.rule.name, ""
         if one.state != FAIL:
             return one
@@ -112,7 +113,7 @@ class Damage:
         return replace(one, state=DAMAGED, words=f"{one.words}; {why}") if why else one
 
     def link_of(self, name: str) -> str:
-        """Why a kind of fault is the link's."""
+        """Says why the link causes this kind of fault."""
         if self.is_astray:
             return "the lanes are aligned wrongly from some place on"
         is_single = name == "video coding" and self.has_single_characters
@@ -120,12 +121,12 @@ class Damage:
 
 
 def of_contents(case: Case) -> dict[str, Verdict]:
-    """The verdicts on packets and sound."""
+    """Returns the verdicts on packets and sound."""
     return {one.rule.name: one for judge in (of_packets, of_sound) for one in judge.judged(case)}
 
 
 def intact_of(case: Case) -> dict[str, Verdict]:
-    """The same by the packets that came without damage; nothing if all did."""
+    """Returns the verdicts on packets and sound that use undamaged packets only. Returns nothing if all packets are undamaged."""
     packets = case.content.packets
     if packets.intact[~packets.lost].all():
         return {}
@@ -136,7 +137,7 @@ def intact_of(case: Case) -> dict[str, Verdict]:
 
 
 def judged(case: Case) -> list[Verdict]:
-    """The verdict on each rule, in the order of the rules."""
+    """Returns the verdict on each rule, in the order of the rules."""
     is_dvi, intact = case.record.spans.is_dvi, dict[str, Verdict]()
     found = {one.rule.name: one for one in of_link.judged(case)}
     if not is_dvi:

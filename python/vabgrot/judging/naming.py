@@ -1,4 +1,4 @@
-"""Characters with the names that the standards give them, and what was wanted at a column."""
+"""Names characters as the standards do, and says what a column should contain."""
 
 from __future__ import annotations
 
@@ -25,14 +25,14 @@ from vabgrot.lanes.looking import IS_CONTROL
 from vabgrot.lanes.search import Explained
 
 SIGNALS = (("HSYNC", "VSYNC"), ("CTL0", "CTL1"), ("CTL2", "CTL3"))  # D0 and D1 of a control character, by lanes
-GAP = 4  # control columns behind a preamble within which its guard band is still looked for
-MOST_KEPT = 64  # rows whose explanation is kept
+GAP = 4  # a guard band is searched for at most this many control columns after the preamble
+MOST_KEPT = 64  # explanations of rows that are kept
 NOT_KNOWN = "nothing is known of this column"
 
 
 class Cell(NamedTuple):
-    """A character: its lane, its ten bits as a number, its name, and what was wanted in words ("" where it is as wanted, or nothing
-    is known)."""
+    """A character: its lane, its ten bits as a number, its name, and what it should be in words ("" if it is right, or if nothing is
+    known)."""
 
     lane: int
     word: int
@@ -41,31 +41,31 @@ class Cell(NamedTuple):
 
     @property
     def bits(self) -> str:
-        """q[9] to q[0]."""
+        """The bits as text, q[9] first."""
         return f"{self.word:0{TEN}b}"
 
 
 class Column(NamedTuple):
-    """A column: its number, what it is in words, and its three characters."""
+    """A column: its number, its kind in words, and its three characters."""
 
     column: int
     says: str
     cells: tuple[Cell, ...]
 
     def plain(self) -> dict[str, Any]:
-        """The same for machines."""
+        """Returns the same as a value for JSON."""
         cells = [{"lane": it.lane, "hex": f"{it.word:03x}", "bits": it.bits, "name": it.name, "wanted": it.wanted} for it in self.cells]
         return {"column": self.column, "says": self.says, "lanes": cells}
 
 
 def control_name(lane: int, value: int) -> str:
-    """A control character of a lane."""
+    """Names a control character of a lane."""
     low, high = SIGNALS[lane]
     return f"control, {low} {value & 1}, {high} {value >> 1}"
 
 
 def name_of(lane: int, word: int) -> str:
-    """All that a character can be, whatever stands around it."""
+    """Returns all names that a character can have, independent of the characters around it."""
     names = []
     if word in CONTROL:
         names.append(control_name(lane, CONTROL.index(word)))
@@ -81,8 +81,8 @@ def name_of(lane: int, word: int) -> str:
 
 
 def announced(columns: Columns, at: int) -> str:
-    """What the preamble announces that ends at a column, or at most GAP columns before it: "row", "island", or "" where there is
-    none."""
+    """Returns what the last preamble announces: "row" or "island". It may end up to GAP columns before this column. Returns "" if there
+    is none."""
     words = columns.at(max(at - GAP - 1, 0), min(at, GAP + 1))
     for lanes in words.T[::-1]:
         if IS_CONTROL[lanes].sum() < 2:
@@ -106,12 +106,12 @@ class Namer:
         self.kept: dict[tuple[int, int], Explained] = {}
 
     def at(self, column: int, count: int) -> list[Column]:
-        """So many columns from one on, or as many as there are."""
+        """Returns `count` columns, or fewer at the end of the capture."""
         words = self.columns.at(column, count)
         return [self.column(column + place, words[:, place]) for place in range(words.shape[1])]
 
     def column(self, column: int, words: Words) -> Column:
-        """One column, by what it stands in."""
+        """Names one column according to its surroundings."""
         named = (self.control, self.row_guard, self.island_guard, self.island_guard, self.packet, self.pixel)
         for (begins, lengths), name in zip(self.parts, named):
             at = int(np.searchsorted(begins, column, "right")) - 1
@@ -120,11 +120,11 @@ class Namer:
         return self.unknown(column, words.astype(np.int64))
 
     def made(self, column: int, says: str, words: Words, names: list[str], wanted: list[str]) -> Column:
-        """A column with these names."""
+        """Returns a column with these names."""
         return Column(column, says, tuple(Cell(lane, int(words[lane]), names[lane], wanted[lane]) for lane in range(3)))
 
     def control(self, column: int, words: Words, at: int) -> Column:
-        """A control column; a character that is none should be like one of its neighbours."""
+        """Names a control column. A character that is no control character should equal one of its neighbours."""
         names, wanted = [], []
         for lane, word in enumerate(words.tolist()):
             is_right = word in CONTROL
@@ -137,14 +137,14 @@ class Namer:
         return self.made(column, says, words, names, wanted)
 
     def row_guard(self, column: int, words: Words, at: int) -> Column:
-        """A guard column before a row."""
+        """Names a guard column before a row."""
         pairs = list(zip(words.tolist(), VIDEO_GUARD))
         wanted = ["" if word == guard else f"{guard:03x}, guard of a row" for word, guard in pairs]
         names = ["guard of a row" if not it else name_of(lane, int(words[lane])) for lane, it in enumerate(wanted)]
         return self.made(column, f"guard column {column - int(self.spans.guards[0][at]) + 1} before row {at:,}", words, names, wanted)
 
     def island_guard(self, column: int, words: Words, _: int) -> Column:
-        """A guard column before or behind an island."""
+        """Names a guard column before or after an island."""
         names, wanted = [], []
         for lane, word in enumerate(words.tolist()):
             if lane:
@@ -159,7 +159,7 @@ class Namer:
         return self.made(column, "guard column of an island", words, names, wanted)
 
     def packet(self, column: int, words: Words, at: int) -> Column:
-        """A column of a packet."""
+        """Names a column of a packet."""
         place = column - int(self.spans.packets[at])
         mended = {(lane, it): bit for lane, it, bit in self.mended(int(self.spans.packets[at]))}
         names, wanted = [], []
@@ -175,7 +175,7 @@ class Namer:
         return self.made(column, f"column {place} of packet {at:,}", words, names, wanted)
 
     def mended(self, packet: int) -> list[tuple[int, int, int]]:
-        """The lane, the column and the nibble's bit of what was mended in a packet."""
+        """Returns the repaired bits of a packet: lane, column and bit of the nibble."""
         found = []
         for at, numbers in self.told:
             if at == packet:
@@ -185,13 +185,13 @@ class Namer:
 
     @staticmethod
     def bits_in(lane: int, place: int, value: int) -> str:
-        """What the four bits of a packet's character carry."""
+        """Says what the four bits of a packet's character carry."""
         if lane == 0:
             return f"HSYNC {value & 1}, VSYNC {value >> 1 & 1}, header bit {place} is {value >> 2 & 1}"
         return f"bit {2 * place + lane - 1} of bodies 0 to 3 is {', '.join(str(value >> body & 1) for body in range(4))}"
 
     def pixel(self, column: int, words: Words, at: int) -> Column:
-        """A pixel. What was sent is what the least damage of the row leaves; it is named if only one character does so."""
+        """Names a pixel. If the least damage of the row leaves only one possible character, that one is given as sent."""
         first = int(self.spans.rows[0][at])
         names, wanted = [], []
         for lane, word in enumerate(words.tolist()):
@@ -206,7 +206,7 @@ class Namer:
         return self.made(column, says, words, names, wanted)
 
     def explained(self, row: int, lane: int) -> Explained:
-        """The explanation of a row of a lane; the last ones are kept."""
+        """Returns the explanation of a row of a lane. The last MOST_KEPT are kept."""
         if (row, lane) not in self.kept:
             if len(self.kept) >= MOST_KEPT:
                 self.kept.clear()
@@ -215,7 +215,7 @@ class Namer:
         return self.kept[row, lane]
 
     def unknown(self, column: int, words: Words) -> Column:
-        """A column that no line of the listing tells."""
+        """Names a column that no line of the listing describes."""
         names = [name_of(lane, word) for lane, word in enumerate(words.tolist())]
         wanted = ["", "", ""]
         if not column or IS_CONTROL[self.columns.at(column - 1, 1)[:, 0]].sum() < 2:
@@ -229,7 +229,7 @@ class Namer:
 
 
 def wanted_code(fitting: list[int]) -> str:
-    """What was sent in place of a damaged pixel, if that is known."""
+    """Says what was sent in place of a damaged pixel; "" if that is not known."""
     if len(fitting) == 1:
         return f"{fitting[0]:03x}, byte {int(BYTES[fitting[0]]):02x}"
     return f"one of {len(fitting)} characters that fit"

@@ -1,4 +1,4 @@
-"""The rules on characters, periods and islands, and on the raster."""
+"""Rules on characters, periods, islands and the raster."""
 
 from __future__ import annotations
 
@@ -12,7 +12,7 @@ from vabgrot.judging.verdicts import Case, Verdict, counted, every_two, failed, 
 LEAST_EXTENDED = 32  # characters (HDMI 1.4, section 5.2.1.2)
 MOST_APART = 0.05  # seconds
 LEAST_CLOCK = 25e6  # Hz (HDMI 1.4, section 6.1)
-OF_FAULTS = (  # a rule, the kinds of fault lines that break it, and what there must be so that it can be judged
+OF_FAULTS = (  # a rule, the kinds of fault lines that break it, and what the capture must contain so that it can be judged
     ("control characters", ("word",), "control columns"),
     ("control period", ("short",), "openings"),
     ("preamble", ("preamble",), "openings"),
@@ -27,7 +27,7 @@ OF_FAULTS = (  # a rule, the kinds of fault lines that break it, and what there 
 
 
 def counts_of(case: Case) -> dict[str, int]:
-    """How much there is of what rules ask of."""
+    """Counts the things that rules check."""
     record = case.record
     return {
         "control columns": int(record.periods[1].sum()),
@@ -39,7 +39,7 @@ def counts_of(case: Case) -> dict[str, int]:
 
 
 def of_faults(case: Case, name: str, kinds: tuple[str, ...], of: str) -> Verdict:
-    """Whether the listing has fault lines of these kinds."""
+    """Fails if the capture has fault lines of these kinds."""
     flaws = sorted(flaw for kind in kinds for flaw in case.record.flaws.get(kind, []))
     if flaws:
         lanes = sorted({flaw.lane for flaw in flaws if flaw.lane >= 0})
@@ -51,16 +51,16 @@ def of_faults(case: Case, name: str, kinds: tuple[str, ...], of: str) -> Verdict
 
 
 def control_period(case: Case) -> Verdict:
-    """The same of control periods, with the shortest one."""
+    """Judges the length of control periods. The words give the shortest one."""
     verdict = of_faults(case, "control period", ("short",), "openings")
-    lengths = case.record.periods[1][1:-1]  # the first and the last are cut
+    lengths = case.record.periods[1][1:-1]  # the capture may cut the first and the last one
     if verdict.state == "pass" and len(lengths):
         return passed("control period", f"{verdict.words}, the shortest control period has {max(int(lengths.min()), LEAST_CONTROL):,}")
     return verdict
 
 
 def extended(case: Case) -> Verdict:
-    """Whether an extended control period comes every 50 ms."""
+    """Fails if there is no extended control period every 50 ms."""
     name, record = "extended control period", case.record
     begins, lengths = record.periods
     long = lengths >= LEAST_EXTENDED
@@ -85,7 +85,7 @@ def extended(case: Case) -> Verdict:
 
 
 def raster(case: Case) -> Verdict:
-    """Whether the raster is that of a format, and steady."""
+    """Fails if the raster is that of no format, or not steady."""
     if not case.timings:
         return unjudged("format", "no row of pixels was received")
     avis = [one for timing in case.timings for one in timing.notes if one.text.startswith("AVI InfoFrame")]
@@ -102,7 +102,7 @@ def raster(case: Case) -> Verdict:
 
 
 def avi_format(case: Case) -> Verdict:
-    """Whether the AVI InfoFrame names the format that is sent."""
+    """Fails if the AVI InfoFrame does not name the format that is sent."""
     notes = [note for timing in case.timings for note in timing.notes if note.text.startswith("AVI InfoFrame")]
     wrong = [note.text for note in notes if note.is_fault]
     if wrong:
@@ -115,7 +115,7 @@ def avi_format(case: Case) -> Verdict:
 
 
 def judged(case: Case) -> Iterator[Verdict]:
-    """The verdicts of these rules."""
+    """Yields the verdicts of these rules."""
     for name, kinds, of in OF_FAULTS:
         yield control_period(case) if name == "control period" else of_faults(case, name, kinds, of)
     yield extended(case)

@@ -1,4 +1,4 @@
-"""The rules on packets by themselves: InfoFrames, general control and clock regeneration; and on reserved bits."""
+"""Rules on single packets (InfoFrames, General Control and clock regeneration), and on reserved bits."""
 
 from __future__ import annotations
 
@@ -15,12 +15,12 @@ from vabgrot.judging.verdicts import Case, Verdict, counted, every_two, failed, 
 from vabgrot.packets import STRICT, Packet
 
 MUTE_WINDOW = 384  # columns
-GROUPS = {5: 5, 6: 3, 7: 2}  # columns of a group of whole pixels, by the depth that general control says
-PHASES = {5: {0: 0, 2: 1, 3: 2, 4: 3}, 6: {0: 2, 2: 1}, 7: {0: 1}}  # of the last pixel, by what is left of whole groups
+GROUPS = {5: 5, 6: 3, 7: 2}  # columns of a group of pixels, by CD of General Control
+PHASES = {5: {0: 0, 2: 1, 3: 2, 4: 3}, 6: {0: 2, 2: 1}, 7: {0: 1}}  # the phase of the last pixel, by the columns after the last whole group
 
 
 def first_of(name: str, found: list[tuple[Placed, str]], count: int, unit: str) -> Verdict:
-    """Fails with the first of these packets and what is wrong with it; else passes, where there are such."""
+    """Fails with the first of these packets and what is wrong with it. Without such packets it passes."""
     if found:
         one, words = found[0]
         more = f"; {counted(len(found), 'packet')} in all" if len(found) > 1 else ""
@@ -29,7 +29,7 @@ def first_of(name: str, found: list[tuple[Placed, str]], count: int, unit: str) 
 
 
 def wrong_of(packets: list[Placed], wrong: Callable[[Packet], str]) -> list[tuple[Placed, str]]:
-    """The packets with which something is wrong, and what, in words. Like packets are looked at once."""
+    """Returns the packets that are wrong, each with the error in words. Equal packets are checked once."""
     known: dict[tuple[bytes, bytes], str] = {}
     found = []
     for one in packets:
@@ -42,7 +42,7 @@ def wrong_of(packets: list[Placed], wrong: Callable[[Packet], str]) -> list[tupl
 
 
 def length_of(packet: Packet) -> str:
-    """What is wrong with an InfoFrame's length."""
+    """Says what is wrong with an InfoFrame's length."""
     length, known = packet.length, STRICT.get((packet.kind, packet.version))
     if known is not None and length != known:
         return f"a length of {length}, wants {known}"
@@ -50,7 +50,7 @@ def length_of(packet: Packet) -> str:
 
 
 def checksum_of(packet: Packet) -> str:
-    """What is wrong with an InfoFrame's checksum, and what would explain it."""
+    """Says what is wrong with an InfoFrame's checksum, and what would explain it."""
     checksum, header, total = packet.bytes[0], packet.header, packet.total
     if not total or packet.length > MOST_LENGTH:
         return ""
@@ -66,7 +66,8 @@ def checksum_of(packet: Packet) -> str:
 
 
 def reserved_in(packet: Packet) -> tuple[Reserved, ...]:
-    """The reserved bits of a packet: those of its layout, and of an InfoFrame of another version those that all InfoFrames have."""
+    """Returns the reserved bits of a packet: those of its layout. For an InfoFrame with another version it returns those that all
+    InfoFrames have."""
     layout = layout_of(packet.header, packet.bytes) or form_of(packet.header)
     is_known = layout is not None and (packet.version <= layout.header[1] or layout.least is not None)
     if packet.is_infoframe and not is_known:
@@ -75,7 +76,7 @@ def reserved_in(packet: Packet) -> tuple[Reserved, ...]:
 
 
 def reserved_of(packet: Packet) -> str:
-    """Which reserved bits of a packet are not 0."""
+    """Says which reserved bits of a packet are not 0."""
     found = []
     for one in reserved_in(packet):
         byte, wrong = one.of(packet.header, packet.bytes)
@@ -85,14 +86,14 @@ def reserved_of(packet: Packet) -> str:
 
 
 def reserved(case: Case) -> list[tuple[Placed, str]]:
-    """The packets with reserved bits that are not 0. Of samples, of which there are many, the header alone has such."""
+    """Returns the packets with reserved bits that are not 0. Packets with samples have reserved bits only in the header."""
     its = LAYOUTS["samples"].reserved
     wrong = [one for one in case.whole if one.packet.kind != Type.SAMPLES or any(it.of(one.packet.header, b"")[1] for it in its)]
     return wrong_of(wrong, reserved_of)
 
 
 def control_of(packet: Packet) -> str:
-    """What is wrong with a general control packet."""
+    """Says what is wrong with a General Control packet."""
     if any(body != packet.bodies[0] for body in packet.bodies):
         return "its four bodies are not alike"
     if packet.number("Set_AVMUTE") and packet.number("Clear_AVMUTE"):
@@ -102,7 +103,7 @@ def control_of(packet: Packet) -> str:
 
 
 def mutes(case: Case) -> Verdict:
-    """Whether mute is set and cleared within 384 columns from VSYNC on."""
+    """Fails if mute is set or cleared later than 384 columns after the edge of VSYNC."""
     name = "mute"
     which = [one for one in case.controls if (one.packet.number("Set_AVMUTE") or one.packet.number("Clear_AVMUTE"))]
     if not which:
@@ -121,7 +122,7 @@ def mutes(case: Case) -> Verdict:
 
 
 def depths(case: Case) -> Iterator[Verdict]:
-    """The rules of deep colour: general control in each field, whole groups of pixels, and the phase."""
+    """Yields the rules of deep colour: General Control in each field, whole groups of pixels, and the phase."""
     deep = [one for one in case.controls if one.packet.number("CD") in GROUPS]
     if not deep:
         yield unjudged("deep colour", "no packet says more than 24 bits a pixel")
@@ -148,7 +149,7 @@ def depths(case: Case) -> Iterator[Verdict]:
 
 
 def phases(deep: list[Placed], first: Ints, widths: Ints) -> Verdict:
-    """Whether each general control packet says the phase of the last pixel that was sent before it."""
+    """Fails if a General Control packet does not give the phase of the last pixel before it."""
     wrong, judged = [], 0
     for one in deep:
         row = int(np.searchsorted(first, one.at)) - 1
@@ -166,7 +167,7 @@ def phases(deep: list[Placed], first: Ints, widths: Ints) -> Verdict:
 
 
 def judged(case: Case) -> Iterator[Verdict]:
-    """The verdicts of these rules."""
+    """Yields the verdicts of these rules."""
     frames = [one for one in case.whole if one.packet.is_infoframe]
     yield every_two(case, "AVI InfoFrame", "AVI InfoFrame", [one.at for one in frames if one.packet.kind == Type.AVI])
     yield first_of("InfoFrame length", wrong_of(frames, length_of), len(frames), "InfoFrame")

@@ -1,4 +1,4 @@
-"""The rules on sound: clock regeneration, samples, their blocks, the channel status, and the audio InfoFrame."""
+"""Rules on sound: clock regeneration, samples, their blocks, the channel status, and the audio InfoFrame."""
 
 from __future__ import annotations
 
@@ -19,28 +19,28 @@ from vabgrot.judging.record import Placed
 from vabgrot.judging.verdicts import Case, Span, Verdict, absent, counted, every_two, failed, passed, unjudged
 
 MOST_RATE, LEAST_RATE = 1500, 300  # Hz: of 128 fs / N
-STEADY = 0.002  # the part by which a measured rate may be off
+STEADY = 0.002  # the tolerance of a measured rate, as a part of it
 NOT_SOUND = "no sample was received"
 SAMPLE = LAYOUTS["samples"].fields
-Statuses = Counter[tuple[tuple[int, ...], ...]]  # of the bits of both sides, how often they came
+Statuses = Counter[tuple[tuple[int, ...], ...]]  # the channel status bits of both sides, and how often each was sent
 
 
 def uneven_of(case: Case) -> list[tuple[Placed, str]]:
-    """The packets of samples with a side whose ones are odd."""
+    """Returns the packets of samples with odd parity on a side."""
     its, packets = case.content.samples, case.content.packets.of(Type.SAMPLES)
     odd = np.flatnonzero(its.odd).tolist()
     return [(Placed(int(its.at[it]), packets.packet(it), True), f"odd parity on {counted(int(its.odd[it]), 'side')}") for it in odd]
 
 
 def starts_of(samples: Samples) -> list[tuple[int, int]]:
-    """The column and the number of each sample of the first pair of channels that starts a block."""
+    """Returns the column and the number of each sample that starts a block, in the first pair of channels."""
     numbers = samples.numbers[0][samples.starts[0]]
     packets = np.searchsorted(np.cumsum(samples.counts), numbers, "right")
     return list(zip(samples.at[packets].tolist(), numbers.tolist()))
 
 
 def status_of(bodies: npt.NDArray[np.uint8], starts: list[int], breaks: list[int]) -> Statuses:
-    """The channel status of both sides in each whole block of samples with these bodies, and how often it came."""
+    """Counts the different channel statuses (both sides) in the complete blocks of these samples."""
     found: Statuses = Counter()
     ends = sorted({*starts, *breaks, len(bodies)})
     for start in starts:
@@ -52,13 +52,13 @@ def status_of(bodies: npt.NDArray[np.uint8], starts: list[int], breaks: list[int
 
 
 def statuses(sound: Samples, pair: int) -> Statuses:
-    """The channel status of a pair of channels in each whole block, and how often it came."""
+    """Counts the different channel statuses of a pair of channels in its complete blocks."""
     breaks = np.searchsorted(sound.numbers[pair], sound.breaks)
     return status_of(sound.bodies[pair], sound.starts[pair].tolist(), breaks.tolist())
 
 
 def clock_of(packet: packets.Packet) -> str:
-    """What is wrong with a clock regeneration packet by itself."""
+    """Says what is wrong with a single clock regeneration packet."""
     if any(body != packet.bodies[0] for body in packet.bodies):
         return "its four bodies are not alike"
     n, cycles = packets.clock_numbers(packet)
@@ -66,7 +66,7 @@ def clock_of(packet: packets.Packet) -> str:
 
 
 def regeneration(case: Case, sound: Samples, clocks: list[Placed]) -> Verdict:
-    """Whether clock regeneration is sent where samples are."""
+    """Fails if there are samples without clock regeneration."""
     name = "clock regeneration"
     if clocks:
         return first_of(name, wrong_of(clocks, clock_of), len(clocks), "clock regeneration packet")
@@ -76,13 +76,14 @@ def regeneration(case: Case, sound: Samples, clocks: list[Placed]) -> Verdict:
 
 
 def span_of(sound: Samples) -> tuple[int, int]:
-    """The columns in which there is sound."""
+    """Returns the range of columns with sound."""
     return int(sound.at[0]), int(sound.at[-1]) + 1
 
 
 @dataclass(frozen=True)
 class Clock:
-    """N and CTS of most clock regeneration packets, and the mean CTS of all with that N; the column of the first of them."""
+    """N and CTS of the majority of clock regeneration packets, the mean CTS of all packets with that N, and the column of the first of
+    them."""
 
     n: int
     cycles: float
@@ -90,12 +91,12 @@ class Clock:
 
     @property
     def samples(self) -> float:
-        """The samples a column."""
+        """The samples in each column."""
         return self.n / (128 * self.cycles)
 
 
 def regenerated(clocks: list[Placed]) -> Clock | None:
-    """What the clock regeneration packets say; None where none can be read."""
+    """Returns the content of the clock regeneration packets, or None if none can be read."""
     numbers = [(one.at, *packets.clock_numbers(one.packet)) for one in clocks if not clock_of(one.packet)]
     if not numbers:
         return None
@@ -104,7 +105,7 @@ def regenerated(clocks: list[Placed]) -> Clock | None:
 
 
 def rates(case: Case, clock: Clock | None) -> Iterator[Verdict]:
-    """The rules on N and on the rate."""
+    """Yields the rules on N and on the sampling rate."""
     if clock is None:
         why = "no clock regeneration packet can be read"
         yield unjudged("N", why)
@@ -129,12 +130,12 @@ def rates(case: Case, clock: Clock | None) -> Iterator[Verdict]:
 
 
 def nearest(rate: float) -> int | None:
-    """The usual rate that a measured one is, None where it is none."""
+    """Returns the standard rate nearest to a measured one, or None if none is near."""
     return next((usual for usual in RATES if abs(rate - usual) <= STEADY * usual), None)
 
 
 def delivered(case: Case, sound: Samples, clock: Clock | None) -> Verdict:
-    """Whether as many samples come as the clock says: over all whole fields."""
+    """Fails if the number of samples in all whole fields does not fit the clock."""
     name = "samples a line"
     if not sound.total or clock is None:
         return unjudged(name, NOT_SOUND if not sound.total else "no clock regeneration packet can be read")
@@ -147,14 +148,14 @@ def delivered(case: Case, sound: Samples, clock: Clock | None) -> Verdict:
         return unjudged(name, "the sound begins or ends within the capture")
     came, wanted = int(sound.counts[(sound.at >= begin) & (sound.at < end)].sum()), (end - begin) * clock.samples
     line = case.line or 0
-    most = 2 * (1 + 2 * line * clock.samples) + STEADY * wanted  # a line and a sample early or late, at both ends
+    most = 2 * (1 + 2 * line * clock.samples) + STEADY * wanted  # at both ends a sample may be a line and a sample early or late
     unit, over = ("a line", line) if line else ("a thousand columns", 1000.0)
     says = f"{came * over / (end - begin):.3f} {unit}, N and CTS say {clock.samples * over:.3f}"
     return passed(name, says) if abs(came - wanted) <= most else failed(name, f"{says}: {came:,} of {wanted:,.0f} samples", begin)
 
 
 def blocks(sound: Samples) -> Verdict:
-    """Whether a block starts every 192 samples."""
+    """Fails if a block does not start every 192 samples."""
     name, starts, breaks = "block start", starts_of(sound), sound.breaks.tolist()
     if not starts:
         if sound.total > BLOCK and not breaks:
@@ -174,7 +175,7 @@ def bits_of(bits: tuple[int, ...], first: int, count: int) -> int:
 
 
 def status_faults(case: Case, sound: Samples, clock: Clock | None) -> list[str]:
-    """What is wrong with the channel status of the samples."""
+    """Says what is wrong with the channel status of the samples."""
     rate = nearest(case.clock * clock.samples) if clock and case.clock else None
     found = []
     for pair in range(len(sound.bodies)):
@@ -194,7 +195,7 @@ def status_faults(case: Case, sound: Samples, clock: Clock | None) -> list[str]:
 
 
 def status(case: Case, sound: Samples, clock: Clock | None) -> Verdict:
-    """Whether the channel status is that of its channel and of its rate."""
+    """Fails if the channel status does not fit its channel or the rate."""
     name, known = "channel status", [statuses(sound, pair) for pair in range(len(sound.bodies))]
     if not any(known):
         return unjudged(name, "no whole block came" if sound.total else NOT_SOUND)
@@ -207,7 +208,7 @@ def status(case: Case, sound: Samples, clock: Clock | None) -> Verdict:
 
 
 def audio_of(packet: packets.Packet, layout: int) -> str:
-    """What of an audio InfoFrame is not as the samples are sent."""
+    """Says what in an audio InfoFrame does not fit the samples."""
     channels, coding, rate, size, speakers = (packet.number(name) for name in ("CC", "CT", "SF", "SS", "CA"))
     found = []
     if not layout and channels > 1:
@@ -223,7 +224,7 @@ def audio_of(packet: packets.Packet, layout: int) -> str:
 
 
 def infoframes(case: Case, sound: Samples) -> Iterator[Verdict]:
-    """The rules on the audio InfoFrame."""
+    """Yields the rules on the audio InfoFrame."""
     frames = case.of_kind(Type.AUDIO)
     if not sound.total:
         yield unjudged("audio InfoFrame", NOT_SOUND)
@@ -236,7 +237,7 @@ def infoframes(case: Case, sound: Samples) -> Iterator[Verdict]:
 
 
 def judged(case: Case) -> Iterator[Verdict]:
-    """The verdicts of these rules."""
+    """Yields the verdicts of these rules."""
     sound, clocks = case.content.samples, case.of_kind(Type.CLOCK)
     clock = regenerated(clocks)
     yield regeneration(case, sound, clocks)

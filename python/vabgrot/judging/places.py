@@ -1,4 +1,4 @@
-"""Columns as people say them: the frame, the row of its picture and the pixel, each from 0."""
+"""Converts columns to what people count: the frame, the row of its picture and the pixel, each from 0."""
 
 from __future__ import annotations
 
@@ -9,12 +9,12 @@ import numpy as np
 import numpy.typing as npt
 
 Ints = npt.NDArray[np.int64]
-MOST_LOST = 6  # lines between rows, from which on the next frame begins; the shortest blanking of a format has 8
+MOST_LOST = 6  # more lines than this without a row begin a new frame; the shortest blanking of a format has 8
 PLACE = re.compile(r"(\d+):(\d+):(\d+)")
 
 
 class Place(NamedTuple):
-    """A frame, where the first one with rows is 0; a row of its picture; and a pixel of the row."""
+    """A frame (the first with rows is 0), a row of its picture, and a pixel of that row."""
 
     frame: int
     row: int
@@ -25,15 +25,15 @@ class Place(NamedTuple):
 
 
 class Rows(NamedTuple):
-    """The frame of each row of a capture, and its number in that frame."""
+    """The frame of each row, and the number of the row in its frame."""
 
     frames: Ints
     numbers: Ints
 
 
 def rows_of(firsts: Ints) -> Rows:
-    """The frames and numbers of rows, by their first columns. A new frame begins behind some lines without rows. Fewer lines than that
-    are rows that were lost."""
+    """Returns the frames and numbers of rows, given their first columns. A gap of more than MOST_LOST lines begins a new frame. A shorter
+    gap means that rows were lost."""
     lines = np.diff(firsts)
     steps = np.append(0, np.round(lines / max(float(np.median(lines)), 1.0))) if len(lines) else np.zeros(len(firsts))
     begins = np.unique(np.append(0, np.flatnonzero(steps > MOST_LOST)))
@@ -43,7 +43,7 @@ def rows_of(firsts: Ints) -> Rows:
 
 
 def column_of(place: Place, firsts: Ints, widths: Ints) -> int | None:
-    """The column of a place; None if there is none."""
+    """Returns the column of a place, or None if there is no such place."""
     rows = rows_of(firsts)
     found = np.flatnonzero((rows.frames == place.frame) & (rows.numbers == place.row))
     if not len(found) or place.pixel >= int(widths[found[0]]):
@@ -52,7 +52,7 @@ def column_of(place: Place, firsts: Ints, widths: Ints) -> int | None:
 
 
 def place_at(column: int, firsts: Ints, widths: Ints, rows: Rows) -> Place | None:
-    """The place of a column; None if it is no pixel."""
+    """Returns the place of a column, or None if it is not a pixel."""
     row = int(np.searchsorted(firsts, column, "right")) - 1
     if row < 0 or column >= int(firsts[row] + widths[row]):
         return None

@@ -1,4 +1,4 @@
-"""What is gathered of a capture, so that it can be judged. Columns count over all epochs."""
+"""The record of a capture that the rules use. Columns count over all epochs."""
 
 from __future__ import annotations
 
@@ -16,7 +16,7 @@ from vabgrot.video.timings import Meter
 
 
 class Placed(NamedTuple):
-    """A packet: its first column, and whether no block of it was lost."""
+    """A packet, its first column, and whether all its blocks are known."""
 
     at: int
     packet: Packet
@@ -32,7 +32,7 @@ class Flaw(NamedTuple):
 
 @dataclass(frozen=True, eq=False)
 class Record:
-    """Where HSYNC, VSYNC and rows change, which columns are what, and the packets."""
+    """Where HSYNC, VSYNC and rows change, the kind of each column, and the packets."""
 
     meter: Meter
     spans: Spans
@@ -40,12 +40,12 @@ class Record:
 
     @property
     def columns(self) -> int:
-        """How many columns there are, from the first aligned one on."""
+        """The number of columns from the first aligned one."""
         return self.spans.columns
 
     @property
     def rows(self) -> int:
-        """How many rows of pixels came."""
+        """The number of rows of pixels."""
         return len(self.spans.rows[0])
 
     @property
@@ -55,14 +55,14 @@ class Record:
 
     @cached_property
     def periods(self) -> tuple[Ints, Ints]:
-        """The first columns of control periods, and their numbers of columns."""
+        """The first columns of control periods, and their lengths."""
         at, counts, _ = self.spans.runs
         first = np.flatnonzero(np.concatenate(([True], at[1:] != at[:-1] + counts[:-1]))) if len(at) else np.zeros(0, np.int64)
         return at[first], np.add.reduceat(counts, first) if len(first) else counts
 
     @cached_property
     def flaws(self) -> dict[str, list[Flaw]]:
-        """The fault lines by their kinds."""
+        """The fault lines by kind."""
         found: dict[str, list[Flaw]] = {}
         for kind, at, numbers in self.spans.faults:
             found.setdefault(kind, []).append(Flaw(at, numbers[0] if kind in ("word", "code") else -1))
@@ -70,7 +70,7 @@ class Record:
 
 
 def record_of(content: Content, meter: Meter) -> Record:
-    """The record that the rules are asked of."""
+    """Makes the record of a capture."""
     reading, packets = content.reading, content.packets
     heard = [Placed(at, packet, not lost) for at, packet, lost in zip(packets.at.tolist(), packets, packets.lost.tolist())]
     return Record(meter, spans_of(reading.events, reading.at, reading.columns, reading.is_dvi), heard)

@@ -1,4 +1,4 @@
-"""Which columns of a capture, or of one epoch of it, are control columns, guards, pixels and packets."""
+"""Finds which columns of a capture or of one epoch are control columns, guards, pixels and packets."""
 
 from __future__ import annotations
 
@@ -14,8 +14,12 @@ Told = tuple[str, int, tuple[int, ...]]  # a fault line: its kind, its column an
 
 @dataclass(frozen=True, eq=False)
 class Spans:
-    """Of runs of control columns the first columns, the numbers of columns and the values; of rows the columns of the first pixels and the
-    numbers of pixels; of packets and of the pairs of guard columns of islands the first columns; and the fault lines."""
+    """The stretches of a capture, by kind:
+
+    - runs of control columns: first columns, lengths, values;
+    - rows: columns of the first pixels, widths;
+    - packets and the pairs of guard columns of islands: first columns;
+    - the fault lines."""
 
     is_dvi: bool
     runs: tuple[Ints, Ints, Ints]
@@ -28,17 +32,17 @@ class Spans:
 
     @property
     def guards(self) -> tuple[Ints, Ints, Ints]:
-        """The first columns of pairs of guards: of rows, of islands, and after islands."""
+        """The first columns of pairs of guard columns: before rows, before islands, and after islands."""
         rows = self.rows[0] - 2 if not self.is_dvi else np.zeros(0, np.int64)
         return rows, self.opens, self.closes
 
     def of_kind(self, kind: str) -> list[tuple[int, tuple[int, ...]]]:
-        """The columns and the numbers of the fault lines of a kind."""
+        """Returns the columns and the numbers of the fault lines of a kind."""
         return [(at, numbers) for name, at, numbers in self.faults if name == kind]
 
 
 def spans_of(events: Events, first: Ints, columns: int, is_dvi: bool) -> Spans:
-    """Which columns are what, of some events whose columns begin at `first`."""
+    """Makes the spans of some events. Their columns begin at `first`."""
     runs, rows = events.of(Kind.RUN), events.of(Kind.LINE)
     faults = events.faults[~np.isin(events.kind[events.faults], ENDS)]
     packets, opens, closes = (first[events.of(kind)] for kind in (Kind.PACKET, Kind.OPEN, Kind.CLOSE))
@@ -56,8 +60,8 @@ def spans_of(events: Events, first: Ints, columns: int, is_dvi: bool) -> Spans:
 
 
 def epoch_spans(reading: Reading, epoch: Epoch, is_trusted: bool = True) -> Spans:
-    """The same of one epoch, whose columns begin at 0. What was read between a loss of bits and its slip is left out if only what is
-    trusted is wanted."""
+    """Makes the spans of one epoch. Its columns begin at 0. If `is_trusted` is set, columns between a loss of bits and the slip that
+    reports it are left out."""
     ends = dict(zip((one.number for one in reading.epochs), reading.tails[:, 0].tolist()))
     columns = ends[epoch.number] - epoch.before if is_trusted and epoch.number in ends else epoch.columns
     its = reading.events

@@ -1,4 +1,4 @@
-"""Rates with their limits of confidence, and whether damage lies closer than chance."""
+"""Rates with confidence limits, and a test whether damage is clustered."""
 
 from __future__ import annotations
 
@@ -13,13 +13,13 @@ from vabgrot.judging.places import rows_of as row_numbers
 from vabgrot.judging.spans import Spans
 from vabgrot.lanes.coding import Ints
 
-CHANCE = 1e-4  # how likely what is told may be by chance
-LEAST = 5  # damaged characters from which on it is asked where they lie
-NEAR = 64  # columns within which damage is a burst
+CHANCE = 1e-4  # a cluster is reported if chance makes it less often than this
+LEAST = 5  # fewer damaged characters are not tested for clusters
+NEAR = 64  # damage within this many columns is a burst
 
 
 class Limits(NamedTuple):
-    """The limits between which a rate lies with a confidence."""
+    """A rate and its confidence limits."""
 
     lower: float
     upper: float
@@ -27,7 +27,7 @@ class Limits(NamedTuple):
 
 
 def limits_of(wrong: int, of: int, confidence: float) -> Limits:
-    """The exact limits of a rate by Clopper and Pearson, when `wrong` of `of` were wrong."""
+    """Returns the exact limits by Clopper and Pearson, if `wrong` of `of` were wrong."""
     half = (1 - confidence) / 2
     lower = float(stats.beta.ppf(half, wrong, of - wrong + 1)) if wrong else 0.0
     upper = float(stats.beta.ppf(1 - half, wrong + 1, of - wrong)) if wrong < of else 1.0
@@ -35,12 +35,12 @@ def limits_of(wrong: int, of: int, confidence: float) -> Limits:
 
 
 def is_more(times: int, of: int, share: float, tried: int) -> bool:
-    """Whether one of `tried` groups that should have a share of `of` has more than chance gives it."""
+    """Returns whether one of `tried` groups has more than chance explains. Each group should have a `share` of `of`."""
     return float(stats.binom.sf(times - 1, of, share)) * tried < CHANCE
 
 
 def clusters_of(hits: list[Hit], exposed: dict[str, int], spans: Spans) -> list[str]:
-    """Where damage lies closer than chance, in words; nothing where it does not, or is too little."""
+    """Says where damage is clustered. Returns nothing if it is not, or if there is too little damage."""
     if len(hits) < LEAST:
         return []
     found, count, every = [], len(hits), sum(exposed.values())
@@ -55,7 +55,7 @@ def clusters_of(hits: list[Hit], exposed: dict[str, int], spans: Spans) -> list[
 
 
 def bursts_of(columns: Ints, every: int) -> list[str]:
-    """Whether damage comes in bursts: within NEAR columns of the one before."""
+    """Says whether damage appears in bursts: within NEAR columns of the damage before."""
     near = int((np.diff(columns) <= NEAR).sum())
     share = -np.expm1(-NEAR * len(columns) / every)
     if not is_more(near, len(columns) - 1, float(share), 1):
@@ -64,7 +64,7 @@ def bursts_of(columns: Ints, every: int) -> list[str]:
 
 
 def rows_of(columns: Ints, spans: Spans) -> list[str]:
-    """Whether one row of the picture, or one column of it, has more than chance gives it."""
+    """Says whether one row or one column of the picture has more damage than chance explains."""
     firsts, widths = spans.rows
     if len(firsts) < 2:
         return []

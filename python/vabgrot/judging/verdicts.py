@@ -1,4 +1,4 @@
-"""The verdict on a rule, and the capture that is judged."""
+"""The verdict on a rule, and the data of a capture that the rules judge."""
 
 from __future__ import annotations
 
@@ -19,14 +19,14 @@ from vabgrot.video.matching import Rate, Timing
 from vabgrot.video.timings import DEPTH, LOST, edges, held, period_of, spans, without_pulses
 
 PASS, FAIL, DAMAGED, OPEN = "pass", "fail", "damaged", "not judged"
-ORDER = (FAIL, DAMAGED, OPEN, PASS)  # as verdicts are shown
+ORDER = (FAIL, DAMAGED, OPEN, PASS)  # the order in which verdicts are shown
 TWO = 2  # fields
 
 
 @dataclass(frozen=True)
 class Verdict:
-    """What is said of a rule: pass; fail (the source is wrong); damaged (the damage of the link explains it); or not judged. In words,
-    and for a failure the first column and how often."""
+    """The verdict on a rule. Its state is pass, fail (the source is wrong), damaged (the damage of the link explains it) or not judged.
+    `words` give the details; a failure has its first column and how often it happened."""
 
     rule: Rule
     state: str
@@ -35,7 +35,7 @@ class Verdict:
     times: int = 0
 
     def plain(self) -> dict[str, Any]:
-        """The same for machines."""
+        """Returns the same as a value for JSON."""
         names = {"rule": self.rule.name, "asks": self.rule.asks, "clause": self.rule.clause}
         return names | {"verdict": self.state, "words": self.words, "column": self.column, "times": self.times}
 
@@ -54,7 +54,7 @@ def unjudged(name: str, why: str) -> Verdict:
 
 @dataclass(frozen=True)
 class Span:
-    """The columns of a field, from one leading edge of VSYNC to the next; or of several in a row."""
+    """The columns of a field, from one leading edge of VSYNC to the next, or of several successive fields."""
 
     begin: int
     end: int
@@ -64,16 +64,16 @@ class Span:
 
 
 class Case:
-    """A capture that is judged: what is known of it, its timing, and what is given of its rate."""
+    """A capture with the data that the rules need: its contents, its timing, and the rate that the user gave."""
 
     def __init__(self, content: Content, record: Record, timings: list[Timing], rate: Rate = Rate()) -> None:
         self.content, self.record, self.timings, self.rate = content, record, timings, rate
-        self.lost: Ints = content.losses.at  # columns at which something may be missing
+        self.lost: Ints = content.losses.at  # columns at which the link may have lost something
 
     @cached_property
     def clock(self) -> float | None:
-        """The columns a second (in deep colour more than the pixel clock), by the pixel clock that is given, or by that of the
-        format that the first raster is; None where it is not known."""
+        """The columns a second, or None if not known. It uses the given pixel clock, or the one of the first raster's format. In deep
+        colour it is higher than the pixel clock."""
         if not self.timings:
             return self.rate.clock
         first = self.timings[0]
@@ -83,8 +83,8 @@ class Case:
 
     @cached_property
     def fields(self) -> list[Span]:
-        """The whole fields: what lies between two leading edges of VSYNC, with nothing between them that could not be read. VSYNC is as
-        the raster has it: one damaged character makes no field."""
+        """The whole fields: from one leading edge of VSYNC to the next, without unknown columns between them. One damaged character does
+        not make a field."""
         meter = self.record.meter
         tall = next((one.raster.tall for one in self.timings if one.raster.tall is not None), None)
         if tall is None:
@@ -107,12 +107,12 @@ class Case:
 
     @cached_property
     def pairs(self) -> list[Span]:
-        """Each two fields that follow one another."""
+        """All pairs of successive fields."""
         return [Span(one.begin, other.end) for one, other in zip(self.fields, self.fields[1:]) if one.end == other.begin]
 
     @cached_property
     def field(self) -> float | None:
-        """The columns of a field: as they were measured, or as the format has them that the raster is; None if neither is known."""
+        """The columns of a field: measured, or those of the raster's format. None if neither is known."""
         if not self.timings:
             return None
         first = self.timings[0]
@@ -121,7 +121,7 @@ class Case:
         return pixels * first.raster.bits / DEPTH if pixels else None
 
     def longest(self, begin: int, end: int) -> Span:
-        """The longest stretch between two columns in which nothing may be missing."""
+        """Returns the longest stretch between two columns in which nothing can be missing."""
         losses = self.lost[(self.lost >= begin) & (self.lost < end)]
         begins, ends = np.append(begin, losses), np.append(losses, end)
         at = int((ends - begins).argmax())
@@ -129,7 +129,7 @@ class Case:
 
     @cached_property
     def line(self) -> float | None:
-        """The columns of a line, None where they were not seen."""
+        """The columns of a line, or None if no line was seen."""
         totals = [one.raster.across["total"].value for one in self.timings if "total" in one.raster.across and one.raster.bits == DEPTH]
         return totals[0] if totals else None
 
@@ -139,16 +139,17 @@ class Case:
         return [one for one in self.record.packets if one.is_whole]
 
     def of_kind(self, kind: int) -> list[Placed]:
-        """The whole packets of a type."""
+        """Returns the packets of a type that have no lost block."""
         return [one for one in self.whole if one.packet.kind == kind]
 
     @property
     def controls(self) -> list[Placed]:
-        """The General Control packets that are known: those with four equal bodies."""
+        """The General Control packets with four equal bodies."""
         return [one for one in self.of_kind(Type.CONTROL) if one.packet.bodies.count(one.packet.bodies[0]) == BODIES]
 
     def without(self, places: list[int], among: list[Span]) -> tuple[list[Span], int]:
-        """The spans in which none of these columns lies, and how many of these may have one that the link lost."""
+        """Returns the spans that contain none of these columns. The number counts further spans without one, in which the link may have
+        lost it."""
         columns = np.array(places, np.int64)
         found, doubtful = [], 0
         for span in among:
@@ -162,7 +163,7 @@ class Case:
 
 
 def total_of(found: list[Verdict]) -> str:
-    """How many rules are in which state, in words."""
+    """Says how many rules are in which state."""
     counts = Counter(one.state for one in found)
     return f"{counts[PASS]} pass, {counts[FAIL]} fail, {counts[DAMAGED]} damaged by the link, {counts[OPEN]} not judged"
 
@@ -173,18 +174,19 @@ def is_seen(timing: Timing) -> bool:
 
 
 def is_near(timing: Timing) -> bool:
-    """Whether a raster that was seen has the active pixels and rows of the format that is nearest."""
+    """Whether a raster was seen and has the active pixels and rows of the nearest format."""
     matched = timing.matched
     return is_seen(timing) and matched.wanted is not None and not any(" active" in one.name for one in matched.differences)
 
 
 def counted(count: int, name: str) -> str:
-    """A number of things in words."""
+    """Formats a number of things in words."""
     return f"{count:,} {name}{'s' * (count != 1)}"
 
 
 def absent(case: Case, name: str, what: str, begin: int, end: int) -> Verdict:
-    """The verdict on what has to come in each two fields, and did not come between two columns: a failure from two fields' time on."""
+    """Returns the verdict if something required in each two fields is missing between two columns. It is a failure if this takes the time
+    of at least two fields."""
     stretch, length = case.longest(begin, end), case.field
     if length is None:
         return unjudged(name, f"no {what} came, and no whole field was seen")
@@ -196,7 +198,7 @@ def absent(case: Case, name: str, what: str, begin: int, end: int) -> Verdict:
 
 
 def every_two(case: Case, name: str, what: str, places: list[int], within: Span | None = None) -> Verdict:
-    """Whether in each two fields one of these columns lies; of those that `within` touches, if it is given."""
+    """Judges whether each pair of fields contains one of these columns. If `within` is given, only pairs that overlap it count."""
     whole = within or Span(0, case.record.columns)
     if not places:
         return absent(case, name, what, whole.begin, whole.end)

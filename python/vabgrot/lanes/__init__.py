@@ -1,1 +1,1 @@
-"""The bits of lanes: what they look like, at which skews openings fit, and words of ten bits."""
+"""The bits of lanes: locks, openings and skews, the video coding, and files of ten-bit words."""

@@ -12,11 +12,11 @@ from vabgrot.formats.characters import TEN
 Ints = npt.NDArray[np.int64]
 COUNT = 1 << TEN
 BITS = np.array([word.bit_count() for word in range(COUNT)], np.int64)  # the ones of each character
-BALANCE = 2 * BITS - TEN  # ones less zeros
+BALANCE = 2 * BITS - TEN  # ones minus zeros
 
 
 def made_of(byte: int) -> tuple[int, bool]:
-    """The byte with few transitions, and whether it was made by XOR."""
+    """Returns q_m[7:0], the byte with few transitions, and whether it was made with XOR."""
     by_xnor = byte.bit_count() > 4 or byte.bit_count() == 4 and not byte & 1
     made = byte & 1
     for bit in range(1, 8):
@@ -25,7 +25,7 @@ def made_of(byte: int) -> tuple[int, bool]:
 
 
 def code(byte: int, disparity: int) -> int:
-    """The character of a byte after characters of a disparity."""
+    """Returns the character that codes a byte at a disparity."""
     made, by_xor = made_of(byte)
     lean = 2 * made.bit_count() - 8
     inverted = not by_xor if disparity == 0 or lean == 0 else (disparity > 0) == (lean > 0)
@@ -33,7 +33,7 @@ def code(byte: int, disparity: int) -> int:
 
 
 def byte_of(word: int) -> int:
-    """The byte that a character stands for, whatever the disparity."""
+    """Returns the byte that a character codes. It does not depend on the disparity."""
     made = word & 0xFF ^ (0xFF if word >> 9 & 1 else 0)
     return (made ^ made << 1 ^ (0 if word >> 8 & 1 else 0xFE)) & 0xFF
 
@@ -44,7 +44,7 @@ CODES = np.array([[code(byte, side) for byte in range(256)] for side in (-1, 0, 
 
 @functools.cache
 def disparities() -> tuple[int, ...]:
-    """The disparities that rows of any bytes can have."""
+    """Returns the disparities that rows of any bytes can reach."""
     known, left = {0}, [0]
     while left:
         here = left.pop()
@@ -55,7 +55,7 @@ def disparities() -> tuple[int, ...]:
 
 
 def first_unlike(words: npt.NDArray[np.uint16], start: int = 0) -> int | None:
-    """The first character of a row that does not code its byte at the disparity of those before it; None where each does."""
+    """Returns the first character of a row that is not the right code of its byte at the disparity before it, or None."""
     balance = BALANCE[words]
     sums = start + np.concatenate(([0], np.cumsum(balance)[:-1]))
     unlike = np.flatnonzero(CODES[np.sign(sums) + 1, BYTES[words]] != words)
@@ -63,5 +63,5 @@ def first_unlike(words: npt.NDArray[np.uint16], start: int = 0) -> int | None:
 
 
 def starts_of(words: npt.NDArray[np.uint16]) -> list[int]:
-    """The disparities from which on a row is coded without a fault."""
+    """Returns the initial disparities at which a row is coded without a fault."""
     return [start for start in disparities() if first_unlike(words, start) is None]

@@ -1,4 +1,4 @@
-"""The characters of a capture, column by column as `recover link` counts them, read from the file where they are asked for."""
+"""The characters of a capture, column by column as `recover link` counts them. They are read from the file on demand."""
 
 from __future__ import annotations
 
@@ -14,14 +14,14 @@ from vabgrot.lanes.looking import GUARD, IS_CONTROL, OTHER, Bits, characters_of,
 from vabgrot.lanes.openings import beginnings, first_alignment
 
 Words = npt.NDArray[np.uint16]
-LOOKED = 1 << 17  # bits of each lane among which the first alignment is looked for first
-PART = 1 << 17  # the same, where it is looked for often
+LOOKED = 1 << 17  # bits of each lane in which the first alignment is searched for first
+PART = 1 << 17  # the same for repeated searches
 GUARDS = 2  # columns of a guard band
-BANDS = (((GUARD,), (OTHER,), (GUARD,)), (ISLAND_GUARDS_0, (OTHER,), (OTHER,)))  # of a line, of an island
+BANDS = (((GUARD,), (OTHER,), (GUARD,)), (ISLAND_GUARDS_0, (OTHER,), (OTHER,)))  # the guard bands of a line and of an island
 
 
 def edges_of(bits: npt.NDArray[np.uint8]) -> npt.NDArray[np.int64]:
-    """The places of a lane at which twelve control characters or more have ended, from its lock on (docs/guide/FORMATS.md)."""
+    """Returns the edges of a lane: the places after its lock at which at least twelve control characters end (docs/guide/FORMATS.md)."""
     lock = lock_of(bits)
     if lock is None:
         return np.zeros(0, np.int64)
@@ -31,7 +31,7 @@ def edges_of(bits: npt.NDArray[np.uint8]) -> npt.NDArray[np.int64]:
 
 
 def first_edges(lanes: Sequence[Bits], start: int) -> list[int] | None:
-    """The edges of the first full alignment of what the lanes have from a place on; None where there is none."""
+    """Returns the edges of the first full alignment at or after bit `start`, or None."""
     for size in (PART, max(map(len, lanes))):
         found = first_alignment([edges_of(lane[start : start + size]) for lane in lanes])
         if found is not None:
@@ -40,7 +40,8 @@ def first_edges(lanes: Sequence[Bits], start: int) -> list[int] | None:
 
 
 def is_confirmed(lanes: Sequence[Bits], edges: Sequence[int]) -> bool:
-    """Whether a guard band begins at three edges: all of its first column, and two characters of its second (docs/guide/FORMATS.md)."""
+    """Returns whether a guard band begins at three edges: its whole first column and at least two characters of its second
+    (docs/guide/FORMATS.md)."""
     columns = np.stack([characters_of(lane[edge : edge + TEN * GUARDS], 0) for lane, edge in zip(lanes, edges)])
     for kind in BANDS:
         first, second = np.stack([np.isin(words, guards) for words, guards in zip(columns, kind)]).sum(axis=0).tolist()
@@ -50,7 +51,8 @@ def is_confirmed(lanes: Sequence[Bits], edges: Sequence[int]) -> bool:
 
 
 def confirmed_edges(lanes: Sequence[Bits]) -> list[int] | None:
-    """The edges of the first alignment that a guard band confirms, as `recover relock` finds it in lanes that lose no bits."""
+    """Returns the edges of the first alignment that a guard band confirms, or None. `recover relock` finds the same in lanes that lose no
+    bits."""
     start, end = 0, min(map(len, lanes), default=0)
     while (edges := first_edges(lanes, start)) and max(edges) + TEN * GUARDS <= end:
         if is_confirmed(lanes, edges):
@@ -60,8 +62,9 @@ def confirmed_edges(lanes: Sequence[Bits]) -> list[int] | None:
 
 
 def alignment_of(path: Path, place: int, by_guards: bool) -> list[int] | None:
-    """The place of each lane at which the first aligned column begins, of the first alignment from a place on, or of the first one that a
-    guard band confirms (`by_guards`); None if there is none."""
+    """Returns for each lane the bit at which the first aligned column begins, or None.
+
+    It is the first alignment from bit `place` on. If `by_guards` is set, it is the first one that a guard band confirms."""
     most = LOOKED
     while True:
         lanes = beginnings(path, most, place)
@@ -74,8 +77,7 @@ def alignment_of(path: Path, place: int, by_guards: bool) -> list[int] | None:
 
 
 class Columns:
-    """The characters of the three lanes of a capture from the places `starts` on, as far as each lane has so many bits. `count` is how
-    many columns there are."""
+    """The characters of the three lanes of a capture from the bits `starts` on. `count` is the number of columns that all lanes have."""
 
     def __init__(self, path: Path, starts: Sequence[int], bits: Sequence[int]) -> None:
         with open(path, "rb") as file:
@@ -85,7 +87,7 @@ class Columns:
         self.count = max(0, min((count - start) // TEN for count, start in zip(bits, starts)))
 
     def bytes_of(self, lane: int, begin: int, end: int) -> npt.NDArray[np.uint8]:
-        """The bytes of a lane from `begin` to before `end`, from the blocks in which they lie."""
+        """Returns the bytes of a lane from `begin` to `end` (exclusive)."""
         parts = []
         for block in range(begin // capture.BLOCK, -(-end // capture.BLOCK)):
             at = block * capture.BLOCK
@@ -95,7 +97,7 @@ class Columns:
         return np.concatenate(parts) if parts else np.zeros(0, np.uint8)
 
     def words(self, lane: int, column: int, count: int) -> Words:
-        """The characters of a lane from a column on, `count` or as many as there are."""
+        """Returns up to `count` characters of a lane from a column on."""
         count = max(0, min(count, self.count - column))
         begin = self.starts[lane] + TEN * column
         data = self.bytes_of(lane, begin // 8, -(-(begin + TEN * count) // 8))
@@ -104,9 +106,9 @@ class Columns:
         return words
 
     def at(self, column: int, count: int) -> Words:
-        """The characters of `count` columns, or as many as there are: three rows, a lane each."""
+        """Returns the characters of up to `count` columns, one row for each lane."""
         return np.stack([self.words(lane, column, count) for lane in range(3)])
 
     def place(self, lane: int, column: int) -> int:
-        """The place of the lane's bits at which a column begins."""
+        """Returns the bit of the lane at which a column begins."""
         return self.starts[lane] + TEN * column

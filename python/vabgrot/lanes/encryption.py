@@ -1,4 +1,4 @@
-"""Whether a link says that it is encrypted (HDCP 1.4, section 2.7): by the control characters alone, which stay readable."""
+"""Detects that a link is encrypted (HDCP 1.4, section 2.7). It uses only the control characters, which HDCP does not encrypt."""
 
 from __future__ import annotations
 
@@ -13,19 +13,18 @@ from vabgrot.lanes.columns import Columns, Words
 Ints = npt.NDArray[np.int64]
 Kind = Literal["EESS", "OESS"]
 MARKS: dict[Kind, int] = {"EESS": 0b1001, "OESS": 0b1000}  # CTL3 to CTL0 (HDCP 1.4, section 2.7)
-LEAST: dict[Kind, int] = {"EESS": 12, "OESS": 6}  # marked columns of the 16, or of the 8 at least, that may be damaged
-WITHIN = 512 + 16 + 32  # columns behind the edge of VSYNC within which the mark of EESS lies, with some room
-TORN = 2  # columns within a mark, or of a wrong VSYNC, that damage may change
-MOST_OUTSIDE = 0.02  # of other control columns that may look like a mark, by damage
-LOOKED, PART = 1 << 23, 1 << 18  # columns of a capture that are looked at, and how many at once
-VALUE = np.full(1024, -1, np.int64)  # of a control character
+LEAST: dict[Kind, int] = {"EESS": 12, "OESS": 6}  # the least marked columns of 16 or 8; damage may have changed the others
+WITHIN = 512 + 16 + 32  # columns after the edge of VSYNC in which the EESS mark is expected, with some margin
+TORN = 2  # columns within a mark, or with a wrong VSYNC, that damage may change
+MOST_OUTSIDE = 0.02  # the share of other control columns that may look like a mark because of damage
+LOOKED, PART = 1 << 23, 1 << 18  # columns of a capture that are examined, and how many at a time
+VALUE = np.full(1024, -1, np.int64)  # the value of each control character
 VALUE[list(CONTROL)] = range(len(CONTROL))
 SAYS = "Encrypted: pixels and packets are not judged"
 
 
 class Runs(NamedTuple):
-    """Runs of control columns: their first columns, their numbers of columns, and their values (bit 0 HSYNC, bit 1 VSYNC, bits 2 to 5
-    CTL0 to CTL3)."""
+    """Runs of control columns: first columns, lengths and values (bit 0 HSYNC, bit 1 VSYNC, bits 2 to 5 CTL0 to CTL3)."""
 
     begins: Ints
     counts: Ints
@@ -33,7 +32,8 @@ class Runs(NamedTuple):
 
 
 class Encryption(NamedTuple):
-    """How a link says that it is encrypted: the signalling, the fields that say so, all fields, and the column of the first mark."""
+    """How a link shows that it is encrypted: the signalling, the fields with a mark, the number of all fields, and the column of the
+    first mark."""
 
     kind: Kind
     marked: int
@@ -50,7 +50,7 @@ class Encryption(NamedTuple):
 
 
 def encryption_of(runs: Runs) -> Encryption | None:
-    """How control periods say that a link is encrypted; None if they do not. A few wrong bits do not change the answer."""
+    """Returns how control periods show encryption, or None if they do not. A few wrong bits do not change the result."""
     is_long = runs.counts > TORN
     begins, is_high = runs.begins[is_long], runs.values[is_long] >> 1 & 1
     times = np.bincount(is_high, weights=runs.counts[is_long], minlength=2)
@@ -68,7 +68,7 @@ def encryption_of(runs: Runs) -> Encryption | None:
 
 
 def marked_by(kind: Kind, runs: Runs, edges: Ints, active: int) -> Encryption | None:
-    """The marks of one kind in the fields that begin at these edges of VSYNC."""
+    """Returns the marks of one kind in the fields that begin at these edges of VSYNC."""
     is_mark = runs.values >> 2 == MARKS[kind]
     begins, counts, levels = runs.begins[is_mark], runs.counts[is_mark], runs.values[is_mark] >> 1 & 1
     if not len(begins):
@@ -88,8 +88,8 @@ def marked_by(kind: Kind, runs: Runs, edges: Ints, active: int) -> Encryption | 
 
 
 def runs_of(words: Words, first: int = 0) -> Runs:
-    """The runs of control columns of three rows of characters. Two control characters make a control column; the value of the third
-    counts as 0 then. `first` is the number of the first column."""
+    """Returns the runs of control columns in three rows of characters. A column counts if two of its characters are control characters;
+    the third then has the value 0. `first` is the number of the first column."""
     values = VALUE[words]
     is_control = (values >= 0).sum(axis=0) >= 2
     numbers = np.where(is_control, (np.maximum(values, 0) << np.array([[0], [2], [4]])).sum(axis=0), -1)
@@ -100,7 +100,7 @@ def runs_of(words: Words, first: int = 0) -> Runs:
 
 
 def encryption_in(columns: Columns) -> Encryption | None:
-    """How the beginning of a capture says that it is encrypted; None if it does not."""
+    """Returns how the beginning of a capture shows encryption, or None if it does not."""
     parts = [runs_of(columns.at(at, PART), at) for at in range(0, min(columns.count, LOOKED), PART)]
     if not parts:
         return None

@@ -1,4 +1,4 @@
-"""The true rate of wrong bits of coded rows, estimated by the least damage that explains them, and the limits of confidence."""
+"""Estimates the true rate of wrong bits of coded rows, with confidence limits, from the least damage that explains the rows."""
 
 from __future__ import annotations
 
@@ -15,17 +15,17 @@ from vabgrot.lanes.coding import COUNT
 from vabgrot.lanes.search import Ints, machine, seen, steps_of
 from vabgrot.lanes.visible import Floats, Planted, Planter, flipped, likely, shares_of
 
-LEAST_SHARE = 0.5  # of planted damage that must be seen
-LEAST_VISIBLE = 0.9  # the share of single wrong bits that must show in a row that is measured
+LEAST_SHARE = 0.5  # the least share of planted damage that must be visible
+LEAST_VISIBLE = 0.9  # a row is measured if at least this share of single wrong bits is visible in it
 MOST_RATE = 0.02  # the highest rate of wrong bits that is estimated
-LEAST_PLANTED = 400  # wrong bits that are planted at least, in all
-MOST_PLANTED, PLANTED = 2048, 1 << 21  # rows into which damage is planted each time, and about how many characters these have
-CLOSE = 4  # pixels within which damaged characters are a burst
-BITS_OF_NOISE = 5.0  # wrong bits of a character that is replaced by random bits
+LEAST_PLANTED = 400  # the least number of wrong bits to plant, in total
+MOST_PLANTED, PLANTED = 2048, 1 << 21  # rows that get planted damage each time, and about how many characters they have
+CLOSE = 4  # damaged characters within this many pixels are a burst
+BITS_OF_NOISE = 5.0  # the mean number of wrong bits in a character replaced by random bits
 
 
 class Kind(StrEnum):
-    """What was damaged. Of bursts less is seen than of the same damage alone, so their numbers are too low."""
+    """What was damaged. In bursts less of the damage is visible, so the numbers are too low."""
 
     NOTHING = "nothing"
     SINGLE = "single bits"
@@ -34,8 +34,8 @@ class Kind(StrEnum):
 
 
 class Part(NamedTuple):
-    """A number of wrong bits with its variance, of so many characters; and what one wrong bit that is seen stands for, which bounds
-    the number if none is seen."""
+    """A number of wrong bits with its variance, and the number of characters. `unit` is the number of true wrong bits for each visible
+    one. It gives the limit if none is visible."""
 
     bits: float
     variance: float
@@ -43,12 +43,12 @@ class Part(NamedTuple):
     characters: float
 
     def times(self, factor: float) -> Part:
-        """The same of so many times as many characters."""
+        """Returns the part for `factor` times as many characters."""
         return Part(self.bits * factor, self.variance * factor**2, self.unit * factor, self.characters * factor)
 
 
 class Limits(NamedTuple):
-    """A rate of wrong bits, and the limits between which it lies with a confidence."""
+    """A rate of wrong bits and its confidence limits."""
 
     rate: float
     lower: float
@@ -56,10 +56,12 @@ class Limits(NamedTuple):
 
 
 class Estimate(NamedTuple):
-    """An estimate for the rows in which damage shows.
+    """An estimate for the rows in which damage is visible.
 
-    `seen` are the wrong bits and the damaged characters of least explanations; `share` is how much of planted damage of the same kind
-    and rate is seen; `damaged` is the number of damaged characters. `why` says why the numbers are lower limits, "" if they are not."""
+    - `seen`: wrong bits and damaged characters of the least explanations.
+    - `share`: the visible share of planted damage of the same kind and rate.
+    - `damaged`: the number of damaged characters.
+    - `why`: why the numbers are lower limits, "" if they are not."""
 
     kind: Kind
     seen: tuple[int, int]
@@ -73,7 +75,7 @@ NOTHING = Estimate(Kind.NOTHING, (0, 0), 0.0, Part(0.0, 0.0, 1.0, 0.0), 0.0, "in
 
 
 def limits_of(parts: Iterable[Part], confidence: float) -> Limits:
-    """The rate over some parts that are independent of each other. Its sum is like a Poisson count with the same relative error."""
+    """Returns the rate over independent parts. Its sum is treated as a Poisson count with the same relative error."""
     found = [part for part in parts if part.characters]
     half, size = (1 - confidence) / 2, TEN * sum(part.characters for part in found)
     bits, variance = sum(part.bits for part in found), sum(part.variance for part in found)
@@ -88,7 +90,7 @@ def limits_of(parts: Iterable[Part], confidence: float) -> Limits:
 
 
 class Counts:
-    """The least damage of rows, in both units. Each row stands for `weights` rows."""
+    """The least damage of rows, in both units. Each row represents `weights` rows."""
 
     def __init__(self, columns: Ints, weights: Floats) -> None:
         self.width, self.weights = columns.shape[0], weights
@@ -99,7 +101,7 @@ class Counts:
 
     @property
     def size(self) -> float:
-        """How many characters the rows have."""
+        """The number of characters in all rows."""
         return self.width * self.count
 
     @property
@@ -110,8 +112,8 @@ class Counts:
 
 
 def estimate(columns: Ints, weights: Floats | None = None, seed: int = 1) -> Estimate:
-    """Estimates the true damage of rows of one width, a pixel the first axis; clean ones have to be among them. `weights` says for how
-    many rows each one stands."""
+    """Estimates the true damage of rows of one width. The first axis is the pixel. Some rows must be clean. `weights` says how many rows
+    each one represents."""
     random = np.random.default_rng(seed)
     clean = likely(columns)
     is_measured = shares_of(clean) >= LEAST_VISIBLE
@@ -122,7 +124,7 @@ def estimate(columns: Ints, weights: Floats | None = None, seed: int = 1) -> Est
     rows = min(MOST_PLANTED, max(MOST_PLANTED // 8, PLANTED // columns.shape[0]))
     counts, planter = Counts(columns, weights), Planter(clean, rows, random)
     rate, planted = rate_of(counts, planter, random)
-    # Do single bits explain how many characters these bits are in? `short` is by how many characters there are too few.
+    # Can single bits explain the number of characters with wrong bits? `short` is the number of characters that are missing.
     ratio = planted.mean[1] / planted.mean[0] if planted.mean[0] else 1.0
     short = ratio * counts.total[0] - counts.total[1]
     turn = np.array([ratio, -1.0])
@@ -133,25 +135,27 @@ def estimate(columns: Ints, weights: Floats | None = None, seed: int = 1) -> Est
 
 
 def rate_of(counts: Counts, planter: Planter, random: np.random.Generator) -> tuple[float, Planted]:
-    """The rate of single wrong bits at which as many are seen. The share falls slowly with the rate, so repeated division converges."""
+    """Returns the rate of single wrong bits that makes as many visible ones as were seen. The visible share falls slowly with the rate,
+    so repeated division converges."""
     least = LEAST_PLANTED / (TEN * planter.rows.size)
     planted, seen_rate = planter.seen(least, 0.0), counts.mean[0] / (TEN * counts.width)
     for _ in range(4 if counts.total[0] else 0):
         planted = planter.seen(min(max(seen_rate / planted.share, least), 0.2), 0.0)
     rate = float(seen_rate / planted.share)
-    if rate > 1e-3:  # the least explanation is not what was sent, and less is seen in it: by about as much as in its own explanation
+    if rate > 1e-3:  # less damage is visible in a least explanation than in what was sent: about as much less as in its own explanation
         rate *= 1 - loss_of(planter, min(rate, 0.2), planted.share, random)
     return rate, planted
 
 
 def loss_of(planter: Planter, rate: float, share: float, random: np.random.Generator) -> float:
-    """By what part less is seen of damage that is planted into explanations of planted rows than into the rows themselves."""
+    """Returns how much less is visible of damage planted into explanations of planted rows, compared with the rows themselves."""
     other = Planter(likely(flipped(planter.rows, rate, random)), planter.rows.shape[1], random)
     return 1 - float(np.mean([other.seen(rate, 0.0).share for _ in range(2)])) / share
 
 
 def dispersion(counts: Counts, planted: Planted) -> float:
-    """The variance of the count over its mean: that of planted damage, or that of the rows if damage is clustered."""
+    """Returns the variance of the count divided by its mean: the one of planted damage, or the one of the rows if their damage is
+    clustered."""
     mine = counts.spread[0, 0] / counts.mean[0] if counts.mean[0] else 1.0
     usual = planted.spread[0, 0] / planted.mean[0] if planted.mean[0] else 1.0
     is_clustered = mine > usual * (1 + 4 * math.sqrt(2 / counts.count))
@@ -159,7 +163,7 @@ def dispersion(counts: Counts, planted: Planted) -> float:
 
 
 def of_singles(counts: Counts, rate: float, planted: Planted, planter: Planter) -> Estimate:
-    """The estimate if single bits are wrong. The slope of the count over the rate turns its variance into that of the rate."""
+    """Returns the estimate for single wrong bits. The slope of the count over the rate converts its variance to that of the rate."""
     spread = dispersion(counts, planted) + counts.total[0] * planted.doubts[0]
     slope = planted.share
     if rate > 1e-3:
@@ -173,36 +177,36 @@ def of_singles(counts: Counts, rate: float, planted: Planted, planter: Planter) 
 
 
 def whole(total: Floats) -> tuple[int, int]:
-    """Both counts as whole numbers."""
+    """Returns both counts as integers."""
     return round(total[0]), round(total[1])
 
 
 def too_little(share: float) -> str:
-    """Why there is no upper limit if less than half of the damage is seen."""
+    """Says why there is no upper limit if less than half of the damage is visible."""
     return f"of such damage {share:.0%} shows in these pictures" if share < LEAST_SHARE else ""
 
 
 def too_much(rate: float) -> str:
-    """Why there is no upper limit at a high rate."""
+    """Says why there is no upper limit at a high rate."""
     return f"over {MOST_RATE:.0e} wrong bits hide each other" if rate > MOST_RATE else ""
 
 
 def close_of(columns: Ints) -> tuple[int, int]:
-    """How many damaged characters a least explanation has, and how many of them follow another one within CLOSE pixels."""
+    """Returns the number of damaged characters in a least explanation, and how many of them follow another one within CLOSE pixels."""
     wrong = steps_of(columns, machine("characters").path(columns)).wrong
     rows, pixels = np.nonzero((wrong > 0).T)
     return len(rows), int(((np.diff(rows) == 0) & (np.diff(pixels) <= CLOSE)).sum())
 
 
 def is_in_bursts(columns: Ints, planted: Ints) -> bool:
-    """Whether damage lies closer together than damage that is planted evenly."""
+    """Returns whether damage is closer together than evenly planted damage."""
     (count, close), (planted_count, planted_close) = close_of(columns), close_of(planted)
     share = planted_close / max(planted_count, 1)
     return bool(close > share * count + 4 * math.sqrt(share * count * (1 + count / max(planted_count, 1))) + 2)
 
 
 def rates_of(counts: Counts, planter: Planter) -> tuple[Floats, Floats]:
-    """The rates of single bits and of replaced characters at which both counts come, by Newton's method; and the slopes there."""
+    """Returns the rates of single bits and of replaced characters that explain both counts, by Newton's method, and the slopes there."""
     rates, slopes = np.array([0.0, float(counts.mean[1]) / counts.width]), np.zeros((2, 2))
     for _ in range(3):
         here = planter.seen(*rates).mean
@@ -218,11 +222,11 @@ def rates_of(counts: Counts, planter: Planter) -> tuple[Floats, Floats]:
 
 
 def of_wholes(columns: Ints, counts: Counts, planter: Planter) -> Estimate:
-    """The estimate if whole characters are replaced, maybe beside single bits: two counts, two unknown rates."""
+    """Returns the estimate for replaced characters, perhaps with single wrong bits: two counts, two unknown rates."""
     rates, slopes = rates_of(counts, planter)
     spread, back = counts.spread / counts.count, np.linalg.inv(slopes)
     errors = back @ (spread * (1 + counts.count / planter.rows.shape[1])) @ back.T
-    if rates[0] < 2 * math.sqrt(errors[0, 0]):  # so few single bits are not told from none
+    if rates[0] < 2 * math.sqrt(errors[0, 0]):  # so few single bits cannot be distinguished from none
         rates = np.array([0.0, float(counts.mean[1]) / counts.width])
         planted = planter.seen(*rates)
         rates[1] = counts.mean[1] / (counts.width * planted.shares[1] * (1 - 1 / COUNT))

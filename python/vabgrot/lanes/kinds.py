@@ -1,4 +1,4 @@
-"""What a lane is that has no control periods, and what to do about it: stuck, the clock, several samples a bit, scrambled, of
+"""Finds out what a lane without control periods carries, and what to do about it: stuck, the clock, several samples a bit, scrambled,
 another code, or noise."""
 
 from __future__ import annotations
@@ -14,19 +14,19 @@ from vabgrot.lanes.coding import CODES
 from vabgrot.lanes.looking import IS_CONTROL, Bits, words_at_all
 
 Ints = npt.NDArray[np.int64]
-LOOKED = 1 << 20  # bits of a lane that are looked at
-LEAST = 2_000  # bits that tell a kind
-ONE_ROW = 10 * (4096 + 500)  # bits within which a source that does not scramble has a control period
-NEARLY = 0.99  # of what is counted, if some of it is damaged
-COPIES = (10, 8, 6, 5, 4, 3, 2)  # samples a bit that are tried
-SINGLE = 0.002  # of the runs of a lane that are one bit long at most if it has several samples a bit
-IS_SENT = np.isin(np.arange(1 << TEN), [*CODES.ravel(), *CONTROL, *TERC4, *VIDEO_GUARD])  # by any source
-LEAST_SENT, APART = 0.75, 0.15  # of the characters at the right phase, and by how much it has more than most phases
-LONGEST_RUN, WINDOW, MOST_SUM = 5, 240, 8  # bits in 8b/10b: of a run, of a stretch, and ones less zeros within it
+LOOKED = 1 << 20  # bits of a lane that are examined
+LEAST = 2_000  # the least number of bits to decide
+ONE_ROW = 10 * (4096 + 500)  # a source without scrambling has a control period within this many bits
+NEARLY = 0.99  # the share of a count that is enough, because some bits may be damaged
+COPIES = (10, 8, 6, 5, 4, 3, 2)  # numbers of samples a bit to try
+SINGLE = 0.002  # a lane with several samples a bit has at most this share of runs of one bit
+IS_SENT = np.isin(np.arange(1 << TEN), [*CODES.ravel(), *CONTROL, *TERC4, *VIDEO_GUARD])  # all characters that a source can send
+LEAST_SENT, APART = 0.75, 0.15  # the least share of valid characters at the right phase, and its least distance from most other phases
+LONGEST_RUN, WINDOW, MOST_SUM = 5, 240, 8  # limits of 8b/10b: bits of a run, bits of a window, and the imbalance within the window
 
 
 class Kind(StrEnum):
-    """What a lane is that does not lock."""
+    """The kinds of lanes that do not lock."""
 
     SHORT = "short"
     STUCK = "stuck"
@@ -38,7 +38,7 @@ class Kind(StrEnum):
 
 
 class LaneKind(NamedTuple):
-    """The kind of a lane, why it is that, and what to do."""
+    """The kind of a lane, the reason, and what to do."""
 
     kind: Kind
     says: str
@@ -49,7 +49,7 @@ class LaneKind(NamedTuple):
 
 
 def kind_of(bits: Bits) -> LaneKind:
-    """What a lane is that has no twelve control characters in a row, by its first bits."""
+    """Returns the kind of a lane that has no twelve control characters in a row. It examines the first bits."""
     bits = bits[:LOOKED]
     for told in (stuck, short, clock, copied, other_code, scrambled):
         found = told(bits)
@@ -66,7 +66,7 @@ def runs_of(bits: Bits) -> Ints:
 
 
 def stuck(bits: Bits) -> LaneKind | None:
-    """A lane that never changes, or hardly ever."""
+    """Detects a lane that never or hardly ever changes."""
     if not len(bits):
         return LaneKind(Kind.SHORT, "empty: it has no bits", "Record this lane, too")
     ones = float(bits.mean())
@@ -77,14 +77,14 @@ def stuck(bits: Bits) -> LaneKind | None:
 
 
 def short(bits: Bits) -> LaneKind | None:
-    """A lane with too few bits to tell what it is."""
+    """Detects a lane with too few bits to decide."""
     if len(bits) >= LEAST:
         return None
     return LaneKind(Kind.SHORT, f"too short to tell: {len(bits):,} bits", "Capture at least one row of pixels, better a frame")
 
 
 def clock(bits: Bits) -> LaneKind | None:
-    """The TMDS clock: five ones and five zeros, again and again."""
+    """Detects the TMDS clock: five ones and five zeros, repeated."""
     runs = runs_of(bits)
     if not len(runs) or (bits[:-TEN] == bits[TEN:]).mean() < NEARLY or (runs == TEN // 2).mean() < 0.9:
         return None
@@ -92,7 +92,7 @@ def clock(bits: Bits) -> LaneKind | None:
 
 
 def copied(bits: Bits) -> LaneKind | None:
-    """A lane with several samples of each bit."""
+    """Detects a lane with several samples of each bit."""
     runs = runs_of(bits)
     if len(runs) < 100 or (runs == 1).mean() > SINGLE:
         return None
@@ -106,7 +106,7 @@ def copied(bits: Bits) -> LaneKind | None:
 
 
 def other_code(bits: Bits) -> LaneKind | None:
-    """8b/10b: no run of more than five bits, and ones and zeros balanced all the time."""
+    """Detects 8b/10b: no run is longer than five bits, and ones and zeros are always balanced."""
     runs = runs_of(bits)
     if (runs <= LONGEST_RUN).mean() < 1 - 1e-3:
         return None
@@ -119,7 +119,7 @@ def other_code(bits: Bits) -> LaneKind | None:
 
 
 def scrambled(bits: Bits) -> LaneKind | None:
-    """Characters of TMDS at one phase, and no control period of twelve (HDMI 2.0, section 6.1.2)."""
+    """Detects TMDS characters at one phase without a control period of twelve (HDMI 2.0, section 6.1.2)."""
     words = words_at_all(bits)
     shares = [float(IS_SENT[words[phase::TEN]].mean()) for phase in range(TEN)]
     best = int(np.argmax(shares))

@@ -1,5 +1,4 @@
-"""What a capture's lanes look like: control characters, what control periods end in, and the lanes' bit order, order and
-polarity."""
+"""Examines the lanes of a capture: control characters, how control periods end, and the bit order, order and polarity of the lanes."""
 
 from collections.abc import Sequence
 from itertools import permutations, product
@@ -25,7 +24,7 @@ Bits = npt.NDArray[np.uint8]  # of a lane, each 0 or 1
 Words = npt.NDArray[np.uint16]  # characters
 Mask = npt.NDArray[np.bool_]
 
-GUARD, OTHER, _ = VIDEO_GUARD  # the two guard characters; the second is that of an island on lanes 1 and 2, too
+GUARD, OTHER, _ = VIDEO_GUARD  # the two guard characters; islands use the second one on lanes 1 and 2
 PART = 1 << 22
 MOST_ENDS = 20_000
 IS_CONTROL = np.isin(np.arange(1024), CONTROL)
@@ -33,8 +32,8 @@ IS_TURNED_CONTROL = np.isin(np.arange(1024), [int(f"{word:010b}"[::-1], 2) for w
 
 
 class Ends(NamedTuple):
-    """Where control periods of twelve characters or more end: the places, the character of the preamble (0 where its
-    eight are not alike), and that of the guard (0 where its two are not alike)."""
+    """The ends of control periods with at least twelve characters: their places, the preamble's character (0 if its eight are not equal),
+    and the guard's character (0 if its two are not equal)."""
 
     lock: int
     places: npt.NDArray[np.int64]
@@ -43,7 +42,7 @@ class Ends(NamedTuple):
 
 
 def words_at_all(bits: Bits) -> Words:
-    """The ten bits from each place on, first bit lowest."""
+    """Returns the ten bits from each place on, the first one lowest."""
     words = np.zeros(max(len(bits) - TEN + 1, 0), np.uint16)
     for place in range(TEN):
         words |= bits[place : place + len(words)].astype(np.uint16) << np.uint16(place)
@@ -51,7 +50,7 @@ def words_at_all(bits: Bits) -> Words:
 
 
 def lock_of(bits: Bits, is_control: Mask = IS_CONTROL) -> int | None:
-    """The least place at which twelve control characters stand in a row."""
+    """Returns the first place with twelve control characters in a row, or None."""
     for first in range(0, len(bits), PART):
         control = is_control[words_at_all(bits[first : first + PART + TEN * LEAST_CONTROL])]
         size = len(control) - TEN * (LEAST_CONTROL - 1)
@@ -64,14 +63,14 @@ def lock_of(bits: Bits, is_control: Mask = IS_CONTROL) -> int | None:
 
 
 def characters_of(bits: Bits, start: int) -> Words:
-    """The characters from a place on."""
+    """Returns the characters from a place on."""
     count = (len(bits) - start) // TEN
     rows = bits[start : start + TEN * count].reshape(count, TEN)
     return rows.astype(np.uint16) @ (1 << np.arange(TEN)).astype(np.uint16)
 
 
 def ends_of(bits: Bits) -> Ends | None:
-    """The ends of the control periods of a lane, or nothing where it has none."""
+    """Returns the ends of a lane's control periods, or None if it has none."""
     lock = lock_of(bits)
     if lock is None:
         return None
@@ -86,13 +85,13 @@ def ends_of(bits: Bits) -> Ends | None:
 
 
 class Turn(NamedTuple):
-    """A bit order: units of so many bits from a place on, each of which is turned round."""
+    """A bit order: from bit `start` on, each group of `unit` bits is reversed."""
 
     unit: int
     start: int
 
     def of(self, bits: Bits) -> Bits:
-        """The bits with each whole unit turned round; what is left over at the end is dropped."""
+        """Returns the bits with each complete group reversed. An incomplete group at the end is dropped."""
         end = self.start + (len(bits) - self.start) // self.unit * self.unit
         turned = bits[self.start : end].reshape(-1, self.unit)[:, ::-1].reshape(-1)
         return np.concatenate([bits[: self.start], turned]) if self.start else turned
@@ -108,26 +107,26 @@ AS_IT_IS, BYTES = Turn(1, 0), Turn(8, 0)
 
 
 def turns_of(bits: Bits) -> list[Turn]:
-    """The bit orders to be tried: of each ten those from bit 0 on, as words are dumped, and those that are characters
-    where control characters stand turned round."""
+    """Returns the bit orders to try. Groups of ten begin at bit 0, as in a dump of words, or at the phase at which the lane has reversed
+    control characters."""
     place = lock_of(bits, IS_TURNED_CONTROL)
     return [*dict.fromkeys([AS_IT_IS, BYTES, Turn(TEN, 0), Turn(TEN, (place or 0) % TEN)])]
 
 
 def score(ends: Ends | None) -> int:
-    """How many control periods end in a guard character."""
+    """Counts the control periods that end in a guard character."""
     return int(np.isin(ends.guards, (GUARD, OTHER, *ISLAND_GUARDS_0)).sum()) if ends else -1
 
 
 def looked(bits: Bits) -> tuple[Turn, Ends] | None:
-    """The bit order of a lane with the most guards, the first of them where it is as good as others, and its ends; None where it
-    has no ends in any."""
+    """Returns the bit order with the most guards, and the ends it gives. The first of equally good ones is used. Returns None if no order
+    has an end."""
     turn, ends = max(((turn, ends_of(turn.of(bits))) for turn in turns_of(bits)), key=lambda pair: score(pair[1]))
     return (turn, ends) if ends else None
 
 
 def openings(found: Sequence[Ends]) -> Words:
-    """The preambles and guards of the three lanes at each end that all three have within 70 bits: lanes by ends by the two."""
+    """Returns the preambles and guards of the three lanes, at each end that all three have within 70 bits. Shape: lanes, ends, 2."""
     first = found[0].places
     rows = [np.stack([found[0].preambles, found[0].guards], axis=1)]
     near = np.ones(len(first), bool)
@@ -145,7 +144,7 @@ def openings(found: Sequence[Ends]) -> Words:
 
 
 def right_openings(rows: Words) -> int:
-    """How many rows of preambles and guards of lanes 0, 1 and 2 open a line or an island (HDMI 1.4, section 5.2.1.1)."""
+    """Counts the openings of a line or an island in rows of preambles and guards of lanes 0, 1 and 2 (HDMI 1.4, section 5.2.1.1)."""
     (_, guard_0), (preamble_1, guard_1), (preamble_2, guard_2) = (lane.T for lane in rows)
 
     def are(preambles: tuple[int, int]) -> Mask:
@@ -158,7 +157,7 @@ def right_openings(rows: Words) -> int:
 
 
 class Fit(NamedTuple):
-    """How many openings are right where lane `order[c]` is taken for lane c, those of `inverts` turned over first."""
+    """The number of valid openings if lane `order[c]` is used as lane c, after the lanes in `inverts` are inverted."""
 
     right: int
     order: tuple[int, ...]
@@ -166,8 +165,8 @@ class Fit(NamedTuple):
 
 
 def fit_of(rows: Words) -> tuple[Fit, int]:
-    """The order and polarity with the most right openings, of the best ones that with the least change; and how many
-    others are as good."""
+    """Returns the order and polarity with the most valid openings (the smallest change, if several are equally good), and how many others
+    are as good."""
     fits: list[Fit] = []
     for order, signs in product(permutations(range(3)), product((0, 1), repeat=3)):
         turned = np.stack([np.where(rows[lane] > 0, rows[lane] ^ (ALL * sign), 0) for lane, sign in enumerate(signs)])

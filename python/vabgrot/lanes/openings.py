@@ -1,4 +1,4 @@
-"""At which skews the openings of a capture's lines and islands fit, and at which one its lanes were aligned first."""
+"""Finds the skews at which the openings of lines and islands fit, and the skew of the first alignment."""
 
 from collections.abc import Sequence
 from itertools import product
@@ -12,18 +12,19 @@ from vabgrot import capture
 from vabgrot.formats.characters import ISLAND_GUARDS_0, ISLAND_PREAMBLE, LEAST_CONTROL, MOST_SKEW, TEN, VIDEO_PREAMBLE
 from vabgrot.lanes.looking import GUARD, OTHER, Bits, Ends, Words, ends_of
 
-Places = npt.NDArray[np.int64]  # in a lane, in bits
+Places = npt.NDArray[np.int64]  # bits of a lane
 
 MOST_BITS = 1 << 24  # of each lane
-FARTHEST = 4095  # bits by which lanes are tried to be apart
-TRIED = 6  # the differences of two lanes of which all pairs are tried
+FARTHEST = 4095  # the greatest skew to try, in bits
+TRIED = 6  # the differences of two lanes that are combined with those of the third
 FAR = """From the place {first} of lane 0 on openings fit at the skew {later}, but lanes more than 70 bits apart are not aligned."""
 
 
 class Fit(NamedTuple):
-    """What control periods end in where lane 1 and lane 2 are so many bits later than lane 0 (`skew`): `openings` have the
-    preamble and the guards of a line or of an island, `guards` at least the guards. `first` and `last` are the places of the
-    first and the last of these openings on each lane, None where there are none."""
+    """How control periods end if lanes 1 and 2 are `skew` bits later than lane 0.
+
+    `openings` counts complete openings (preamble and guards) of lines and islands, `guards` those with at least the guards. `first` and
+    `last` are the places of the first and the last opening on each lane, or None."""
 
     skew: tuple[int, int]
     openings: int
@@ -33,23 +34,23 @@ class Fit(NamedTuple):
 
     @property
     def spread(self) -> int:
-        """How many bits the lanes are apart."""
+        """By how many bits the lanes are apart."""
         return max(0, *self.skew) - min(0, *self.skew)
 
     @property
     def made_words(self) -> str:
-        """The skew as `make --skew` takes it: by how many bits each lane begins later than one that begins first."""
+        """The skew as an argument of `make --skew`: for each lane, by how many bits it begins later than the first one."""
         return ",".join(str(max(0, *self.skew) - late) for late in (0, *self.skew))
 
     @property
     def cut(self) -> tuple[int, ...]:
-        """The places from which on the lanes begin with the twelve control characters before the first opening."""
+        """The bits at which to cut the lanes so that they begin with the twelve control characters before the first opening."""
         return tuple(place - TEN * LEAST_CONTROL for place in self.first or ())
 
 
 class Fits(NamedTuple):
-    """The skew of the first full alignment, None where there is none; the one at which most openings fit; and one at which
-    some fit behind the last one that does at the first alignment's, None where there is none."""
+    """Three fits: at the skew of the first full alignment (`found`), at the skew with the most openings (`best`), and at a skew that fits
+    only after the last opening of `found` (`later`). `found` and `later` may be None."""
 
     found: Fit | None
     best: Fit
@@ -57,20 +58,20 @@ class Fits(NamedTuple):
 
     @property
     def is_wrong(self) -> bool:
-        """Whether openings fit, but none at the skew that was found."""
+        """Whether some skew has openings, and the first alignment's has none."""
         return self.best.openings > 0 and (self.found is None or self.found.openings == 0)
 
     @property
     def far(self) -> str | None:
-        """What is to be said where they fit later on at a skew at which no lanes are aligned."""
+        """A message if openings fit later at a skew that is too large to align, otherwise None."""
         if self.is_wrong or not self.later or not self.later.first or self.later.spread <= MOST_SKEW:
             return None
         return FAR.format(first=f"{self.later.first[0]:,}", later=self.later.made_words)
 
 
 def beginnings(path: str | Path, most: int = MOST_BITS, place: int = 0) -> list[Bits]:
-    """The bits of the three lanes of a capture from a place on, at most so many of each: arrays of 0 and 1. They end where the file
-    does. Refused where its header is none."""
+    """Reads up to `most` bits of each lane of a capture from bit `place` on, as arrays of 0 and 1. Raises Refused if the file is no
+    capture."""
     begin = place // 8 // capture.BLOCK * capture.BLOCK
     with open(path, "rb") as file:
         counts, start = capture.header_of(file.read(16))
@@ -86,7 +87,7 @@ def beginnings(path: str | Path, most: int = MOST_BITS, place: int = 0) -> list[
 
 
 def first_alignment(places: list[Places]) -> list[int] | None:
-    """The edges of the three lanes that are the first full alignment (docs/guide/FORMATS.md), or None."""
+    """Returns the edges of the first full alignment of three lanes (docs/guide/FORMATS.md), or None."""
     for last in np.unique(np.concatenate(places)):
         near = [lane[np.searchsorted(lane, last - MOST_SKEW) : np.searchsorted(lane, last, "right")] for lane in places]
         if all(len(lane) for lane in near):
@@ -95,8 +96,8 @@ def first_alignment(places: list[Places]) -> list[int] | None:
 
 
 def differences(places: Places, others: Places) -> list[int]:
-    """By how many bits places of one lane are before or behind those of another, at most FARTHEST: the most frequent
-    differences, of those that are as frequent the least."""
+    """Returns the most frequent differences between places of two lanes, up to FARTHEST bits. If two are equally frequent, the smaller
+    comes first."""
     first = np.searchsorted(others, places - FARTHEST)
     counts = np.searchsorted(others, places + FARTHEST, "right") - first
     within = np.arange(counts.sum()) - np.repeat(np.cumsum(counts) - counts, counts)
@@ -106,7 +107,7 @@ def differences(places: Places, others: Places) -> list[int]:
 
 
 def at(ends: Ends, places: Places) -> tuple[Words, Words]:
-    """The characters of the preamble and of the guard of a lane's ends at these places, 0 where there is no end."""
+    """Returns the preamble's and the guard's character of the ends at these places; 0 if there is no end."""
     found = np.searchsorted(ends.places, places)
     found[found == len(ends.places)] = 0
     is_end = ends.places[found] == places
@@ -114,7 +115,7 @@ def at(ends: Ends, places: Places) -> tuple[Words, Words]:
 
 
 def fit_at(ends: Sequence[Ends], skew: tuple[int, int]) -> Fit:
-    """What control periods end in at a skew."""
+    """Returns how control periods end at a skew."""
     places = ends[0].places
     preamble_1, guard_1 = at(ends[1], places + skew[0])
     preamble_2, guard_2 = at(ends[2], places + skew[1])
@@ -130,8 +131,8 @@ def fit_at(ends: Sequence[Ends], skew: tuple[int, int]) -> Fit:
 
 
 def fits(lanes: Sequence[Bits], place: int = 0) -> Fits | None:
-    """How the openings of three lanes fit, as Fits; None where a lane has no control period that ends. `place` is that of the capture
-    at which these lanes begin."""
+    """Returns how the openings of three lanes fit, or None if a lane has no control period that ends. The lanes begin at bit `place` of
+    the capture."""
     ends = [its._replace(places=its.places + place) for lane in lanes if (its := ends_of(lane)) and len(its.places)]
     if len(ends) < len(lanes):
         return None

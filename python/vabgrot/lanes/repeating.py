@@ -1,4 +1,4 @@
-"""The bits of lanes as raw blocks (docs/guide/FORMATS.md), once or again and again."""
+"""Writes lanes as raw blocks (docs/guide/FORMATS.md), once or repeatedly."""
 
 from collections.abc import Iterator, Sequence
 from math import gcd
@@ -8,14 +8,15 @@ import numpy.typing as npt
 
 from vabgrot.capture import BLOCK
 
-BLOCKS = 64  # of each lane that are written at a time
+BLOCKS = 64  # blocks of each lane that are written at a time
 MOST = BLOCK * BLOCKS
 BYTE = 8
 Bytes = npt.NDArray[np.uint8]
 
 
 def period(lane: bytes | bytearray, bits: int, times: int | None) -> Bytes:
-    """So many bits of a lane, as often as makes whole bytes of them, or as often as is wanted; behind them some of its beginning again."""
+    """Returns the first `bits` bits of a lane, repeated until they fill whole bytes, but at most `times` times. After them the beginning
+    is repeated."""
     count = BYTE // gcd(bits, BYTE)
     octets = np.frombuffer(lane, np.uint8)[: (bits + BYTE - 1) // BYTE]
     if count > 1:
@@ -25,8 +26,8 @@ def period(lane: bytes | bytearray, bits: int, times: int | None) -> Bytes:
 
 
 def pieces(lanes: Sequence[bytes | bytearray], bits: int, times: int | None) -> Iterator[memoryview]:
-    """Raw blocks of so many bits of each lane, so many times or, with None, without an end, as far as these are whole bytes. A piece is
-    valid until the next one."""
+    """Yields raw blocks of the first `bits` bits of each lane, repeated `times` times (None: forever). Bits after the last whole byte are
+    dropped. A piece is valid until the next one."""
     if not bits:
         return
     longer = [period(lane, bits, times) for lane in lanes]
@@ -43,8 +44,8 @@ def pieces(lanes: Sequence[bytes | bytearray], bits: int, times: int | None) -> 
 
 
 def ended(blocks: Bytes, left: int) -> memoryview:
-    """The blocks in which lanes end that have so many bytes there: of a block that is not whole red ends it, and in the others what stands
-    behind their end is 0."""
+    """Returns the last blocks of the lanes, which have `left` bytes each. In an incomplete block the first two lanes are padded with 0,
+    and the third one ends."""
     count, rest = divmod(left, BLOCK)
     blocks[count, :, rest:] = 0
     lanes = blocks.shape[1]

@@ -1,10 +1,11 @@
-"""The least damage that explains rows of characters, by a search over the disparities of the video coder (DVI 1.0, section 3.2.2).
+"""Finds the least damage that explains rows of characters, by a search over the disparities of the video encoder (DVI 1.0, section
+3.2.2).
 
-The coder is a machine of nine disparities. For each disparity before and behind a character, a table has the least damage that makes
-the received character of one that could be sent. The least damage of a row is a shortest path. The nine costs of a place, less their
-least one, take few different values, so that the search is an automaton: one look-up a character.
+The encoder has nine disparities. For each pair of disparities before and after a character, a table has the least damage that turns a
+valid character into the received one. The least damage of a row is a shortest path.
 
-Rows stand side by side: the first axis of an array of characters is the pixel."""
+At each character, the nine costs minus the smallest one have few different values. So the search is an automaton: one look-up for each
+character. Many rows are searched at once: the first axis of an array of characters is the pixel."""
 
 from __future__ import annotations
 
@@ -19,10 +20,10 @@ from vabgrot.lanes.coding import BALANCE, BITS, CODES, COUNT
 
 Ints = npt.NDArray[Any]
 Unit = Literal["bits", "characters"]
-STATES = np.arange(-8, 9, 2)  # the disparities that a coder can have
+STATES = np.arange(-8, 9, 2)  # the disparities of the encoder
 PLACES = len(STATES)
-START = int(np.flatnonzero(STATES == 0)[0])  # each row begins at disparity 0
-NONE = 1000  # the cost of what cannot be
+START = int(np.flatnonzero(STATES == 0)[0])  # the place of disparity 0, with which each row begins
+NONE = 1000  # the cost of an impossible step
 SENT_AT = CODES[np.sign(STATES) + 1]  # the characters of all bytes at each disparity
 BYTE = np.zeros(COUNT, np.int64)  # the byte of each character that can be sent
 for _codes in SENT_AT:
@@ -30,8 +31,8 @@ for _codes in SENT_AT:
 
 
 def tables() -> tuple[Ints, Ints, Ints]:
-    """For each received character, and the places of the disparities before and behind it: the fewest wrong bits, the sent character
-    that needs them, and how many bytes need as few. The first is NONE if no byte leads from the one to the other."""
+    """Returns tables by received character and by the places of the disparities before and after it: the fewest wrong bits, the sent
+    character with these, and how many bytes need as few. The first is NONE if no byte connects the two disparities."""
     wrong = np.full((COUNT, PLACES, PLACES), NONE, np.int16)
     sent, ways = np.zeros((COUNT, PLACES, PLACES), np.int16), np.zeros((COUNT, PLACES, PLACES), np.int16)
     for before, codes in enumerate(SENT_AT):
@@ -51,8 +52,8 @@ WRONG, SENT, WAYS = tables()
 
 
 class Machine:
-    """The search as an automaton. A state is the costs of the nine disparities, less the least of them. `next`, `added` and `came`
-    have for each state and character the next state, the cost that it adds, and the best disparity before each one."""
+    """The search as an automaton. A state is the costs of the nine disparities minus the smallest one. For each state and character,
+    `next` is the next state, `added` the added cost, and `came` the best previous disparity of each disparity."""
 
     def __init__(self, cost: Ints, first: Ints) -> None:
         known, costs = {first.tobytes(): 0}, [first]
@@ -80,7 +81,7 @@ class Machine:
         self.came = np.array(came, np.int8).ravel()
 
     def run(self, columns: Ints) -> npt.NDArray[np.int64]:
-        """The least damage of each row."""
+        """Returns the least damage of each row."""
         cost, here = np.zeros(columns.shape[1], np.int64), np.zeros(columns.shape[1], np.int32)
         for words in columns:
             key = (here << TEN) + words
@@ -89,7 +90,7 @@ class Machine:
         return cost
 
     def costs_along(self, words: Ints) -> Ints:
-        """The costs of the disparities before each character of one row and behind the last, less the least of each place."""
+        """Returns the costs of the disparities before each character of one row and after the last, minus the smallest of each place."""
         states, here = np.zeros(len(words) + 1, np.int32), 0
         for at, word in enumerate(words.tolist()):
             states[at + 1] = here = int(self.next[(here << TEN) + word])
@@ -97,7 +98,7 @@ class Machine:
         return found
 
     def path(self, columns: Ints) -> npt.NDArray[np.int8]:
-        """The disparities of a least explanation of each row, as places in STATES: one more than there are pixels."""
+        """Returns the disparities of a least explanation of each row, as places in STATES: one more than pixels."""
         width, count = columns.shape
         keys, here = np.zeros((width, count), np.int32), np.zeros(count, np.int32)
         for at, words in enumerate(columns):
@@ -112,20 +113,20 @@ class Machine:
 
 @functools.cache
 def cost_of(unit: Unit) -> Ints:
-    """The table of costs: wrong bits, or whether a character is damaged, however many bits of it are wrong."""
+    """Returns the table of costs in this unit: wrong bits, or damaged characters."""
     return WRONG if unit == "bits" else np.where(WRONG >= NONE, NONE, np.minimum(WRONG, 1)).astype(np.int16)
 
 
 @functools.cache
 def machine(unit: Unit) -> Machine:
-    """The automaton that counts wrong bits, or damaged characters, from the beginning of a row on."""
+    """Returns the automaton that counts wrong bits, or damaged characters, from the start of a row."""
     first = np.full(PLACES, NONE, np.int16)
     first[START] = 0
     return Machine(cost_of(unit), first)
 
 
 def costs_behind(words: Ints, unit: Unit) -> Ints:
-    """The costs of the rest of a row by the disparity at each character, and behind the last; a row can end at any disparity."""
+    """Returns the costs of the rest of a row, by the disparity at each character and after the last. A row can end at any disparity."""
     found = np.zeros((len(words) + 1, PLACES), np.int64)
     cost = cost_of(unit).astype(np.int64)
     for at in range(len(words) - 1, -1, -1):
@@ -134,7 +135,7 @@ def costs_behind(words: Ints, unit: Unit) -> Ints:
 
 
 class Steps(NamedTuple):
-    """What a path says of each character: its wrong bits, what was sent, and how many other characters could be sent as well."""
+    """What a path says about each character: its wrong bits, what was sent, and how many other characters are possible too."""
 
     wrong: Ints
     sent: Ints
@@ -142,26 +143,26 @@ class Steps(NamedTuple):
 
 
 def steps_of(columns: Ints, path: Ints) -> Steps:
-    """What paths say of rows of characters."""
+    """Returns what paths say about rows of characters."""
     before, after = path[:-1].astype(np.int64), path[1:].astype(np.int64)
     keys = columns, before, after
     return Steps(WRONG[keys], SENT[keys].astype(np.int64), WAYS[keys])
 
 
 class Seen(NamedTuple):
-    """The least damage of each row: as wrong bits, and as damaged characters."""
+    """The least damage of each row, in wrong bits and in damaged characters."""
 
     bits: npt.NDArray[np.int64]
     characters: npt.NDArray[np.int64]
 
 
 def seen(columns: Ints) -> Seen:
-    """The least damage of each row, in both units."""
+    """Returns the least damage of each row, in both units."""
     return Seen(machine("bits").run(columns), machine("characters").run(columns))
 
 
 def encoded(octets: Ints) -> npt.NDArray[np.int64]:
-    """The characters of rows of bytes."""
+    """Encodes rows of bytes."""
     made, state = np.zeros(octets.shape, np.int64), np.full(octets.shape[1], START)
     for at, row in enumerate(octets):
         made[at] = SENT_AT[state, row]
@@ -170,19 +171,19 @@ def encoded(octets: Ints) -> npt.NDArray[np.int64]:
 
 
 class Damage(NamedTuple):
-    """The characters of rows that were damaged: the numbers of the row and of the pixel, and by how many bits at least."""
+    """The damaged characters of rows: the row, the pixel, and the least number of wrong bits."""
 
     rows: npt.NDArray[np.int64]
     pixels: npt.NDArray[np.int64]
     bits: npt.NDArray[np.int64]
 
 
-MANY = 1.5  # wrong bits a character, from which on whole characters are damaged
+MANY = 1.5  # with more wrong bits a character than this, whole characters are damaged
 
 
 def damage_of(rows: npt.NDArray[np.uint16]) -> Damage:
-    """The least damage of rows of one length, a row the first axis: the fewest wrong bits, or, if these are in many more characters
-    than need be damaged, the fewest characters."""
+    """Returns the least damage of rows of one length. The first axis is the row. It is the explanation with the fewest wrong bits. If
+    these are in many more characters than necessary, it is the one with the fewest characters."""
     columns = rows.T.astype(np.int64)
     bits, characters = (int(counts.sum()) for counts in seen(columns))
     path = machine("characters" if bits > MANY * characters else "bits").path(columns)
@@ -191,11 +192,11 @@ def damage_of(rows: npt.NDArray[np.uint16]) -> Damage:
     return Damage(row, pixel, wrong[row, pixel].astype(np.int64))
 
 
-AFTER = np.arange(PLACES)[:, None] + BALANCE[SENT_AT] // 2  # the place of the disparity behind each byte at each disparity
+AFTER = np.arange(PLACES)[:, None] + BALANCE[SENT_AT] // 2  # the place of the disparity after each byte, by disparity
 
 
 class Explained:
-    """What the least explanations of one row say of its characters."""
+    """What the least explanations of one row say about its characters."""
 
     def __init__(self, words: npt.NDArray[np.uint16]) -> None:
         self.words = words.astype(np.int64)
@@ -206,11 +207,11 @@ class Explained:
         self.behind = costs_behind(self.words, self.unit)
 
     def disparity(self, pixel: int) -> int:
-        """The disparity before a pixel. If several fit it is that of one of them."""
+        """Returns the disparity before a pixel. If several fit, it is one of them."""
         return int(STATES[int((self.ahead[pixel] + self.behind[pixel]).argmin())])
 
     def fitting(self, pixel: int) -> list[int]:
-        """The characters that could have been sent there: one or more, the received one among them if it may be right."""
+        """Returns the characters that may have been sent: one or more. The received one is among them if it may be right."""
         unlike = BITS[SENT_AT ^ self.words[pixel]]
         costs = self.ahead[pixel][:, None] + (unlike if self.unit == "bits" else unlike > 0)
         costs = costs + self.behind[pixel + 1][np.clip(AFTER, 0, PLACES - 1)]

@@ -1,4 +1,4 @@
-"""What `lanes look` says of the lanes of a capture, and the commands that mend it."""
+"""The text that `lanes look` prints about the lanes of a capture, with the commands that repair it."""
 
 import shlex
 from collections.abc import Sequence
@@ -22,8 +22,8 @@ FAR = "lanes more than 70 bits apart are not aligned"
 
 
 class Looked(NamedTuple):
-    """What was found of the lanes of a capture: a line for each lane, what is said of them together, whether they are right as they
-    are, what each is that does not lock, and how the link says that it is encrypted."""
+    """The result for the lanes of a capture: a line for each lane, lines about all three, whether they are right, the kind of each lane
+    that does not lock, and how the link shows encryption."""
 
     lanes: list[str]
     says: list[str]
@@ -33,7 +33,7 @@ class Looked(NamedTuple):
 
 
 def lane_line(number: int, count: int, found: tuple[Turn, Ends] | None, kind: LaneKind | None) -> str:
-    """The line on a lane of so many bits."""
+    """Describes a lane of `count` bits."""
     if not found:
         return f"lane {number}: {count} bits, {NO_LOCK}: {kind}"
     turn, ends = found
@@ -47,7 +47,7 @@ def lane_line(number: int, count: int, found: tuple[Turn, Ends] | None, kind: La
 
 
 def changes(fit: Fit, turns: Sequence[Turn]) -> str:
-    """The words that pack the lanes as they are wanted, each of which is of one bit order."""
+    """Returns the options of `lanes pack` that repair the lanes. Each lane has one bit order."""
     order = [fit.order.index(lane) for lane in range(3)]
     words = ["--order " + ",".join(map(str, order))] if order != [0, 1, 2] else []
     if fit.inverts:
@@ -61,7 +61,7 @@ def changes(fit: Fit, turns: Sequence[Turn]) -> str:
 
 
 def commands(tool: str, path: str, words: str, turns: Sequence[Turn], counts: Sequence[int]) -> str:
-    """The commands that pack a capture anew, to be pasted, by the tool as it was called."""
+    """Returns the commands that repair a capture, ready to paste. They call the tool as the user did."""
     tool = shlex.quote(tool)
     stem = Path(path).with_suffix("")
     files = " ".join(shlex.quote(f"{stem}.lane{lane}") for lane in range(3))
@@ -77,7 +77,7 @@ def commands(tool: str, path: str, words: str, turns: Sequence[Turn], counts: Se
 
 
 def judged(tool: str, path: str, lanes: Sequence[bytes | bytearray], counts: Sequence[int]) -> Looked:
-    """What is found of the lanes of the capture in a file; `tool` is how `lanes` was called."""
+    """Examines the lanes of a capture. `tool` is how the user called `lanes`."""
     each, kinds, every = [], [], []
     for lane, count in zip(tqdm(lanes, unit="lane", disable=None), counts):
         bits = np.unpackbits(np.frombuffer(lane, np.uint8), bitorder="little")[:count]
@@ -94,13 +94,13 @@ def judged(tool: str, path: str, lanes: Sequence[bytes | bytearray], counts: Seq
 
 
 def encrypted(path: str, counts: Sequence[int]) -> Encryption | None:
-    """How the capture in a file says that it is encrypted, if its lanes align as they are."""
+    """Returns how a capture shows encryption, if its lanes align."""
     starts = alignment_of(Path(path), 0, by_guards=False)
     return encryption_in(Columns(Path(path), starts, counts)) if starts else None
 
 
 def far_of(tool: str, path: str, lanes: Sequence[Bits]) -> list[str]:
-    """What is said if openings fit at a skew at which no lanes are aligned; nothing if none do."""
+    """Returns a message if openings fit at a skew that is too large to align."""
     fits = openings.fits([bits[: openings.MOST_BITS] for bits in lanes])
     best = fits.best if fits else None
     if best is None or not best.openings or best.spread <= MOST_SKEW:
@@ -116,7 +116,7 @@ def far_of(tool: str, path: str, lanes: Sequence[Bits]) -> list[str]:
 def together(
     tool: str, path: str, lanes: Sequence[Bits], counts: Sequence[int], locked: Sequence[tuple[Turn, Ends]]
 ) -> tuple[list[str], bool]:
-    """What is said of three lanes that lock, and whether they are right as they are."""
+    """Describes three lanes that lock, and says whether they are right."""
     turns = [turn for turn, _ in locked]
     is_turned = any(turn != AS_IT_IS for turn in turns)
     rows = paired([ends for _, ends in locked])

@@ -1,6 +1,7 @@
-"""How much of the damage of coded rows a receiver can see. A wrong bit shows only if the character, or a later one of the row,
-contradicts the coding; how often it does depends on the picture. So known damage is planted into rows like those that were sent, and
-counted in the same way as the damage that came."""
+"""Measures how much of the damage of coded rows a receiver can see.
+
+A wrong bit is visible only if its character, or a later one of the row, contradicts the coding. How often that happens depends on the
+picture. So known damage is planted into rows like those that were sent, and counted in the same way as the real damage."""
 
 from __future__ import annotations
 
@@ -14,13 +15,13 @@ from vabgrot.lanes.coding import BALANCE, BITS, COUNT
 from vabgrot.lanes.search import BYTE, PLACES, SENT_AT, START, Ints, encoded, machine, seen, steps_of
 
 Floats = npt.NDArray[np.float64]
-IS_SENT = np.array([np.isin(np.arange(COUNT), codes) for codes in SENT_AT])  # at each disparity
-ALIKE = 3  # of the four nearest bytes, from which on a picture is flat there
+IS_SENT = np.array([np.isin(np.arange(COUNT), codes) for codes in SENT_AT])  # the characters that are sent at each disparity
+ALIKE = 3  # a picture is flat at a byte if this many of the four nearest bytes are equal
 
 
 def smoothed(octets: Ints) -> Ints:
-    """Rows of bytes without single ones in flat parts. Damage that no receiver sees makes such bytes, and they would hide that the
-    picture is flat."""
+    """Removes single different bytes from flat parts of rows. Invisible damage makes such bytes. They would hide that the picture is
+    flat."""
     near = [np.roll(octets, turn, axis=0) for turn in (2, 1, -1, -2)]
     found = octets.copy()
     for one in near[:2]:
@@ -31,14 +32,14 @@ def smoothed(octets: Ints) -> Ints:
 
 
 def likely(columns: Ints) -> Ints:
-    """Rows like those that were sent: the bytes of a least explanation, smoothed, and coded anew."""
+    """Returns rows like those that were sent: the bytes of a least explanation, smoothed and encoded."""
     sent = steps_of(columns, machine("bits").path(columns)).sent
     return encoded(smoothed(smoothed(BYTE[sent])))
 
 
 def at_once_and_later() -> tuple[Ints, Ints, Ints]:
-    """For each disparity and character that is sent: how many of its ten bits contradict the coding at once if they are wrong, and how
-    many do not and raise, or lower, the disparity by 2."""
+    """For each disparity and sent character, counts the wrong bits by their effect: contradict the coding at once; raise the disparity by
+    2; lower it by 2."""
     at_once, up, down = (np.zeros((PLACES, COUNT), np.int64) for _ in range(3))
     words = np.arange(COUNT)
     for state in range(PLACES):
@@ -56,7 +57,7 @@ VISIBLE = at_once_and_later()
 
 
 def shares_of(sent: Ints) -> Floats:
-    """The share of the single wrong bits of each row that was sent that a receiver can see."""
+    """Returns for each sent row the share of its single wrong bits that a receiver can see."""
     turns = np.cumsum(BALANCE[sent] // 2, axis=0)
     states = START + np.concatenate([np.zeros((1, sent.shape[1]), np.int64), turns[:-1]])
     at_once, up, down = (table[states, sent] for table in VISIBLE)
@@ -71,7 +72,7 @@ def shares_of(sent: Ints) -> Floats:
 
 
 def flipped(columns: Ints, rate: float, random: np.random.Generator) -> Ints:
-    """The characters with each bit wrong with a chance of `rate`."""
+    """Inverts each bit with the probability `rate`."""
     at = random.choice(TEN * columns.size, random.binomial(TEN * columns.size, rate), replace=False, shuffle=False)
     masks = np.zeros(columns.size, columns.dtype)
     np.bitwise_or.at(masks, at // TEN, (1 << at % TEN).astype(columns.dtype))
@@ -79,7 +80,7 @@ def flipped(columns: Ints, rate: float, random: np.random.Generator) -> Ints:
 
 
 def replaced(columns: Ints, rate: float, random: np.random.Generator) -> Ints:
-    """The characters, each with a chance of `rate` replaced by ten random bits."""
+    """Replaces each character by ten random bits with the probability `rate`."""
     at = random.choice(columns.size, random.binomial(columns.size, rate), replace=False, shuffle=False)
     made = columns.copy().ravel()
     made[at] = random.integers(0, COUNT, len(at))
@@ -87,8 +88,8 @@ def replaced(columns: Ints, rate: float, random: np.random.Generator) -> Ints:
 
 
 class Planted(NamedTuple):
-    """What came of planted damage: the mean of both counts in a row, their covariance between rows, the shares of the planted wrong
-    bits and damaged characters that were seen, and the variances of these shares over their squares."""
+    """The result of planted damage: the mean of both counts for a row, their covariance between rows, the visible shares of wrong bits
+    and of damaged characters, and the variance of these shares divided by their square."""
 
     mean: Floats
     spread: Floats
@@ -97,24 +98,24 @@ class Planted(NamedTuple):
 
     @property
     def share(self) -> float:
-        """The share of the planted wrong bits that was seen."""
+        """The visible share of the planted wrong bits."""
         return self.shares[0]
 
 
 class Planter:
-    """Plants damage into rows, `count` of them, and counts how much of it is seen."""
+    """Plants damage into `count` rows, and counts how much of it is visible."""
 
     def __init__(self, clean: Ints, count: int, random: np.random.Generator) -> None:
         chosen = random.permutation(clean.shape[1])[:count]
         self.rows, self.random = np.tile(clean[:, chosen], (1, max(1, count // len(chosen)))), random
 
     def damaged(self, bits: float, characters: float) -> Ints:
-        """The rows with single bits wrong and whole characters replaced at these rates."""
+        """Returns rows with single wrong bits and replaced characters at these rates."""
         rows = flipped(self.rows, bits, self.random) if bits else self.rows
         return replaced(rows, characters, self.random) if characters else rows
 
     def seen(self, bits: float, characters: float) -> Planted:
-        """Plants single bits and whole characters at these rates."""
+        """Plants damage at these rates and counts what is visible."""
         rows = self.damaged(bits, characters)
         found = np.stack(seen(rows)).astype(np.float64)
         unlike = rows ^ self.rows

@@ -1,4 +1,4 @@
-"""Words of ten bits each, as FPGA deserialisers and simulations dump them, into the bits of a lane, and back."""
+"""Converts files of ten-bit words, as FPGA deserialisers and simulations dump them, to the bits of a lane and back."""
 
 import re
 
@@ -17,8 +17,8 @@ COMMENT = re.compile(rb"//[^\n]*")
 
 
 def words_of(data: bytes, width: int, path: str) -> Words:
-    """The words of a file as an array: of 16 or 32 bits, low byte first; or where `width` is ten hexadecimal numbers with
-    spaces or ends of lines between them, as Verilog's $readmemh reads and $writememh writes them. Raises Refused, with the path."""
+    """Reads the words of a file. With `width` 16 or 32 these are binary, low byte first. With `width` 10 they are hexadecimal numbers
+    with spaces or line ends between them, as $readmemh and $writememh use. Raises Refused, which names `path`."""
     if width != TEN:
         if len(data) % (width // 8):
             raise Refused(f"{path}: its {len(data)} bytes are no whole number of words of {width} bits")
@@ -35,15 +35,14 @@ def words_of(data: bytes, width: int, path: str) -> Words:
 
 
 def bits_of(words: Words, msb: bool) -> npt.NDArray[np.bool_]:
-    """The lowest ten bits of each word of an array of unsigned numbers as booleans, one after another from the lowest, or
-    with `msb` from the highest on."""
+    """Returns the lowest ten bits of each word as booleans. The lowest bit comes first, with `msb` the highest."""
     places = np.arange(TEN)[:: -1 if msb else 1]
     bits: npt.NDArray[np.bool_] = (words[:, None] >> places.astype(words.dtype) & 1).astype(bool).reshape(-1)
     return bits
 
 
 def joined(words: Words, msb: bool) -> bytes:
-    """The bytes that have `bits_of` an array of words."""
+    """Packs the bits of words (see `bits_of`) into bytes."""
     parts = []
     for at in tqdm(range(0, len(words), PART), unit="part", disable=None):
         parts.append(np.packbits(bits_of(words[at : at + PART], msb), bitorder="little").tobytes())
@@ -51,7 +50,7 @@ def joined(words: Words, msb: bool) -> bytes:
 
 
 def parted(lane: bytes | bytearray, count: int, width: int, msb: bool) -> bytes:
-    """The file of the words that have these bits of a lane, ten each, for `words_of`; zeros follow the last."""
+    """Returns a file for `words_of` with the first `count` bits of a lane, ten in each word. The last word is padded with zeros."""
     worth = (1 << np.arange(TEN)[:: -1 if msb else 1]).astype("<u4" if width == 32 else "<u2")
     bits, size, parts = np.frombuffer(lane, np.uint8), PART * TEN // 8, []
     for at in tqdm(range(0, len(bits), size), unit="part", disable=None):
