@@ -41,6 +41,9 @@ class Source:
     audio: tuple = (1, 0, 0, 0, 0)  # PB1 to PB5 of the audio InfoFrame
     avi_error: int = 0
     reserved: int = 0
+    aspect: int = 0  # M of the AVI InfoFrame
+    burst: int = 0  # lines at the beginning of a field in which all its samples come; 0 for all lines
+    holes: bool = False  # whether two samples of a packet are in its first and third body
     control: list = field(default_factory=list)  # (line of the field, bytes of the body)
     least: int = 32  # control columns before a row at most where none is extended
 
@@ -48,7 +51,7 @@ class Source:
         """The packets of a line of a field: InfoFrames early, samples on each line."""
         found = []
         if line == 1 and self.has_avi and number % self.avi_every == 0:
-            found.append(infoframe(0x82, 2, [0x10 | self.reserved, 8, 0, self.vic, 0] + [0] * 8, self.avi_error))
+            found.append(infoframe(0x82, 2, [0x10 | self.reserved, 8 | self.aspect << 4, 0, self.vic, 0] + [0] * 8, self.avi_error))
         if line == 2 and self.rate and self.has_audio:
             found.append(infoframe(0x84, 1, [*self.audio, 0, 0, 0, 0, 0]))
         if line % 40 == 3 and self.rate:
@@ -64,14 +67,18 @@ class Source:
     def samples(self, number, line):
         """As many packets as the samples need that are due up to this line."""
         total = sum(self.across)
-        passed = (number * sum(self.down) + line + 1) * total
+        part = min(1, (line + 1) / self.burst) * sum(self.down) if self.burst else line + 1
+        passed = (number * sum(self.down) + part) * total
         due = int(passed * self.rate * self.speed / self.clock)
         found = []
         while self.sent < due:
             count = min(4, due - self.sent)
             bodies = [self.sample(self.sent + place) for place in range(count)]
-            starts = sum(1 << 4 + place for place in range(count) if (self.sent + place) % self.block == 0)
-            found.append((bytes([2, (1 << count) - 1, starts]), b"".join(bodies).ljust(28, b"\0")))
+            places = (0, 2) if self.holes and count == 2 else range(count)
+            starts = sum(1 << 4 + place for at, place in enumerate(places) if (self.sent + at) % self.block == 0)
+            each = dict(zip(places, bodies))
+            data = b"".join(each.get(place, bytes(7)) for place in range(4))
+            found.append((bytes([2, sum(1 << place for place in places), starts]), data))
             self.sent += count
         return found
 

@@ -236,14 +236,14 @@ def _alike(lines: str) -> tuple[Line, ...]:
 
 
 AVI_2 = {
-    **{"Y": Field(1, 5, 2), "A": Field(1, 4, 1), "B": Field(1, 2, 2), "S": Field(1, 0, 2)},
-    **{"C": Field(2, 6, 2), "M": Field(2, 4, 2), "R": Field(2, 0, 4)},
-    **{"ITC": Field(3, 7, 1), "EC": Field(3, 4, 3), "Q": Field(3, 2, 2), "SC": Field(3, 0, 2), "VIC": Field(4, 0, 7)},
-    **{"YQ": Field(5, 6, 2), "CN": Field(5, 4, 2), "PR": Field(5, 0, 4)},
+    **{"Y": Field(1, 5, 2, allowed=range(3)), "A": Field(1, 4, 1), "B": Field(1, 2, 2), "S": Field(1, 0, 2, allowed=range(3))},
+    **{"C": Field(2, 6, 2), "M": Field(2, 4, 2, allowed=range(3)), "R": Field(2, 0, 4)},
+    **{"ITC": Field(3, 7, 1), "EC": Field(3, 4, 3, allowed=range(5)), "Q": Field(3, 2, 2, allowed=range(3)), "SC": Field(3, 0, 2)},
+    **{"VIC": Field(4, 0, 7), "YQ": Field(5, 6, 2, allowed=range(2)), "CN": Field(5, 4, 2), "PR": Field(5, 0, 4, allowed=range(10))},
     **{"top": Field(6, 0, 16), "bottom": Field(8, 0, 16), "left": Field(10, 0, 16), "right": Field(12, 0, 16)},
 }
-AVI_3 = {**AVI_2, "Y": Field(1, 5, 3), "VIC": Field(4, 0, 8)}
-AVI_4 = {**AVI_3, "ACE": Field(14, 4, 4)}
+AVI_3 = {**AVI_2, "Y": Field(1, 5, 3, allowed=(0, 1, 2, 3, 7)), "EC": Field(3, 4, 3, allowed=range(7)), "VIC": Field(4, 0, 8)}
+AVI_4 = {**AVI_3, "EC": Field(3, 4, 3), "ACE": Field(14, 4, 4)}
 AVI_4_LINES = (
     *_alike("format|Y|FORMATS\npicture|VIC|MODES\naspect|M|ASPECTS"),
     Line("colour", "extended: {ACE:ADDITIONAL}", "C 3, EC 7, ACE {ACE}", {"C": (3,), "EC": (7,)}),
@@ -261,7 +261,8 @@ AVI_4_LINES = (
 AVI_LINES = tuple(line for line in AVI_4_LINES if "{ACE}" not in line.number)
 AUDIO_FIELDS = {
     **{"CC": Field(1, 0, 3), "CT": Field(1, 4, 4), "SS": Field(2, 0, 2), "SF": Field(2, 2, 3), "CXT": Field(3, 0, 5)},
-    **{"CA": Field(4, 0, 8), "LFEPBL": Field(5, 0, 2), "LSV": Field(5, 3, 4), "DM_INH": Field(5, 7, 1)},
+    **{"CA": Field(4, 0, 8, allowed=range(0x32)), "LFEPBL": Field(5, 0, 2, allowed=range(3)), "LSV": Field(5, 3, 4)},
+    "DM_INH": Field(5, 7, 1),
 }
 AUDIO_LINES = (
     *_alike("channels|CC|CHANNELS"),
@@ -283,7 +284,7 @@ MPEG_LINES = (
 )
 POINTS = {"primary 0": ("x0", "y0"), "primary 1": ("x1", "y1"), "primary 2": ("x2", "y2"), "white point": ("white_x", "white_y")}
 DYNAMIC_FIELDS = {
-    **{"EOTF": Field(1, 0, 3), "Static_Metadata_Descriptor_ID": Field(2, 0, 3)},
+    **{"EOTF": Field(1, 0, 3, allowed=range(4)), "Static_Metadata_Descriptor_ID": Field(2, 0, 3, allowed=(0,))},
     **{name: Field(3 + 2 * place, 0, 16) for place, name in enumerate(name for pair in POINTS.values() for name in pair)},
     **{name: Field(19 + 2 * place, 0, 16) for place, name in enumerate(("max", "min", "MaxCLL", "MaxFALL"))},
 }
@@ -306,7 +307,7 @@ VENDOR_LINES = (
     Line("registered to", "HDR10+ Technologies", "IEEE {IEEE:06x}", {"IEEE": (HDR10_PLUS,)}),
     Line("registered to", "IEEE {IEEE:06x}", "IEEE {IEEE:06x}"),
 )
-FORMAT = {"HDMI_Video_Format": Field(4, 5, 3)}
+FORMAT = {"HDMI_Video_Format": Field(4, 5, 3, allowed=range(3))}
 FORMAT_LINES = (*VENDOR_LINES, *_alike("video format|HDMI_Video_Format|VIDEO_FORMATS"))
 FEW, MORE = range(8), range(8, 16)  # the numbers of 3D structures without and with 3D_Ext_Data
 STEREO_FURTHER = {
@@ -455,7 +456,7 @@ LAYOUTS = {
     "product": Layout(
         (Type.PRODUCT, 1, 25),
         "CTA-861, 6.5",
-        {"kind": Field(25, 0, 8)},
+        {"kind": Field(25, 0, 8, allowed=range(14))},
         PRODUCT_LINES,
         {"vendor": Octets(1, 8), "product": Octets(9, 16)},
         text=(1, 24),
@@ -465,7 +466,7 @@ LAYOUTS = {
     "hdmi": Layout(
         (Type.VENDOR, 1, 5),
         "HDMI 1.4, 8.2.3",
-        FORMAT | {"HDMI_VIC": Field(5, 0, 8)},
+        FORMAT | {"HDMI_VIC": Field(5, 0, 8, allowed=range(1, 5))},
         (*FORMAT_LINES, Line("picture", "{HDMI_VIC:FOUR_K}", "HDMI_VIC {HDMI_VIC}", {"HDMI_Video_Format": (1,)})),
         where={"IEEE": HDMI},
         least=4,
@@ -475,7 +476,7 @@ LAYOUTS = {
     "3d": Layout(
         (Type.VENDOR, 1, 6),
         "HDMI 1.4, 8.2.3",
-        FORMAT | {"3D_Structure": Field(5, 4, 4), "3D_Ext_Data": Field(6, 4, 4)},
+        FORMAT | {"3D_Structure": Field(5, 4, 4, allowed=(*range(7), 8)), "3D_Ext_Data": Field(6, 4, 4)},
         STEREO_LINES,
         {"behind PB6": Octets(7, "length in PB6"), "behind PB7": Octets(8, "length in PB7")},
         where={"IEEE": HDMI, "HDMI_Video_Format": 2},
@@ -606,6 +607,7 @@ LAYOUTS = {
     "extended": Layout((Type.EXTENDED, 0, 0), "HDMI 2.1, 8.8", EXTENDED_FIELDS, EXTENDED_LINES, judged=NOTHING, is_offered=True),
 }
 OFFERED = {name: layout for name, layout in LAYOUTS.items() if layout.is_offered}
+LENGTHS = {layout.header[:2]: layout.header[2] for layout in LAYOUTS.values() if layout.is_infoframe and layout.least is None}
 OTHER = (Reserved(True, 2, 0xE0, "HB2"),)  # the reserved bits of an InfoFrame that no layout has
 
 

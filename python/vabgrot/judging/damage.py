@@ -197,8 +197,8 @@ def found_in(whole: Ints, order: Ints, pattern: Ints) -> Iterator[int]:
 
 
 class Compared(NamedTuple):
-    """The result of a comparison: the damaged characters, and for each kind the number of characters on one lane that both captures have.
-    """
+    """The result of a comparison: the damaged characters, and for each kind the number of characters on one lane that both captures
+    have."""
 
     hits: list[Hit]
     exposed: dict[str, int]

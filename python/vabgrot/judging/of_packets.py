@@ -7,15 +7,17 @@ from collections.abc import Callable, Iterator
 import numpy as np
 
 from vabgrot.events import Ints
-from vabgrot.formats.layouts import LAYOUTS, MOST_LENGTH, OTHER, Reserved, Type
+from vabgrot.formats.layouts import LAYOUTS, LENGTHS, MOST_LENGTH, OTHER, Layout, Reserved, Type
+from vabgrot.formats.modes import of_vic
 from vabgrot.formats.names import DEPTHS
-from vabgrot.infoframes import form_of, layout_of
+from vabgrot.infoframes import form_of, layout_of, numbers_of
 from vabgrot.judging.record import Placed
 from vabgrot.judging.verdicts import Case, Verdict, counted, every_two, failed, passed, unjudged
-from vabgrot.packets import STRICT, Packet
+from vabgrot.packets import Packet
 
 MUTE_WINDOW = 384  # columns
 GROUPS = {5: 5, 6: 3, 7: 2}  # columns of a group of pixels, by CD of General Control
+ASPECTS = {1: "4:3", 2: "16:9"}  # by M of an AVI InfoFrame
 PHASES = {5: {0: 0, 2: 1, 3: 2, 4: 3}, 6: {0: 2, 2: 1}, 7: {0: 1}}  # the phase of the last pixel, by the columns after the last whole group
 
 
@@ -43,7 +45,7 @@ def wrong_of(packets: list[Placed], wrong: Callable[[Packet], str]) -> list[tupl
 
 def length_of(packet: Packet) -> str:
     """Says what is wrong with an InfoFrame's length."""
-    length, known = packet.length, STRICT.get((packet.kind, packet.version))
+    length, known = packet.length, LENGTHS.get((packet.kind, packet.version))
     if known is not None and length != known:
         return f"a length of {length}, wants {known}"
     return f"a length of {length}, wants at most {MOST_LENGTH}" if length > MOST_LENGTH else ""
@@ -65,14 +67,20 @@ def checksum_of(packet: Packet) -> str:
     return f"its bytes sum to {total:02x}, and checksum {checksum:02x} wants {(checksum - total) % 256:02x}{because}"
 
 
-def reserved_in(packet: Packet) -> tuple[Reserved, ...]:
-    """Returns the reserved bits of a packet: those of its layout. For an InfoFrame with another version it returns those that all
-    InfoFrames have."""
+def known_of(packet: Packet) -> Layout | None:
+    """Returns the layout of a packet, or None if its type is not known or its version is newer than the known ones."""
     layout = layout_of(packet.header, packet.bytes) or form_of(packet.header)
-    is_known = layout is not None and (packet.version <= layout.header[1] or layout.least is not None)
-    if packet.is_infoframe and not is_known:
-        return OTHER
-    return layout.reserved if layout else ()
+    is_newer = packet.is_infoframe and layout is not None and layout.least is None and packet.version > layout.header[1]
+    return None if is_newer else layout
+
+
+def reserved_in(packet: Packet) -> tuple[Reserved, ...]:
+    """Returns the reserved bits of a packet: those of its layout. For an InfoFrame without a known layout it returns those that all
+    InfoFrames have."""
+    layout = known_of(packet)
+    if layout is None:
+        return OTHER if packet.is_infoframe else ()
+    return layout.reserved
 
 
 def reserved_of(packet: Packet) -> str:
@@ -90,6 +98,28 @@ def reserved(case: Case) -> list[tuple[Placed, str]]:
     its = LAYOUTS["samples"].reserved
     wrong = [one for one in case.whole if one.packet.kind != Type.SAMPLES or any(it.of(one.packet.header, b"")[1] for it in its)]
     return wrong_of(wrong, reserved_of)
+
+
+def values_of(packet: Packet) -> str:
+    """Says which fields of an InfoFrame have a reserved value. The extended colorimetry counts only if it is used."""
+    layout = known_of(packet)
+    if layout is None or not packet.is_infoframe:
+        return ""
+    numbers, fields = numbers_of(layout, packet.header, packet.bytes), layout.all_fields
+    is_unused = {"EC": numbers.get("C") != 3}
+    judged = {name: fields[name].allowed for name in numbers if not is_unused.get(name)}
+    wrong = [f"{name} {numbers[name]}" for name, allowed in judged.items() if allowed is not None and numbers[name] not in allowed]
+    return f"{', '.join(wrong)}: {'a reserved value' if len(wrong) == 1 else 'reserved values'}" if wrong else ""
+
+
+def aspect_of(packet: Packet) -> str:
+    """Says whether an AVI InfoFrame gives another aspect ratio than its video code has."""
+    its = packet.numbers
+    vic, wanted = its.get("VIC", 0), of_vic(its.get("VIC", 0))
+    says = ASPECTS.get(its.get("M", 0))
+    if wanted is None or says is None or wanted.aspect not in ASPECTS.values() or wanted.aspect == says:
+        return ""
+    return f"M {its['M']} ({says}), and VIC {vic} has {wanted.aspect}"
 
 
 def control_of(packet: Packet) -> str:
@@ -173,6 +203,9 @@ def judged(case: Case) -> Iterator[Verdict]:
     yield first_of("InfoFrame length", wrong_of(frames, length_of), len(frames), "InfoFrame")
     yield first_of("checksum", wrong_of(frames, checksum_of), len(frames), "InfoFrame")
     yield first_of("reserved bits", reserved(case), len(case.whole), "packet")
+    yield first_of("field values", wrong_of(frames, values_of), len(frames), "InfoFrame")
+    avis = [one for one in frames if one.packet.kind == Type.AVI]
+    yield first_of("picture aspect", wrong_of(avis, aspect_of), len(avis), "AVI InfoFrame")
     control = case.of_kind(Type.CONTROL)
     yield first_of("general control", wrong_of(control, control_of), len(control), "general control packet")
     yield mutes(case)
