@@ -1,1 +1,1 @@
-"""A link that comes in part by part: its events, frames and sound as arrays, and the formats in which they leave."""
+"""A live link, received part by part: its events, frames and sound as arrays, and the output formats."""

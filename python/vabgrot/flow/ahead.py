@@ -1,4 +1,4 @@
-"""A generator that runs ahead of its reader, in a thread of its own."""
+"""Runs a generator ahead of its reader, in a separate thread."""
 
 from __future__ import annotations
 
@@ -8,12 +8,12 @@ from collections.abc import Iterable, Iterator
 from typing import Generic, TypeVar
 
 Item = TypeVar("Item")
-DEPTH = 4  # items that wait for their reader
+DEPTH = 4  # the most items that wait for their reader
 
 
 class Ahead(Generic[Item]):
-    """Iterates over what another iterable gives. The C library lets other threads run while it receives. What the iterable raises is
-    raised here."""
+    """Iterates over the items of another iterable, which runs in a thread. The C library lets other threads run while it receives. An
+    error of the iterable is raised here."""
 
     def __init__(self, source: Iterable[Item]) -> None:
         self.source = source
@@ -23,7 +23,7 @@ class Ahead(Generic[Item]):
         self.thread.start()
 
     def run(self) -> None:
-        """Takes all items; an end or an error is told by None."""
+        """Takes all items. Puts None at the end, also after an error."""
         try:
             for item in self.source:
                 self.waiting.put(item)

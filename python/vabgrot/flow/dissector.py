@@ -1,4 +1,5 @@
-"""Wireshark's dissector of packets in Lua, made of the table of `formats.layouts`. share/wireshark/vabgrot.lua is what `lua` makes."""
+"""Makes the Wireshark dissector of packets, in Lua, from the table in `formats.layouts`. The function `lua` returns the text of
+share/wireshark/vabgrot.lua."""
 
 from __future__ import annotations
 
@@ -8,7 +9,7 @@ from collections.abc import Iterator
 from vabgrot.formats.layouts import BODIES, BODY, BY_TYPE, CARRIED, HEADER, LAYOUTS, NAMES, SIZE, Field, Layout
 from vabgrot.infoframes import HOLE, TABLES
 
-HEAD_BYTES = 20  # of a record before its packet
+HEAD_BYTES = 20  # bytes of a record before its packet
 WORD = re.compile(r"[^A-Za-z0-9]+")
 BEGIN = f"""-- Wireshark's dissector of the packets that `tools/packets --pcap` writes. Made by `tools/packets --dissector`: do not edit it.
 -- A record has {HEAD_BYTES} bytes, then the {CARRIED} bytes of the packet: column (8), epoch (4), frame (4), lost blocks, mended blocks
@@ -108,17 +109,17 @@ DissectorTable.get("wtap_encap"):add((wtap_encaps or wtap).USER0, hdmi)
 
 
 def key_of(*names: str) -> str:
-    """The name of a field in filters."""
+    """Returns the name of a field in Wireshark's filters."""
     return ".".join(WORD.sub("_", name).strip("_") for name in names)
 
 
 def quoted(text: str) -> str:
-    """A text of Lua."""
+    """Returns a text as a Lua string."""
     return '"' + text.replace("\\", "\\\\").replace('"', '\\"') + '"'
 
 
 def table_of(layout: Layout, name: str) -> str:
-    """The table of words in which a field is shown; nothing if it is shown as a number."""
+    """Returns the table of words for a field, or nothing if the field is shown as a number."""
     for line in layout.lines:
         for label, how in HOLE.findall(line.says):
             if label == name and how in TABLES:
@@ -127,13 +128,13 @@ def table_of(layout: Layout, name: str) -> str:
 
 
 def place_of(it: Field) -> str:
-    """Where a field is."""
+    """Returns the place of a field as Lua code."""
     flags = ", header = true" * it.in_header + ", big = true" * it.is_big
     return f"byte = {it.byte}, size = {it.size}, low = {it.low}, bits = {it.bits}{flags}"
 
 
 def field_of(key: str, layout: Layout, name: str, it: Field) -> str:
-    """The line of a field."""
+    """Returns the line of a field."""
     table = table_of(layout, name)
     words = f", base.DEC, words.{table}" if table else ""
     made = f"field(ProtoField.uint32, {quoted(key_of(key, name))}, {quoted(name)}{words})"
@@ -141,7 +142,7 @@ def field_of(key: str, layout: Layout, name: str, it: Field) -> str:
 
 
 def octets_of(key: str, layout: Layout, name: str) -> str:
-    """The line of bytes that are shown as they are. How many they are may be said by a field: then they go on to the length."""
+    """Returns the line for bytes that are shown unchanged. If a field gives their number, they extend to the packet's length."""
     its = layout.octets[name]
     is_text = any((label, how) == (name, "text") for line in layout.lines for label, how in HOLE.findall(line.says))
     most = f", most = {its.most}" if isinstance(its.most, int) else ""
@@ -151,7 +152,7 @@ def octets_of(key: str, layout: Layout, name: str) -> str:
 
 
 def layout_lines(key: str, layout: Layout) -> Iterator[str]:
-    """The lines of a layout."""
+    """Yields the lines of a layout."""
     _, version, length = layout.header
     least = f", least = {layout.least}" if layout.least else ""
     yield f"    {{ version = {version}, length = {length}{least}, infoframe = {str(layout.is_infoframe).lower()},"
@@ -167,7 +168,7 @@ def layout_lines(key: str, layout: Layout) -> Iterator[str]:
 
 
 def lua() -> str:
-    """The whole dissector."""
+    """Returns the whole dissector."""
     keys = {id(layout): key for key, layout in LAYOUTS.items()}
     used = sorted({table for layout in LAYOUTS.values() for name in layout.all_fields if (table := table_of(layout, name))})
     lines = ["local names = {", *(f"  [{int(kind)}] = {quoted(name)}," for kind, name in NAMES.items()), "}", "local words = {"]

@@ -1,4 +1,4 @@
-"""What a segment of a stream has in common, and the formats in which it leaves: NUT, YUV4MPEG2 and WAV."""
+"""Output formats of a stream (NUT, YUV4MPEG2 and WAV), and the properties that a segment has."""
 
 from __future__ import annotations
 
@@ -21,18 +21,18 @@ from vabgrot.replacing import naming
 from vabgrot.video.colours import BT601, BT709, Bytes, Encoding, Samples, Signal
 from vabgrot.video.images import Colours
 
-HD = 1280  # pixels of a row from which on players take the matrix of BT.709
-MOST_BASE = (1 << 31) - 1  # of the two numbers of a time base
+HD = 1280  # pixels of a row; players use the matrix of BT.709 from this width
+MOST_BASE = (1 << 31) - 1  # the limit of both numbers of a time base
 NO_AV = "NUT is written by Debian's package python3-av, which is missing; --y4m and --wav need no package"
 BAND = 16  # rows that are converted at a time
-SAMPLE = 3  # bytes of a sample of one channel
+SAMPLE = 3  # bytes of a sample on one channel
 UNKNOWN = 0xFFFFFFFF  # a size of a WAV file that is not known yet
 
 
 @dataclass(frozen=True)
 class Form:
-    """A segment: the size of its pictures, whether they have 16 bits a component, the columns a second, the columns of a picture;
-    of the sound the rate (0 if there is none), the channels that are played, in order, and their mask in a WAV file."""
+    """The properties of a segment. Pictures: their size, whether they have 16 bits a component, the columns a second, and the columns of
+    a picture. Sound: the rate (0 without sound), the channels to play, in order, and their mask in a WAV file."""
 
     width: int
     height: int
@@ -45,15 +45,15 @@ class Form:
 
     @property
     def pictures(self) -> Fraction:
-        """Pictures a second."""
+        """The pictures a second."""
         return (self.pace / self.period).limit_denominator(1001)
 
     def seconds(self, column: int) -> float:
-        """The time of a column."""
+        """Returns the time of a column in seconds."""
         return float(column / self.pace)
 
     def sample(self, column: int) -> int:
-        """The number of the sample of a column's time."""
+        """Returns the number of the sample at the time of a column."""
         return round(column * self.rate / self.pace)
 
     def __str__(self) -> str:
@@ -63,34 +63,34 @@ class Form:
 
 
 def octets_of(values: Values) -> bytes:
-    """Samples of 24 bits, low byte first."""
+    """Returns samples as bytes: 24 bits each, low byte first."""
     return np.ascontiguousarray(values, "<i4").view(np.uint8).reshape(-1, 4)[:, :SAMPLE].tobytes()
 
 
 class Sink(Protocol):
-    """Takes a stream, segment by segment."""
+    """Writes a stream, segment by segment."""
 
     def begin(self, form: Form, number: int) -> None:
-        """A segment begins, the first one with number 1."""
+        """Begins a segment. The first one has number 1."""
 
     def picture(self, column: int, colours: Colours) -> None:
-        """A picture, which began at a column."""
+        """Writes a picture that begins at a column."""
 
     def sound(self, at: int, values: Values) -> None:
-        """Samples, the first of which has a number."""
+        """Writes samples. The first one has the number `at`."""
 
     def end(self) -> None:
-        """The segment ends."""
+        """Ends the segment."""
 
 
 def numbered(path: str, number: int) -> str:
-    """The file of a segment: later ones have their number before the suffix."""
+    """Returns the file name of a segment. From the second one on, a number is added before the suffix."""
     it = Path(path)
     return path if number == 1 else str(it.with_name(f"{it.stem}.{number}{it.suffix}"))
 
 
 class Nut:
-    """NUT, by PyAV, into a file or standard output."""
+    """Writes NUT with PyAV, to a file or to standard output."""
 
     def __init__(self, path: str) -> None:
         try:
@@ -104,7 +104,7 @@ class Nut:
         self.audio: Any = None
 
     def begin(self, form: Form, number: int) -> None:
-        """Opens a file, or goes on in the one that has all segments."""
+        """Opens a file, or continues the one that contains all segments."""
         if self.path == "-":
             sys.stdout.flush()
             self.name, url = "standard output", f"pipe:{sys.stdout.fileno()}"
@@ -149,7 +149,7 @@ class Nut:
 
     @contextmanager
     def errors(self) -> Iterator[None]:
-        """Errors of the file as those of the system."""
+        """Turns errors of PyAV into errors of the system."""
         try:
             yield
         except self.av.error.FFmpegError as why:
@@ -157,14 +157,14 @@ class Nut:
 
 
 class Plain:
-    """A file that is written as it comes, one for each segment; "-" is standard output, which has all of them."""
+    """A file that is written directly, one for each segment. With "-" all segments go to standard output."""
 
     def __init__(self, path: str) -> None:
         self.path, self.name = path, path
         self.file: IO[bytes] | None = None
 
     def opened(self, number: int) -> IO[bytes]:
-        """The file of a segment."""
+        """Opens the file of a segment."""
         if self.path == "-":
             self.name, self.file = "standard output", sys.stdout.buffer
         else:
@@ -189,10 +189,11 @@ class Plain:
 
 
 class Y4m(Plain):
-    """YUV4MPEG2: YCbCr 4:4:4 of eight bits and limited range, by BT.709 from 1,280 pixels a row on and else by BT.601."""
+    """Writes YUV4MPEG2: YCbCr 4:4:4 with eight bits and limited range. The matrix is BT.709 from 1,280 pixels a row on, below that
+    BT.601."""
 
     def begin(self, form: Form, number: int) -> None:
-        """Writes the head."""
+        """Writes the header."""
         self.opened(number)
         self.signal = Signal(Encoding.YCC444, BT709 if form.width >= HD else BT601, is_full=False)
         rate, size = form.pictures, f"W{form.width} H{form.height}"
@@ -204,15 +205,16 @@ class Y4m(Plain):
         self.write(planes_of(colours, self.signal))
 
     def sound(self, at: int, values: Values) -> None:
-        """There is no sound in it."""
+        """Does nothing: the format has no sound."""
 
 
 class Wav(Plain):
-    """A WAV file of 24 bits a sample; of more than two channels one with a channel mask. Its sizes are those of a file without an end until
-    it ends, and then its own if the file is no pipe."""
+    """Writes a WAV file with 24-bit samples. With more than two channels it has a channel mask.
+
+    The sizes in the header say "unlimited" until the file ends. Then the true sizes are written, unless it is a pipe."""
 
     def begin(self, form: Form, number: int) -> None:
-        """Writes the head, if there is sound."""
+        """Writes the header, if there is sound."""
         self.form, self.size = form, 0
         if form.rate:
             self.opened(number)
@@ -220,7 +222,7 @@ class Wav(Plain):
             self.write(sized(self.head, UNKNOWN))
 
     def picture(self, column: int, colours: Colours) -> None:
-        """There are no pictures in it."""
+        """Does nothing: the format has no pictures."""
 
     def sound(self, at: int, values: Values) -> None:
         """Writes samples."""
@@ -229,7 +231,7 @@ class Wav(Plain):
         self.write(octets)
 
     def end(self) -> None:
-        """Writes the sizes."""
+        """Writes the true sizes."""
         if self.file and self.path != "-" and self.file.seekable():
             with naming(self.name):
                 if self.size % 2:
@@ -240,7 +242,7 @@ class Wav(Plain):
 
 
 def head_of(form: Form) -> bytes:
-    """The head of a WAV file, up to its samples."""
+    """Returns the header of a WAV file, up to the samples."""
     import soundfile
 
     out, count = io.BytesIO(), len(form.channels)
@@ -248,19 +250,19 @@ def head_of(form: Form) -> bytes:
     data = bytearray(out.getvalue())
     end = data.index(b"data") + 8
     if count > 2:
-        at = data.index(b"fmt ") + 8 + 20  # of the channel mask
+        at = data.index(b"fmt ") + 8 + 20  # the channel mask
         data[at : at + 4] = form.mask.to_bytes(4, "little")
     return bytes(data[:end])
 
 
 def sized(head: bytes, size: int) -> bytes:
-    """A head for so many bytes of samples."""
+    """Returns the header for `size` bytes of samples."""
     whole = min(len(head) - 8 + size + size % 2, UNKNOWN)
     return head[:4] + whole.to_bytes(4, "little") + head[8:-4] + min(size, UNKNOWN).to_bytes(4, "little")
 
 
 def planes_of(colours: Colours, signal: Signal) -> Bytes:
-    """Y, Cb and Cr of red, green and blue, a plane each, the nearest numbers."""
+    """Converts red, green and blue to planes of Y, Cb and Cr, rounded."""
     matrix, most = signal.matrix or BT709, 65_535 if colours.dtype == np.uint16 else 255
     luma = np.array([matrix.red, matrix.green, matrix.blue])
     blue, red = ((np.eye(3)[at] - luma) / (2 * (1 - part)) for at, part in ((2, matrix.blue), (0, matrix.red)))
@@ -273,7 +275,7 @@ def planes_of(colours: Colours, signal: Signal) -> Bytes:
 
 
 def widened(colours: Colours, is_deep: bool) -> Colours:
-    """Colours with as many bits as those of a segment."""
+    """Returns colours with the segment's number of bits."""
     if is_deep == (colours.dtype == np.uint16):
         return colours
     if is_deep:
@@ -284,7 +286,7 @@ def widened(colours: Colours, is_deep: bool) -> Colours:
 
 
 def fitted(colours: Colours, form: Form) -> Colours:
-    """Colours of the size of a segment's pictures: cut, or black where there are none."""
+    """Returns colours in the size of the segment's pictures. Larger pictures are cut, smaller ones padded with black."""
     its = widened(colours, form.is_deep)
     if its.shape[:2] == (form.height, form.width):
         return its
@@ -295,5 +297,5 @@ def fitted(colours: Colours, form: Form) -> Colours:
 
 
 def is_terminal() -> bool:
-    """Whether standard output is a terminal, which shows no stream."""
+    """Returns whether standard output is a terminal, which cannot show a stream."""
     return os.isatty(sys.stdout.fileno())

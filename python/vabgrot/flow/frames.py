@@ -1,4 +1,4 @@
-"""The frames of a link that comes in part by part: the rows between two changes of VSYNC."""
+"""Finds the frames of a live link: the rows between two changes of VSYNC."""
 
 from __future__ import annotations
 
@@ -17,14 +17,14 @@ from vabgrot.formats.layouts import Type
 from vabgrot.video.signals import Signals
 from vabgrot.video.weaving import lines_down
 
-MOST_ROWS = 1 << 13  # of a frame: more than any format has
+MOST_ROWS = 1 << 13  # the most rows of a frame; every format has fewer
 HURTS = np.array([kind.word in OF_PICTURE for kind in Kind])
 
 
 @dataclass(eq=False)
 class Frame:
-    """The rows between two changes of VSYNC. `before` is the column of the change before the first one, None where that was not seen;
-    `begin` and `end` those of the two. `firsts` are the columns of the first pixels of its first two rows. `faults` touch it."""
+    """The rows between two changes of VSYNC, which are at `begin` and `end`. `before` is the change before these, or None if it was not
+    seen. `firsts` are the columns of the first pixels of the first two rows. `faults` are those that touch the frame."""
 
     before: int | None
     begin: int
@@ -35,26 +35,27 @@ class Frame:
 
     @property
     def width(self) -> int:
-        """The columns of its first row."""
+        """The columns of the first row."""
         return len(self.rows[0]) // 3
 
     @property
     def across(self) -> int:
-        """The columns from one row to the next; 0 where there is one row."""
+        """The columns from one row to the next, or 0 if there is only one row."""
         return self.firsts[1] - self.firsts[0] if len(self.firsts) > 1 else 0
 
     @property
     def period(self) -> int | None:
-        """The columns from the same change of VSYNC before it to its end."""
+        """The columns between two changes of VSYNC in the same direction, the second of which ends the frame. None if not known."""
         return None if self.before is None else self.end - self.before
 
     @property
     def lines_down(self) -> Fraction | None:
-        """The lines from the change of VSYNC to its first row."""
+        """The lines from the change of VSYNC to the first row."""
         return lines_down(self.begin, [*self.firsts])
 
     def columns(self) -> Octets:
-        """Its columns as an array of rows by columns by three. As wide as its first row; shorter rows end in black."""
+        """Returns the columns as an array of the shape (rows, columns, 3). It is as wide as the first row. Shorter rows are padded with
+        black."""
         size = len(self.rows[0])
         if any(len(row) != size for row in self.rows):
             found = np.zeros((len(self.rows), size), np.uint8)
@@ -65,7 +66,7 @@ class Frame:
 
 
 class Stretch(NamedTuple):
-    """Events of a part from one place up to another, and the whole frame that ends behind them."""
+    """Some events of a part, and the whole frame that ends directly after them, if any."""
 
     part: Part
     begin: int
@@ -74,21 +75,21 @@ class Stretch(NamedTuple):
 
     @property
     def packets(self) -> Packets:
-        """The packets among them."""
+        """The packets of these events."""
         return self.part.among(self.begin, self.stop)
 
 
 class Framer:
-    """Divides parts into stretches by where frames end. A slip ends a frame, which then is not whole."""
+    """Splits parts at the ends of frames. A slip ends a frame, which is then incomplete."""
 
     def __init__(self) -> None:
         self.vsync = Vsync()
         self.frame: Frame | None = None
         self.last: int | None = None  # the column of the last change
-        self.left = 0  # rows of frames that were not whole
+        self.left = 0  # rows of incomplete frames
 
     def take(self, part: Part) -> Iterator[Stretch]:
-        """The stretches of the next part."""
+        """Takes the next part. Yields its stretches."""
         begin, ends = 0, (part.events.of(*ENDS) + 1).tolist()
         for stop in dict.fromkeys([*ends, len(part)]):
             first = begin
@@ -105,7 +106,7 @@ class Framer:
             begin = stop
 
     def add(self, part: Part, begin: int, stop: int) -> None:
-        """Adds the rows of some events to the frame."""
+        """Adds rows to the current frame."""
         frame, its = self.frame, part.events
         lines = begin + np.flatnonzero(its.kind[begin:stop] == Kind.LINE)
         if frame is None:
@@ -122,20 +123,20 @@ class Framer:
             self.frame = None
 
     def ended(self, column: int) -> Frame | None:
-        """The frame that ends at a column, None where it has no rows."""
+        """Returns the frame that ends at a column, or None if it has no rows."""
         if self.frame is None or not self.frame.rows:
             return None
         self.frame.end = column
         return self.frame
 
     def finish(self) -> None:
-        """Leaves out the frame that does not end."""
+        """Drops the frame that does not end."""
         self.left += len(self.frame.rows) if self.frame else 0
         self.vsync, self.frame, self.last = Vsync(), None, None
 
 
 def learn(signals: Signals, packets: Packets) -> None:
-    """Takes what packets say of how pixels are sent."""
+    """Passes to `signals` what packets say about the pixels."""
     known = packets.known
     for packet in known[np.isin(known.kind, (Type.AVI, Type.CONTROL))]:
         signals.take_packet(packet)

@@ -1,4 +1,4 @@
-"""The packets of a link that comes in part by part, with what the receiver says of them, as arrays; and as a pcap file."""
+"""The packets of a live link as arrays, and as a pcap file."""
 
 from __future__ import annotations
 
@@ -23,11 +23,11 @@ from vabgrot.formats.modes import CUSTOM_CLOCK
 from vabgrot.packets import Packet
 from vabgrot.video.signals import Signals
 
-MOST_HELD = 1 << 18  # packets that wait until the pixel clock is known
-MANY = 1 << 12  # unlike packets whose words are kept
+MOST_HELD = 1 << 18  # the most packets that wait until the pixel clock is known
+MANY = 1 << 12  # the most different packets for which the text is kept
 NO_CLOCK = f"nothing tells the pixel clock: {CUSTOM_CLOCK:,} Hz are taken (give --clock)"
 GIGA = 1_000_000_000
-PCAP_MAGIC, PCAP_VERSION, LINKTYPE_USER0 = 0xA1B23C4D, (2, 4), 147  # with nanoseconds
+PCAP_MAGIC, PCAP_VERSION, LINKTYPE_USER0 = 0xA1B23C4D, (2, 4), 147  # the magic number for nanoseconds, the version, and the link type
 HEAD = np.dtype(
     [("magic", "<u4"), ("major", "<u2"), ("minor", "<u2"), ("zone", "<i4"), ("figures", "<u4"), ("most", "<u4"), ("type", "<u4")]
 )
@@ -41,7 +41,7 @@ RECORD_HEAD = 16  # bytes of a record before its packet
 
 @dataclass(frozen=True, eq=False)
 class Islands:
-    """Packets, with the epoch of each, its column in it, the number of its frame, and which of its blocks are lost, a bit each (4 is the
+    """Packets. For each one: its epoch, its column in the epoch, the number of its frame, and a bit for each lost block (4 is the
     header)."""
 
     packets: Packets
@@ -55,12 +55,12 @@ class Islands:
 
     @property
     def octets(self) -> Octets:
-        """Their headers and bodies."""
+        """The headers and bodies."""
         return self.packets.octets[:, :CARRIED]
 
 
 def islands_of(stretch: Stretch, frame: int) -> Islands:
-    """The packets of a stretch, which come before the end of a frame."""
+    """Returns the packets of a stretch. They come before the end of frame `frame`."""
     its, every, events = stretch.packets, stretch.part.packets.place, stretch.part.events
     lost = blocks_of(events, every, Kind.LOST)[np.searchsorted(every, its.place)]
     return Islands(its, events.epoch[its.place], events.first[its.place], np.full(len(its), frame, np.int64), lost)
@@ -68,7 +68,7 @@ def islands_of(stretch: Stretch, frame: int) -> Islands:
 
 @dataclass
 class Paced:
-    """Gives the packets of parts once the columns a second are known."""
+    """Holds packets back until the columns a second are known."""
 
     pace: Pace
     clock: Fraction | None = None
@@ -80,7 +80,7 @@ class Paced:
     frames: int = 0
 
     def take(self, part: Part) -> Iterator[Islands]:
-        """The packets of the next part, and those that waited."""
+        """Takes the next part. Yields its packets after those held back."""
         for stretch in self.framer.take(part):
             found = islands_of(stretch, self.frames)
             if len(found):
@@ -95,7 +95,7 @@ class Paced:
             self.held.clear()
 
     def learn(self, stretch: Stretch) -> None:
-        """What a stretch says of the columns a second."""
+        """Determines the columns a second from a stretch, if possible."""
         self.sound.take(stretch.packets)
         learn(self.signals, stretch.packets)
         if stretch.frame:
@@ -104,18 +104,18 @@ class Paced:
             self.clock, self.note = self.pace.of(stretch.frame, signal, vic, self.sound) or (None, "")
 
     def guess(self) -> None:
-        """Takes a clock without a frame."""
+        """Sets the columns a second without a frame."""
         self.clock, self.note = self.pace.without(self.sound) or (Fraction(CUSTOM_CLOCK), NO_CLOCK)
 
     def end(self) -> Iterator[Islands]:
-        """The packets that still wait."""
+        """Yields the packets that are still held back."""
         if self.clock is None:
             self.guess()
         yield from self.held
 
 
 class Said(NamedTuple):
-    """A packet in words: its name, what it says, and the numbers of its fields."""
+    """A packet in words: its name, a description, and the numbers of its fields."""
 
     name: str
     words: str
@@ -124,7 +124,7 @@ class Said(NamedTuple):
 
 @lru_cache(MANY)
 def said(octets: bytes, is_lost: bool) -> Said:
-    """What a packet says; nothing of one with a lost block."""
+    """Describes a packet. If it has a lost block, nothing is said."""
     packet = packet_of(octets)
     if is_lost:
         return Said(packet.name, "", "")
@@ -135,16 +135,16 @@ def said(octets: bytes, is_lost: bool) -> Said:
 
 @dataclass
 class Kinds:
-    """Counts packets by type, and how far they are apart."""
+    """Counts packets by type, and the distance between them."""
 
     counts: Counter[int] = field(default_factory=Counter)
     lost: Counter[int] = field(default_factory=Counter)
     mended: Counter[int] = field(default_factory=Counter)
     last: dict[int, int] = field(default_factory=dict)
-    spans: dict[int, tuple[int, int, int, int]] = field(default_factory=dict)  # the least, the sum, the most, how many
+    spans: dict[int, tuple[int, int, int, int]] = field(default_factory=dict)  # minimum, sum, maximum and number of distances
 
     def take(self, its: Islands) -> Ints:
-        """The next packets; answers how many columns each is behind the last one of its type, -1 behind none."""
+        """Takes the next packets. Returns for each the columns since the last packet of its type, or -1 if there was none."""
         types, behind = its.octets[:, 0], np.full(len(its), -1, np.int64)
         for kind in np.unique(types).tolist():
             which = np.flatnonzero(types == kind)
@@ -161,7 +161,8 @@ class Kinds:
         return behind
 
     def rows(self, clock: Fraction) -> Iterator[tuple[str, ...]]:
-        """The rows of a table: type, name, packets, with a lost and with a mended block, and the milliseconds from one to the next."""
+        """Yields the rows of a table: type, name, number of packets, how many have a lost block and a repaired one, and the milliseconds
+        between them."""
         for kind, count in sorted(self.counts.items()):
             name = Packet(bytes((kind, 0, 0)), []).name
             least, total, most, spans = self.spans.get(kind, (0, 0, 0, 0))
@@ -171,12 +172,12 @@ class Kinds:
 
 
 def pcap_head() -> bytes:
-    """The head of a pcap file."""
+    """Returns the header of a pcap file."""
     return np.array([(PCAP_MAGIC, *PCAP_VERSION, 0, 0, 65_535, LINKTYPE_USER0)], HEAD).tobytes()
 
 
 def pcap_records(its: Islands, clock: Fraction) -> bytes:
-    """The records of packets. Each has a head of 20 bytes and then the 31 bytes of the packet (docs/guide/TOOLS.md)."""
+    """Returns the records of packets. Each has a header of 20 bytes and then the 31 bytes of the packet (docs/guide/TOOLS.md)."""
     found = np.zeros(len(its), RECORD)
     whole, rest = np.divmod(its.packets.at * clock.denominator, clock.numerator)
     found["seconds"], found["nanoseconds"] = whole, rest.astype(np.float64) * (GIGA / clock.numerator)

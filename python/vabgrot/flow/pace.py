@@ -1,4 +1,4 @@
-"""How many columns a second a link has: by what is given, by its format, or by its sound."""
+"""Determines the columns a second of a link, from the user's options, the format or the sound."""
 
 from __future__ import annotations
 
@@ -10,20 +10,20 @@ from vabgrot.flow.sound import Sound
 from vabgrot.formats import modes
 from vabgrot.video.colours import Encoding, Signal
 
-USUAL = 60  # fields a second that are taken where nothing tells them
-PULLED = Fraction(1001, 1000)  # the rates of CTA-861 are also these times lower or higher
-HERTZ = 128  # a clock packet: 128 times the rate is N / CTS of the columns a second (HDMI 1.4, section 7.2)
+USUAL = 60  # fields a second, if nothing gives the rate
+PULLED = Fraction(1001, 1000)  # each rate of CTA-861 has a second one that differs by this factor
+HERTZ = 128  # clock regeneration: 128 times the sampling rate is the columns a second times N / CTS (HDMI 1.4, section 7.2)
 BY_SOUND = "the pixel clock is taken from N, CTS and the sampling rate: no format has this raster"
 BY_GUESS = f"nothing tells the pixel clock: {USUAL} fields a second are taken (give --clock or --rate)"
 
 
 def deep(signal: Signal) -> Fraction:
-    """The columns of a pixel."""
+    """Returns the columns that a pixel takes."""
     return Fraction(24 if signal.encoding == Encoding.YCC422 else signal.bits, 24)
 
 
 def format_of(frame: Frame, columns: Fraction, vic: int) -> modes.Format | None:
-    """The format of a code if a frame has its size, or else the first one of this raster."""
+    """Returns the format with this VIC if the frame has its size, otherwise the first format with the frame's raster."""
 
     def has_size(it: modes.Format) -> bool:
         return it.across.active * columns == frame.width and it.down.active == len(frame.rows)
@@ -38,13 +38,13 @@ def format_of(frame: Frame, columns: Fraction, vic: int) -> modes.Format | None:
 
 @dataclass(frozen=True)
 class Pace:
-    """What is given: the pixel clock in Hz, or fields a second."""
+    """The rate that the user gave: the pixel clock in Hz, or fields a second."""
 
     clock: float | None = None
     fields: float | None = None
 
     def of(self, frame: Frame, signal: Signal, vic: int, sound: Sound) -> tuple[Fraction, str] | None:
-        """The columns a second by a frame, and what is to be said of that; None where the next frame tells more."""
+        """Returns the columns a second, and a note for the user. `frame` gives the raster. Returns None if the next frame will say more."""
         columns = deep(signal)
         if self.clock:
             return Fraction(self.clock).limit_denominator(1000) * columns, ""
@@ -59,14 +59,14 @@ class Pace:
         return Fraction(USUAL * frame.period), BY_GUESS
 
     def without(self, sound: Sound) -> tuple[Fraction, str] | None:
-        """The same without a frame."""
+        """Does the same as `of` without a frame."""
         if self.clock:
             return Fraction(self.clock).limit_denominator(1000), ""
         return (by_sound(sound.clock, sound.rate), BY_SOUND) if sound.clock and sound.rate else None
 
     @staticmethod
     def nearest(clock: Fraction, sound: Sound) -> Fraction:
-        """A format's clock, or the one of its other rate if that of the sound is nearer to it."""
+        """Returns a format's clock, or the one that differs by 1.001 if the sound's clock is nearer to that."""
         if not (sound.clock and sound.rate):
             return clock
         wanted = by_sound(sound.clock, sound.rate)
@@ -74,12 +74,12 @@ class Pace:
 
 
 def by_sound(clock: tuple[int, int], rate: int) -> Fraction:
-    """The columns a second by N and CTS and a sampling rate."""
+    """Returns the columns a second, given N, CTS and the sampling rate."""
     n, cycles = clock
     return Fraction(HERTZ * rate * cycles, n)
 
 
 def rate_by(clock: tuple[int, int], columns: Fraction) -> Fraction:
-    """The sampling rate by N and CTS and the columns a second."""
+    """Returns the sampling rate, given N, CTS and the columns a second."""
     n, cycles = clock
     return columns * n / (HERTZ * cycles)

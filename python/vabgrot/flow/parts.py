@@ -1,4 +1,4 @@
-"""What the receiver reports of a link, part by part, with columns that go on over epochs of a link that has no end yet."""
+"""The events of a live link, part by part. Columns count over all epochs, although the link has no end yet."""
 
 from __future__ import annotations
 
@@ -22,14 +22,14 @@ from vabgrot.formats.characters import TEN
 from vabgrot.library import Grammar
 from vabgrot.watching.feeding import Feed
 
-LIVE: Grammar = "relock"  # how a link is received that cannot be read twice
+LIVE: Grammar = "relock"  # the kind of receiver for a link that cannot be read twice
 CUT_OFF = "the capture is cut off: it was read to its last whole block"
 
 
 @dataclass(frozen=True, eq=False)
 class Part:
-    """Events that follow one another; a packet and its faults are in one part. `at` counts columns over all epochs: a new epoch begins at
-    the column that the bit of its slip tells."""
+    """Successive events. A packet and its faults are always in the same part. `at` counts columns over all epochs. A new epoch begins at
+    the column that the bit of its slip gives."""
 
     events: Events
     at: Ints
@@ -39,40 +39,40 @@ class Part:
 
     @cached_property
     def packets(self) -> Packets:
-        """Its packets."""
+        """The packets of this part."""
         return packets_of(self.events, self.at - self.events.first)
 
     def among(self, begin: int, stop: int) -> Packets:
-        """The packets among the events from one place up to another."""
+        """Returns the packets among the events from `begin` to `stop` (exclusive)."""
         first, last = np.searchsorted(self.packets.place, (begin, stop)).tolist()
         return self.packets[first:last]
 
 
 class Making:
-    """Makes parts of events. `before` is what `at` has more than `first` in the epoch that goes on."""
+    """Makes parts of events. `before` is the difference between `at` and `first` in the current epoch."""
 
     def __init__(self) -> None:
         self.before, self.end = 0, 0
-        self.rest = joined([])  # a packet whose faults may still come
+        self.rest = joined([])  # the last packet: its faults may still follow
 
     def take(self, events: Events) -> Iterator[Part]:
-        """The part of some events, if there are any. Their bytes may be written over behind this call."""
+        """Takes events and yields a part, if one is complete. The caller may overwrite their bytes after this call."""
         its = joined([self.rest, replace(events, data=events.data.copy())])
         keep = known_up_to(its)
         self.rest = its[keep:].without_pixels()
         yield from self.made(its[:keep])
 
     def finish(self) -> Iterator[Part]:
-        """Nothing more comes."""
+        """Yields the last part, at the end of the link."""
         yield from self.made(self.rest)
 
     def made(self, its: Events) -> Iterator[Part]:
-        """A part of events of whose packets all is said."""
+        """Yields a part. The faults of its packets are complete."""
         if len(its):
             yield Part(its, self.counted(its))
 
     def counted(self, its: Events) -> Ints:
-        """The column of each event over all epochs."""
+        """Returns the column of each event over all epochs."""
         at, begin, ends = np.empty(len(its), np.int64), 0, its.of(*ENDS).tolist()
         for stop in [*ends, len(its)]:
             inside = slice(begin, stop)
@@ -85,15 +85,15 @@ class Making:
 
 
 class Link:
-    """A link that comes from a file: a capture, or with `is_raw` blocks of three lanes without an end. `kind` is that of the receiver.
-    Raises NoLibrary if the C library is missing."""
+    """A link that is read from a file: a capture, or with `is_raw` raw blocks without an end. `kind` is the kind of the receiver. Raises
+    NoLibrary if the C library is missing."""
 
     def __init__(self, file: int, kind: Grammar, is_raw: bool = False, grows: bool = False) -> None:
         self.kind, self.is_dvi = kind, kind == "dvi"
         self.feed = Feed(file, kind, grows, is_raw)
 
     def parts(self) -> Iterator[Part]:
-        """Its events, until it ends or is stopped."""
+        """Yields the events until the link ends or is stopped."""
         making = Making()
         while True:
             if not self.feed.ready(1):
@@ -105,7 +105,8 @@ class Link:
             yield from making.take(events)
 
     def check(self) -> None:
-        """Raises Refused behind the last part if that was no capture, or nothing aligned. Says if it was cut off."""
+        """Raises Refused if the input was no capture, or Unaligned if nothing aligned. Says if the capture was cut off. Call it after the
+        last part."""
         if self.feed.error:
             raise self.feed.error
         if self.feed.is_stopped:
@@ -120,8 +121,10 @@ class Link:
 
 @contextlib.contextmanager
 def opened(path: str, is_dvi: bool = False, is_raw: bool = False, grows: bool = False) -> Iterator[Link]:
-    """The link that a file has; "-" is standard input. A capture in a plain file is received as the other tools do it, which read it
-    before. Everything else is a live link, which is received as `recover relock` does it."""
+    """Opens a link; "-" is standard input.
+
+    A capture in a regular file is read once before, and is received as the other tools do it. Everything else is a live link and is
+    received as `recover relock` does it."""
     if path == "-" and sys.stdin.isatty():
         raise Refused("standard input is a terminal: a capture is wanted there, or the name of a file")
     with contextlib.ExitStack() as stack:

@@ -1,4 +1,4 @@
-"""The sound of a link that comes in part by part: its samples as numbers, and what its packets say of their rate."""
+"""The sound of a live link: its samples as numbers, and what its packets say about the sampling rate."""
 
 from __future__ import annotations
 
@@ -19,13 +19,13 @@ from vabgrot.packets import Packet
 
 FIELDS = LAYOUTS["samples"].fields
 FULL = 1 << FIELDS["left"].bits - 1
-CHANNELS = 2 * BODIES  # of layout 1
-N_OF = {rate.n: rate.hertz for rate in RATES.values()}  # the rates by the N that HDMI 1.4 gives them with most clocks
+CHANNELS = 2 * BODIES  # the channels of layout 1
+N_OF = {rate.n: rate.hertz for rate in RATES.values()}  # the sampling rates by N, as HDMI 1.4 recommends it for most clocks
 Values = npt.NDArray[np.int32]  # samples by channels, 24 bits with a sign
 
 
 class Samples(NamedTuple):
-    """Samples that follow one another: the column of the packet of each, and the values of its channels, as a link has them."""
+    """Successive samples: for each the column of its packet, and the values of its channels in the order of the link."""
 
     at: Ints
     values: Values
@@ -33,14 +33,14 @@ class Samples(NamedTuple):
 
 @dataclass
 class Status:
-    """The rate that the channel status of the left side of the first two channels names, by the first whole block of it."""
+    """Reads the sampling rate from the channel status of the left side of the first pair of channels. It needs one complete block."""
 
     bits: Octets = field(default_factory=lambda: np.empty(0, np.uint8))
     rate: int | None = None
     is_known: bool = False
 
     def take(self, starts: npt.NDArray[np.bool_], bits: Octets) -> None:
-        """Whether samples start a block, and their C bits."""
+        """Takes the C bits of samples, and whether each sample starts a block."""
         if self.is_known:
             return
         first = np.flatnonzero(starts)
@@ -55,29 +55,29 @@ class Status:
             self.rate, self.is_known = None if block[0] & 1 else CODED.get(int(block[3]) & 15), True
 
     def lose(self) -> None:
-        """Samples are missing here."""
+        """Drops the block in progress, because samples are missing."""
         self.bits = self.bits[:0]
 
 
 @dataclass
 class Sound:
-    """Takes the packets of a link: keeps what says the rate and the speakers, and gives the samples."""
+    """Takes the packets of a link. Keeps what they say about the rate and the speakers, and returns the samples."""
 
     status: Status = field(default_factory=Status)
-    clock: tuple[int, int] | None = None  # N and CTS of the last clock packet
-    frequency: int = 0  # of the audio InfoFrame, in Hz
+    clock: tuple[int, int] | None = None  # N and CTS of the last clock regeneration packet
+    frequency: int = 0  # the sampling rate of the audio InfoFrame, in Hz
     allocation: int | None = None
-    is_wide: bool = False  # layout 1
-    lost: int = 0  # packets that may be of sound
+    is_wide: bool = False  # whether the samples have layout 1
+    lost: int = 0  # lost packets that may have carried sound
 
     @property
     def rate(self) -> int | None:
-        """The rate that the channel status, the audio InfoFrame or N names."""
+        """The sampling rate according to the channel status, the audio InfoFrame or N."""
         return self.status.rate or self.frequency or (N_OF.get(self.clock[0]) if self.clock else None)
 
     @property
     def channels(self) -> tuple[tuple[int, ...], int]:
-        """Which channels are played, in the order of a WAV file, and its channel mask."""
+        """Returns the channels to play, in the order of a WAV file, and the channel mask."""
         if not self.is_wide:
             return (0, 1), 3
         names = speakers.speakers(speakers.SENT[CHANNELS] if self.allocation is None else self.allocation)
@@ -86,7 +86,7 @@ class Sound:
         return tuple(used[at] for at in order), mask
 
     def take(self, found: Packets) -> Samples:
-        """The samples of the next packets."""
+        """Takes the next packets. Returns their samples."""
         lost = int(found.lost.sum())
         if lost:
             self.lost += lost
@@ -98,7 +98,7 @@ class Sound:
         return self.samples(found.of(Type.SAMPLES))
 
     def infoframe(self, packet: Packet) -> None:
-        """A packet that says a rate, if it is right."""
+        """Takes a packet that gives the sampling rate. It is ignored if it is wrong."""
         if packets.content_of(packet).faults:
             return
         if packet.kind == Type.CLOCK:
@@ -108,12 +108,12 @@ class Sound:
             self.frequency, self.allocation = FREQUENCIES[packet.number("SF")] or 0, packet.number("CA")
 
     def samples(self, found: Packets) -> Samples:
-        """The samples of packets of them: of layout 0 one a body that is present, of layout 1 one of all pairs."""
+        """Returns the samples of packets. Layout 0 has one sample in each body that is present, layout 1 has one in all bodies together."""
         heads, bodies, at = found.octets, bodies_of(found.octets), found.at
         wide, present = FIELDS["layout"].numbers(heads).astype(bool), FIELDS["sample_present"].flags(heads)
         if len(found):
             self.is_wide = bool(wide[-1])
-        its = wide == self.is_wide  # the layout changes seldom, and then what is of the other one is left out
+        its = wide == self.is_wide  # the layout rarely changes; samples of the other layout are dropped
         at, bodies, present, starts = at[its], bodies[its], present[its], FIELDS["B"].flags(heads)[its]
         sides = np.stack([FIELDS[side].numbers(bodies) for side in ("left", "right")], axis=2)
         values = np.where(sides >= FULL, sides - 2 * FULL, sides).astype(np.int32)

@@ -1,4 +1,4 @@
-"""A link as a stream of pictures and sound, in segments of one format each."""
+"""Turns a link into a stream of pictures and sound. Each segment has one format."""
 
 from __future__ import annotations
 
@@ -21,18 +21,18 @@ from vabgrot.video.images import Colours
 from vabgrot.video.signals import Signals
 from vabgrot.video.weaving import Pair, Weaver
 
-SURE = 2  # pictures in a row of another size are another format
-USUAL_RATE = 48_000  # Hz, of sound whose rate nothing tells
+SURE = 2  # this many successive pictures with another size begin a new format
+USUAL_RATE = 48_000  # Hz, if nothing gives the sampling rate
 BY_USUAL = f"nothing tells the sampling rate: {USUAL_RATE:,} Hz are taken"
-APART = 0.02  # seconds by which samples may be off their columns before their numbers are set anew
-MOST_WAITING = 64  # stretches whose sound is kept while no picture comes
-MOST_APART = 0.005  # of a sampling rate that no usual one is near
+APART = 0.02  # seconds that samples may be early or late before they are numbered again from their columns
+MOST_WAITING = 64  # stretches of sound that are kept while there is no picture
+MOST_APART = 0.005  # the relative change of a sampling rate that counts as a new rate
 FIELDS = "a field of interlaced video without its other one is left out"
 
 
 @dataclass
 class Picture:
-    """A picture: its colours, the column of its first pixel, the lines from VSYNC down to it, and what may be told of its format."""
+    """A picture: its colours, the column of its first pixel, the frame it was made of, and what its format depends on."""
 
     colours: Colours
     column: int
@@ -53,12 +53,12 @@ class Picture:
 
     @property
     def key(self) -> tuple[int, int, bool]:
-        """What two pictures of one format have in common."""
+        """What all pictures of one format have in common."""
         return (*self.size, self.colours.dtype == np.uint16)
 
 
 def woven(pair: Pair[Picture]) -> Picture:
-    """The picture of two fields."""
+    """Weaves two fields into a picture."""
     upper, lower = pair.upper, pair.lower
     if lower is None:
         return upper
@@ -68,7 +68,7 @@ def woven(pair: Pair[Picture]) -> Picture:
 
 @dataclass
 class Streamer:
-    """Takes the parts of a link, and writes its pictures and sound into sinks."""
+    """Takes the parts of a link and writes pictures and sound to sinks."""
 
     sinks: Sequence[Sink]
     pace: Pace
@@ -79,13 +79,13 @@ class Streamer:
     framer: Framer = field(default_factory=Framer)
     heard: Sound = field(default_factory=Sound)
     form: Form | None = None
-    held: list[Picture] = field(default_factory=list)  # pictures whose format is not certain yet
+    held: list[Picture] = field(default_factory=list)  # pictures that wait until their format is certain
     waiting: list[Samples] = field(default_factory=list)
-    number: int = 0  # segments
+    number: int = 0  # the number of segments so far
     pictures: int = 0
     samples: int = 0
     faults: int = 0
-    misfits: int = 0  # pictures of another size than those about them
+    misfits: int = 0  # pictures with a different size than their neighbours
     next: int | None = None  # the number of the next sample
     said: set[str] = field(default_factory=set)
 
@@ -94,7 +94,7 @@ class Streamer:
         self.weaver: Weaver[Picture] | None = Weaver() if self.weaves else None
 
     def take(self, part: Part) -> None:
-        """The next part of the link."""
+        """Takes the next part of the link."""
         for stretch in self.framer.take(part):
             self.packets(stretch)
             if stretch.frame:
@@ -107,14 +107,14 @@ class Streamer:
             del self.waiting[:-MOST_WAITING]
 
     def packets(self, stretch: Stretch) -> None:
-        """The packets of a stretch: how pixels are sent, and sound."""
+        """Takes the packets of a stretch: they describe the pixels and contain the sound."""
         learn(self.signals, stretch.packets)
         found = self.heard.take(stretch.packets)
         if len(found.at):
             self.waiting.append(found)
 
     def picture(self, frame: Frame) -> Picture:
-        """The picture of a frame."""
+        """Makes the picture of a frame."""
         reading = self.signals.reading(frame.width)
         signal = Signal() if self.is_raw else reading.signal
         for note in () if self.is_raw else reading.notes:
@@ -129,7 +129,7 @@ class Streamer:
         return Picture(colours, frame.firsts[0], frame, signal, vic)
 
     def paired(self, picture: Picture) -> Iterator[Pair[Picture]]:
-        """The picture, or two fields that are one."""
+        """Yields the picture, or the pair of two fields that make a frame."""
         if self.weaver is None:
             yield Pair(picture)
             return
@@ -140,13 +140,13 @@ class Streamer:
                 yield pair
 
     def note(self, text: str) -> None:
-        """Says something once."""
+        """Prints a note. The same note is printed only once."""
         if text not in self.said:
             self.said.add(text)
             self.say(text)
 
     def show(self, picture: Picture) -> None:
-        """A picture: it is of the format that is, or waits until another one of its size comes."""
+        """Takes a picture. If it has the current format it is written. Otherwise it waits until a second one with its size follows."""
         if self.form and picture.key == (self.form.width, self.form.height, self.form.is_deep) and not self.is_other(picture):
             self.misfit()
             self.write(picture)
@@ -158,12 +158,12 @@ class Streamer:
             self.settle()
 
     def is_other(self, picture: Picture) -> bool:
-        """Whether the rate of pictures or of sound is another one than that of the format."""
+        """Returns whether the rate of pictures or of sound differs from the current format's."""
         form = self.form_of(picture, is_last=False)
         return form is not None and self.form is not None and form != self.form
 
     def misfit(self) -> None:
-        """The pictures that wait are of no other format: they are made to fit."""
+        """Writes the waiting pictures in the current format, because they do not begin a new one."""
         if self.form is None:
             self.misfits += len(self.held)
             self.held.clear()
@@ -172,7 +172,7 @@ class Streamer:
             self.write(self.held.pop(0))
 
     def settle(self, is_last: bool = False) -> None:
-        """The pictures that wait are of a new format, if that is known."""
+        """Begins a new format with the waiting pictures, if the format is known."""
         form = self.form_of(self.held[-1], is_last or len(self.held) > SURE)
         if form is None:
             return
@@ -182,7 +182,7 @@ class Streamer:
         self.held.clear()
 
     def form_of(self, picture: Picture, is_last: bool) -> Form | None:
-        """The format of a picture; None where the next one tells more. What is taken without being told stays while the size does."""
+        """Returns the format of a picture, or None if the next one will say more. Guessed values stay the same as long as the size does."""
         frame, now = picture.frame, self.form
         if is_last and frame.period is None:
             frame = replace(frame, before=frame.begin)
@@ -203,7 +203,7 @@ class Streamer:
         return Form(*picture.key, pace, period, rate, channels, mask)
 
     def rate_of(self, pace: Fraction) -> int:
-        """The sampling rate; 0 where there is no sound."""
+        """Returns the sampling rate, or 0 if there is no sound."""
         now = self.form.rate if self.form else 0
         if not self.waiting and not self.samples:
             return now
@@ -227,7 +227,7 @@ class Streamer:
             sink.begin(form, self.number)
 
     def write(self, picture: Picture) -> None:
-        """Writes a picture, and the sound before it."""
+        """Writes a picture and the sound before it."""
         assert self.form
         self.play(picture.column)
         colours = fitted(picture.colours, self.form)
@@ -236,7 +236,7 @@ class Streamer:
         self.pictures += 1
 
     def play(self, before: int | None = None) -> None:
-        """Writes the samples that came before a column, or all."""
+        """Writes the samples before a column, or all samples."""
         assert self.form
         rest: list[Samples] = []
         for at, values in self.waiting:
@@ -248,7 +248,7 @@ class Streamer:
         self.waiting = rest
 
     def sound(self, column: int, values: Values) -> None:
-        """Writes samples, the first of which came at a column."""
+        """Writes samples. The first one was received at `column`."""
         assert self.form
         at = self.form.sample(column)
         if self.next is None or abs(at - self.next) > APART * self.form.rate:
@@ -259,7 +259,7 @@ class Streamer:
         self.samples += len(values)
 
     def end(self) -> None:
-        """Nothing more comes."""
+        """Writes the rest, at the end of the link."""
         for pair in self.weaver.end() if self.weaver else ():
             if pair.is_field:
                 self.note(FIELDS)

@@ -1,4 +1,5 @@
-"""What a link carried as a value change dump: periods, syncs, CTL bits, packets and faults over time, beside a simulation's dump."""
+"""Writes a link as a value change dump (VCD): periods, syncs, CTL bits, packets and faults over time. It can be merged with a
+simulation's dump."""
 
 from __future__ import annotations
 
@@ -25,20 +26,20 @@ SCOPE = "link"
 
 
 class Variable(NamedTuple):
-    """A variable of the dump: a string, or a wire of so many bits."""
+    """A variable of the dump: a string, or a wire with this many bits."""
 
     name: str
-    bits: int  # 0 of a string
+    bits: int  # 0 for a string
 
     def change(self, value: str | int, code: str) -> str:
-        """The line of a change."""
+        """Returns the line for a change."""
         if not self.bits:
             return f"s{str(value).replace(' ', '_')} {code}"
         return f"{value}{code}" if self.bits == 1 else f"b{value:0{self.bits}b} {code}"
 
     @property
     def first(self) -> str | int:
-        """What it is before anything is known."""
+        """The value before anything is known."""
         return NOTHING if not self.bits else "x"
 
 
@@ -51,24 +52,24 @@ HSYNCS, VSYNCS, CTL, PIXELS, FAULTY = (
     Variable("is_faulty", 1),
 )
 VARIABLES = (PERIOD, PACKET_NAME, HSYNCS, VSYNCS, CTL, PIXELS, FAULT, FAULTY)
-Times = Callable[[Ints], Ints]  # the times of bits of a lane
+Times = Callable[[Ints], Ints]  # converts bits of a lane to times
 
 
 @dataclass
 class Trace:
-    """Takes the parts of a link, and keeps how the variables change: by the bit of a lane at which a column begins. `starts` gives that of
-    the first column of an epoch, by the bit from which on it was searched."""
+    """Takes the parts of a link, and records the changes of the variables. The time of a column is the bit of a lane at which it begins.
+    `starts` gives this bit for the first column of an epoch. Its argument is the bit from which the epoch was searched."""
 
     starts: Callable[[int], int]
     is_dvi: bool = False
     changes: dict[Variable, list[tuple[int, str | int]]] = field(default_factory=lambda: {it: [] for it in VARIABLES})
-    faults: dict[int, list[str]] = field(default_factory=dict)  # by their bits
+    faults: dict[int, list[str]] = field(default_factory=dict)  # by the bit at which they begin
     start: int | None = None
     searched: int = 0
-    end: int = 0  # the column of the epoch behind the last one that something stands for
+    end: int = 0  # the column of the epoch after the last one that an event covers
 
     def take(self, part: Part) -> None:
-        """The next part."""
+        """Takes the next part."""
         its, syncs = part.events, part.packets.octets[:, CARRIED:]
         numbers = np.stack([its.kind, its.first, its.width, its.value, its.second], axis=1).tolist()
         packet = 0
@@ -90,17 +91,17 @@ class Trace:
                     self.period(kind, first, width, value, second)
 
     def bit(self, column: int) -> int:
-        """The bit at which a column begins."""
+        """Returns the bit at which a column begins."""
         return (self.start or 0) + TEN * column
 
     def put(self, variable: Variable, column: int, value: str | int) -> None:
-        """A variable changes at a column."""
+        """Records that a variable has this value from a column on."""
         its = self.changes[variable]
         if not its or its[-1][1] != value:
             its.append((self.bit(column), value))
 
     def cover(self, first: int, width: int) -> None:
-        """Something stands for columns; those before it that nothing does stand for are unknown."""
+        """Records that an event covers these columns. The variables are unknown in a gap before them."""
         if first > self.end:
             self.put(PERIOD, self.end, UNKNOWN)
             self.put(PACKET_NAME, self.end, NOTHING)
@@ -108,12 +109,12 @@ class Trace:
         self.end = max(self.end, first + width)
 
     def syncs(self, column: int, value: int) -> None:
-        """Both syncs of a column."""
+        """Records both syncs from a column on."""
         self.put(HSYNCS, column, int(bool(value & HSYNC)))
         self.put(VSYNCS, column, int(bool(value & VSYNC)))
 
     def period(self, kind: int, first: int, width: int, value: int, second: int) -> None:
-        """What is no packet."""
+        """Records an event that is not a packet."""
         self.put(PACKET_NAME, first, NOTHING)
         if kind == Kind.RUN:
             control = value >> 2
@@ -134,7 +135,7 @@ class Trace:
             self.put(PIXELS, first, 0)
 
     def packet(self, first: int, kind: int, syncs: Iterable[int]) -> None:
-        """A packet."""
+        """Records a packet."""
         self.put(PERIOD, first, "packet")
         self.put(PIXELS, first, 0)
         its = self.changes[PACKET_NAME]
@@ -143,7 +144,7 @@ class Trace:
             self.syncs(first + at, int(sync))
 
     def events(self, codes: dict[Variable, str], times: Times) -> Iterator[tuple[int, str]]:
-        """The lines of all changes with their times, in their order."""
+        """Yields the lines of all changes in the order of their times."""
         found: list[tuple[int, str]] = []
         for variable, changes in (*self.changes.items(), *self.pulses()):
             if changes:
@@ -154,7 +155,7 @@ class Trace:
         return iter(found)
 
     def pulses(self) -> Iterator[tuple[Variable, list[tuple[int, str | int]]]]:
-        """The faults: each stands for one column."""
+        """Yields the changes of the variables for faults. Each fault lasts one column."""
         names: list[tuple[int, str | int]] = []
         wires: list[tuple[int, str | int]] = []
         for bit, kinds in sorted(self.faults.items()):
@@ -168,7 +169,7 @@ class Trace:
 
 
 def unit_of(scale: float | None) -> str:
-    """A unit of time in words of a dump; 1 ns where it is not known."""
+    """Returns a unit of time as VCD writes it, 1 ns if the unit is not known."""
     for unit, seconds in PREFIXES.items():
         times = round((scale or 0) / seconds)
         if times in (1, 10, 100):
@@ -177,7 +178,7 @@ def unit_of(scale: float | None) -> str:
 
 
 def codes_of(known: Iterable[str]) -> dict[Variable, str]:
-    """The codes of the variables, other ones than those that are known."""
+    """Returns codes for the variables. They differ from the `known` ones."""
     used, number, found = set(known), 0, {}
     for variable in VARIABLES:
         while f"v{number}" in used:
@@ -188,7 +189,7 @@ def codes_of(known: Iterable[str]) -> dict[Variable, str]:
 
 
 def head_of(codes: dict[Variable, str]) -> Iterator[str]:
-    """The scope of the variables."""
+    """Yields the lines of the scope with the variables."""
     yield f"$scope module {SCOPE} $end"
     for variable, code in codes.items():
         kind = "wire" if variable.bits else "string"
@@ -198,13 +199,13 @@ def head_of(codes: dict[Variable, str]) -> Iterator[str]:
 
 
 def first_values(codes: dict[Variable, str]) -> Iterator[str]:
-    """What the variables are at first."""
+    """Yields the initial values of the variables."""
     for variable, code in codes.items():
         yield f"bx {code}" if variable.bits > 1 else variable.change(variable.first, code)
 
 
 def alone(trace: Trace, times: Times, unit: str) -> Iterator[str]:
-    """The lines of a dump of the link alone."""
+    """Yields the lines of a dump of the link only."""
     codes = codes_of(())
     yield from (f"$timescale {unit} $end", *head_of(codes), "$enddefinitions $end", "#0", *first_values(codes))
     now = 0
@@ -216,7 +217,7 @@ def alone(trace: Trace, times: Times, unit: str) -> Iterator[str]:
 
 
 def beside(trace: Trace, times: Times, path: str | Path, known: Iterable[str]) -> Iterator[str]:
-    """The lines of a simulation's dump with those of the link among them."""
+    """Yields the lines of a simulation's dump, with those of the link inserted."""
     codes = codes_of(known)
     events = trace.events(codes, times)
     waiting = next(events, None)
@@ -250,5 +251,5 @@ def beside(trace: Trace, times: Times, path: str | Path, known: Iterable[str]) -
 
 
 def column_times(stretches: Iterable[tuple[int, int, int]]) -> Ints:
-    """The times of columns: of stretches of them by the times of the first and the last, and how many they are."""
+    """Returns the times of columns. Each stretch gives the times of its first and last column, and the number of columns."""
     return np.concatenate([np.zeros(0, np.int64), *(np.linspace(*one).round().astype(np.int64) for one in stretches)])

@@ -1,1 +1,2 @@
-"""What the standards say, each table once: characters, video modes, audio rates; and the kinds of faults of docs/guide/FORMATS.md."""
+"""Tables from the standards (characters, video modes, audio rates, packets), and the kinds of faults of docs/guide/FORMATS.md. Each table
+exists once."""

@@ -6,7 +6,7 @@ BLOCK = 192  # the samples of a channel status block (IEC 60958-1)
 
 
 class Rate(NamedTuple):
-    """A sampling rate, the number N of its clock packets (HDMI 1.4, section 7.2), its code in the channel status."""
+    """A sampling rate, its N in clock regeneration packets (HDMI 1.4, section 7.2), and its code in the channel status."""
 
     hertz: int
     n: int

@@ -1,19 +1,22 @@
-"""The kinds of fault lines (docs/guide/FORMATS.md), each declared once, and what the tools ask of them."""
+"""The kinds of fault lines (docs/guide/FORMATS.md) and their properties. Each kind is declared once."""
 
 from collections.abc import Callable
 from dataclasses import dataclass
 
-ROWS = ("lane", "structure", "packet", "slip")  # of a timeline
+ROWS = ("lane", "structure", "packet", "slip")  # the rows of a timeline
 
 
 @dataclass(frozen=True)
 class Fault:
-    """A kind of fault of a link: the row of a timeline on which it stands, and what it says.
+    """A kind of fault of a link: its row in a timeline, and its text.
 
-    `has_lane`: its first number is a lane. `is_next`: it is written of the column that comes next. `is_of_packet`: it is
-    written behind the packet that begins at its column. `is_uncounted`: it leaves out columns whose number is not said.
-    `is_dense`: many of it in a few columns are a burst. `is_of_skew`: lanes that are aligned at a wrong skew have it.
-    `hurts_picture`: it touches a frame."""
+    - `has_lane`: its first number is a lane.
+    - `is_next`: it belongs to the next column.
+    - `is_of_packet`: it follows the packet that begins at its column.
+    - `is_uncounted`: it covers columns without giving their number.
+    - `is_dense`: many of these faults in a few columns are a burst.
+    - `is_of_skew`: lanes that are aligned at a wrong skew have it.
+    - `hurts_picture`: it touches a frame."""
 
     kind: str
     row: str
@@ -29,8 +32,8 @@ class Fault:
 
 @dataclass(frozen=True)
 class ContentFault:
-    """A kind of fault of what a link carries, and what it says. `is_limit`: it is no fault of the source but something that the
-    program does not read, and that the tools do."""
+    """A kind of fault of the contents, and its text. `is_limit`: it is not a fault of the source. The program does not read this, and the
+    tools do."""
 
     kind: str
     says: str
@@ -104,7 +107,7 @@ CONTENT = {
 
 
 def kinds(has: Callable[[Fault], bool]) -> frozenset[str]:
-    """The kinds of faults of a link that have something."""
+    """Returns the kinds of faults of a link that have a property."""
     return frozenset(fault.kind for fault in LINK.values() if has(fault))
 
 
@@ -113,8 +116,8 @@ NEXT = kinds(lambda fault: fault.is_next)
 OF_PACKET = kinds(lambda fault: fault.is_of_packet)
 UNCOUNTED = kinds(lambda fault: fault.is_uncounted)
 DENSE = kinds(lambda fault: fault.is_dense)
-ANEW = kinds(lambda fault: fault.row == "slip")  # they name a place of the capture, and columns are counted anew behind them
+ANEW = kinds(lambda fault: fault.row == "slip")  # they name a place in the capture; columns count from 0 again after them
 OF_SKEW = kinds(lambda fault: fault.is_of_skew)
 OF_PICTURE = kinds(lambda fault: fault.hurts_picture) | {it.kind for it in CONTENT.values() if it.hurts_picture}
-OF_SOUND = {it.kind for it in CONTENT.values() if it.hurts_sound} | {"lost"}  # a lost packet may be one of samples
-BY_ROW = tuple(sorted(LINK.values(), key=lambda fault: ROWS.index(fault.row)))  # as a page shows them
+OF_SOUND = {it.kind for it in CONTENT.values() if it.hurts_sound} | {"lost"}  # a lost packet may have carried samples
+BY_ROW = tuple(sorted(LINK.values(), key=lambda fault: ROWS.index(fault.row)))  # in the order of a page

@@ -1,9 +1,9 @@
-"""The packets of data islands: each kind with its fields, its reserved bits and the rows in which it is shown, with the clause of the
-standard. What reads, makes or judges a packet does so by this table, the page too.
+"""The packets of data islands: for each kind its fields, its reserved bits and the rows that show it, with the clause of the standard.
+All code that reads, makes or judges packets uses this table, also the page.
 
-A row's text names fields in braces. Behind a colon stands how a number is written: a table of `names`, a format of Python (`,` or
-`06x`), or `/` with what it is divided by and the digits behind the point. Of rows with the same name the first one that applies is
-shown. A row applies where its fields lie within the packet's length and have the numbers of `when`."""
+The text of a row has fields in braces. After a colon follows the format of the number: a table in `names`, a format of Python (`,` or
+`06x`), or `/` with the divisor and the number of decimals. If several rows have the same name, the first one that applies is shown. A row
+applies if its fields are within the packet's length and have the numbers in `when`."""
 
 from __future__ import annotations
 
@@ -21,7 +21,7 @@ from vabgrot.formats.names import DEPTHS, DOLBY, FORUM, HDMI, HDR10_PLUS
 HEADER, BODIES, BODY = 3, 4, 7  # bytes of a header, the bodies of a packet, and bytes of each
 SIZE = BODIES * BODY
 CARRIED = HEADER + SIZE
-MOST_LENGTH = 27  # of an InfoFrame
+MOST_LENGTH = 27  # the greatest length of an InfoFrame
 Bytes = npt.NDArray[np.uint8]
 
 
@@ -74,9 +74,9 @@ NAMES: dict[int, str] = {
 
 
 class Field(NamedTuple):
-    """Bits of a packet: the byte at which they begin (PB0 and on, or HB0 and on where `in_header`), the lowest bit there, how many,
-    and the numbers that the standard allows, None where it allows all. The low byte comes first unless `is_big`. In a packet of
-    several copies the byte is counted within each."""
+    """Some bits of a packet: the first byte (PB0 and on, with `in_header` HB0 and on), the lowest bit there, the number of bits, and the
+    values that the standard allows (None: all). The low byte is first, unless `is_big` is set. In a packet with several copies the byte
+    counts within each copy."""
 
     byte: int
     low: int
@@ -87,40 +87,40 @@ class Field(NamedTuple):
 
     @property
     def size(self) -> int:
-        """The bytes that it touches."""
+        """The number of bytes it touches."""
         return (self.low + self.bits + 7) // 8
 
     @property
     def end(self) -> int:
-        """The byte behind it."""
+        """The byte after it."""
         return self.byte + self.size
 
     @property
     def most(self) -> int:
-        """The greatest number that it takes."""
+        """The greatest value."""
         return (1 << self.bits) - 1
 
     @property
     def order(self) -> Literal["big", "little"]:
-        """How its bytes follow one another."""
+        """The order of its bytes."""
         return "big" if self.is_big else "little"
 
     def of(self, data: bytes) -> int:
-        """Its number in a header or in the bytes from PB0 on."""
+        """Returns its value in a header, or in the bytes from PB0 on."""
         return int.from_bytes(data[self.byte : self.end], self.order) >> self.low & self.most
 
     def put(self, data: bytearray, number: int) -> None:
-        """Puts a number there."""
+        """Writes a value."""
         old = int.from_bytes(data[self.byte : self.end], self.order)
         new = old & ~(self.most << self.low) | number << self.low
         data[self.byte : self.end] = new.to_bytes(self.size, self.order)
 
     def octets(self, rows: Bytes) -> Bytes:
-        """Its bytes in each of many headers or bodies, which are the last axis."""
+        """Returns its bytes in each of many headers or bodies (the last axis)."""
         return rows[..., self.byte : self.end]
 
     def numbers(self, rows: Bytes) -> npt.NDArray[np.int64]:
-        """Its number in each of many headers or bodies."""
+        """Returns its value in each of many headers or bodies."""
         places = range(self.end - 1, self.byte - 1, -1) if self.is_big else range(self.byte, self.end)
         found = np.zeros(rows.shape[:-1], np.int64)
         for place, byte in enumerate(places):
@@ -128,14 +128,14 @@ class Field(NamedTuple):
         return found >> self.low & self.most
 
     def flags(self, rows: Bytes) -> npt.NDArray[np.bool_]:
-        """Its bits in each of many headers or bodies, the lowest one first, along a last axis."""
+        """Returns its bits in each of many headers or bodies, lowest first, along a last axis."""
         found: npt.NDArray[np.bool_] = (self.numbers(rows)[..., None] >> np.arange(self.bits) & 1).astype(bool)
         return found
 
 
 class Octets(NamedTuple):
-    """Bytes that are shown as they are: from which byte on, how many (a number, the name of a field that says it, or None for all
-    up to the length), and what is said where there is none."""
+    """Bytes that are shown unchanged: the first byte, how many (a number, a field's name, or None for all up to the length), and the text
+    if there is none."""
 
     first: int
     most: int | str | None = None
@@ -143,7 +143,7 @@ class Octets(NamedTuple):
 
 
 class Line(NamedTuple):
-    """A row of a packet: its name, what it says, its number in the standard, and the numbers with which it applies."""
+    """A row of a packet: its name, its text, its name in the standard, and the values with which it applies."""
 
     name: str
     says: str
@@ -152,7 +152,7 @@ class Line(NamedTuple):
 
 
 class Reserved(NamedTuple):
-    """Bits that are to be 0: their byte, a mask, and the byte's name in the standard."""
+    """Bits that must be 0: their byte, a mask, and the byte's name in the standard."""
 
     in_header: bool
     byte: int
@@ -160,7 +160,7 @@ class Reserved(NamedTuple):
     name: str
 
     def of(self, header: bytes, data: bytes) -> tuple[int, int]:
-        """The byte of a packet in which they are, and those of them that are not 0."""
+        """Returns their byte in a packet, and those of the bits that are not 0."""
         byte = (header if self.in_header else data)[self.byte]
         return byte, byte & self.mask
 
@@ -169,20 +169,23 @@ def _header(byte: int, low: int, bits: int) -> Field:
     return Field(byte, low, bits, in_header=True)
 
 
-VERSION, LENGTH = _header(1, 0, 8), _header(2, 0, 5)  # of each InfoFrame
-IEEE = Field(1, 0, 24)  # whose InfoFrame a vendor's is
+VERSION, LENGTH = _header(1, 0, 8), _header(2, 0, 5)  # fields of each InfoFrame
+IEEE = Field(1, 0, 24)  # the identifier of the vendor
 COMMON = {"IEEE": IEEE}
 
 
 @dataclass(frozen=True)
 class Layout:
-    """A kind of packet, by its type and, for an InfoFrame, by its version and length.
+    """A kind of packet, chosen by its type, and for an InfoFrame by its version and length.
 
-    `where` are numbers that tell it from others of its type, and `least` the length from which on it is read, where that may vary.
-    `further` are fields that are read and judged, and that a made packet has not. `preset` are numbers of a made packet. `text`
-    is where characters begin in a made packet, and how many there are. `judged` are the first byte whose bits without a field are
-    reserved, and the one behind the last. `is_strict`: `recover content` refuses another length. `is_offered`: a source can be told
-    to send it."""
+    - `where`: values that distinguish it from others of its type.
+    - `least`: the length from which on it is read, if the length may vary.
+    - `further`: fields that are read and judged, but not part of a packet that is made.
+    - `preset`: values in a packet that is made.
+    - `text`: where the characters begin in a packet that is made, and how many there are.
+    - `judged`: the range of bytes in which bits without a field are reserved.
+    - `is_strict`: `recover content` refuses another length.
+    - `is_offered`: a source can be told to send it."""
 
     header: tuple[int, int, int]
     clause: str
@@ -206,12 +209,12 @@ class Layout:
 
     @cached_property
     def all_fields(self) -> dict[str, Field]:
-        """The fields that can be read."""
+        """All fields that can be read."""
         return {**COMMON, **self.fields, **self.further} if self.header[0] == Type.VENDOR else {**self.fields, **self.further}
 
     @cached_property
     def reserved(self) -> tuple[Reserved, ...]:
-        """The bits that are to be 0: those of the header and of the judged bytes that no field has."""
+        """The bits that must be 0: those of the header and of the judged bytes that belong to no field."""
         used = {in_header: bytearray(SIZE) for in_header in (True, False)}
         for one in (*self.all_fields.values(), *([VERSION, LENGTH] if self.is_infoframe else [])):
             one.put(used[one.in_header], one.most)
@@ -228,7 +231,7 @@ class Layout:
 
 
 def _alike(lines: str) -> tuple[Line, ...]:
-    """The rows that say a number's word: their names, a field and a table of each."""
+    """Returns rows that show the word for a value. Each line has the name of the row, a field and a table."""
     parts = (line.split("|") for line in lines.strip().splitlines())
     return tuple(
         Line(name.strip(), f"{{{label.strip()}:{table.strip()}}}", f"{label.strip()} {{{label.strip()}}}") for name, label, table in parts
@@ -428,7 +431,7 @@ REFRESH_LINES = (
     *_alike("reduced blanking|RB|YES"),
     *EXTENDED_LINES,
 )
-NOTHING = (0, 0)  # no byte is judged: what stands there follows from other fields, or is sound
+NOTHING = (0, 0)  # no byte is judged: these bytes are sound, or follow from other fields
 LAYOUTS = {
     "null": Layout((Type.NULL, 0, 0), "HDMI 1.4, 5.3.2"),
     "clock": Layout(
@@ -608,11 +611,11 @@ LAYOUTS = {
 }
 OFFERED = {name: layout for name, layout in LAYOUTS.items() if layout.is_offered}
 LENGTHS = {layout.header[:2]: layout.header[2] for layout in LAYOUTS.values() if layout.is_infoframe and layout.least is None}
-OTHER = (Reserved(True, 2, 0xE0, "HB2"),)  # the reserved bits of an InfoFrame that no layout has
+OTHER = (Reserved(True, 2, 0xE0, "HB2"),)  # the reserved bits of an InfoFrame without a layout
 
 
 def layouts_of(kind: int) -> list[Layout]:
-    """The layouts of a type, the one with most conditions first."""
+    """Returns the layouts of a type. The one with the most conditions comes first."""
     return BY_TYPE.get(kind, [])
 
 

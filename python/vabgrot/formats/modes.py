@@ -1,5 +1,5 @@
-"""Video formats that have a code: those of CTA-861 (VIC 1 to 107) and of VESA's Display Monitor Timings (DMT); and the modes
-that `make content` has a code for."""
+"""Video formats with a code: those of CTA-861 (VIC 1 to 107) and of VESA's Display Monitor Timings (DMT), and the modes that `make
+content` has a code for."""
 
 from __future__ import annotations
 
@@ -14,8 +14,8 @@ ASPECTS = ("4:3", "16:9", "64:27", "256:135")
 
 @dataclass(frozen=True)
 class Axis:
-    """One direction of a raster: the parts of a line in pixel clocks, or those of a frame (of a field, where it is
-    interlaced) in lines; and whether the sync pulse is the high level."""
+    """One direction of a raster: the parts of a line in pixel clocks, or those of a frame (field, if interlaced) in lines. `is_positive`
+    says whether the sync pulse is the high level."""
 
     active: int
     front: int
@@ -25,17 +25,20 @@ class Axis:
 
     @property
     def total(self) -> int:
-        """The whole line or field, without the half line that fields of some formats have more."""
+        """The whole line or field, without the additional half line that fields of some formats have."""
         return self.active + self.front + self.sync + self.back
 
 
 @dataclass(frozen=True)
 class Format:
-    """A video format of a standard (`source`) with its code there. `clock` is the pixel clock in Hz, and where it has
-    also a rate of 1000/1001 of the other, the one that the standard names first. `halves` says whether the fields of an
-    interlaced format begin half a line apart, `more_front` how many lines more its vertical front porch may have.
-    `repetitions` are the values of the AVI InfoFrame's pixel repetition that it may have: 0 where each pixel is sent
-    once. `across` counts pixels as they are sent: repeated ones each time."""
+    """A video format of a standard (`source`) with its code there.
+
+    - `clock`: the pixel clock in Hz. If the format also has a rate that differs by 1000/1001, it is the one that the standard names
+      first.
+    - `halves`: whether the fields of an interlaced format begin half a line apart.
+    - `more_front`: how many lines longer its vertical front porch may be.
+    - `repetitions`: the allowed values of the AVI InfoFrame's pixel repetition (0: each pixel is sent once).
+    - `across`: counts repeated pixels each time they are sent."""
 
     source: str
     code: int
@@ -55,12 +58,12 @@ class Format:
 
     @property
     def columns(self) -> Fraction:
-        """The pixel clocks of a frame, or of a field on the average, where it is interlaced."""
+        """The pixel clocks of a frame; for an interlaced format of a field, on average."""
         return self.across.total * (self.down.total + Fraction(self.halves, 2))
 
     @property
     def rate(self) -> float:
-        """The frames a second, or the fields where it is interlaced."""
+        """The frames a second, or fields if interlaced."""
         return float(self.clock / self.columns)
 
     @property
@@ -75,10 +78,10 @@ class Format:
         return f"{self.name} ({self.across.active}x{self.rows}{scan}, {self.rate:.4g} Hz, {self.aspect})"
 
 
-# CTA-861, section 4 (detailed timings, VICs). Of each raster: the VICs with an aspect ratio of 4:3, 16:9, 64:27 and 256:135;
-# the pixel clock in kHz; active, front porch, sync and back porch of a line; the same of a field or frame; the polarities of
-# HSYNC and VSYNC; and then i: interlaced, and "whole" where its fields are whole lines; xN: how many times each pixel is sent;
-# front+N: so many lines more of the front porch are of the format too.
+# CTA-861, section 4 (detailed timings, VICs). Each raster has: the VICs for the aspect ratios 4:3, 16:9, 64:27 and 256:135; the pixel
+# clock in kHz; active, front porch, sync and back porch of a line; the same of a field or frame; the polarities of HSYNC and VSYNC. Then
+# marks: "i" is interlaced, "whole" if its fields are whole lines; xN is how often each pixel is sent; front+N allows N more lines of the
+# front porch.
 CTA_TABLE = """
  1  -   -   -  25175  640   16   96   48  480   10    2   33 --
  2  3   -   -  27000  720   16   62   60  480    9    6   30 --
@@ -148,8 +151,8 @@ CTA_TABLE = """
  -  -   - 102 594000 4096   88   88  128 2160    8   10   72 ++
 """
 
-# VESA DMT 1.13: the code in hexadecimal digits; the clock in kHz; a line, a field or frame, polarities and scan as above. A
-# border counts as porch.
+# VESA DMT 1.13: the code in hexadecimal; the clock in kHz; a line, a field or frame, polarities and scan as above. A border counts as
+# porch.
 DMT_TABLE = """
 01   31500  640   32   64   96  350   32    3   60 +-
 02   31500  640   32   64   96  400    1    3   41 -+
@@ -243,14 +246,14 @@ DMT_TABLE = """
 
 
 def _axes(parts: list[str]) -> tuple[Axis, Axis]:
-    """The two directions of eight numbers and a word of two signs."""
+    """Returns the two directions, given eight numbers and a word of two signs."""
     active, front, sync, back, rows, below, pulse, above = map(int, parts[:8])
     across, down = (sign == "+" for sign in parts[8])
     return Axis(active, front, sync, back, across), Axis(rows, below, pulse, above, down)
 
 
 def _repetitions(word: str) -> tuple[int, ...]:
-    """The values of the AVI InfoFrame for how many times a pixel is sent: x2 is 1, x1-10 is 0 to 9, x1-2,4 is 0, 1 and 3."""
+    """Returns the AVI InfoFrame's values for a mark: x2 is 1, x1-10 is 0 to 9, x1-2,4 is 0, 1 and 3."""
     found: list[int] = []
     for part in word[1:].split(","):
         first, _, last = part.partition("-")
@@ -259,7 +262,7 @@ def _repetitions(word: str) -> tuple[int, ...]:
 
 
 def _cta(line: str) -> list[Format]:
-    """The formats of a line of CTA_TABLE."""
+    """Returns the formats of a line of CTA_TABLE."""
     parts = line.split()
     across, down = _axes(parts[5:14])
     marks = parts[14:]
@@ -276,7 +279,7 @@ def _cta(line: str) -> list[Format]:
 
 
 def _dmt(line: str) -> Format:
-    """The format of a line of DMT_TABLE."""
+    """Returns the format of a line of DMT_TABLE."""
     code, clock, *parts = line.split()
     across, down = _axes(parts[:9])
     interlaced = "i" in parts[9:]
@@ -287,13 +290,13 @@ def _dmt(line: str) -> Format:
 
 @functools.cache
 def formats() -> tuple[Format, ...]:
-    """Every format: those of CTA-861 by their VIC, and then those of DMT by their code."""
+    """Returns every format: first those of CTA-861 by VIC, then those of DMT by code."""
     cta = [found for line in CTA_TABLE.strip().splitlines() for found in _cta(line)]
     return (*sorted(cta, key=lambda found: found.code), *map(_dmt, DMT_TABLE.strip().splitlines()))
 
 
 def of_vic(vic: int) -> Format | None:
-    """The format of CTA-861 with this code; None where the table has none."""
+    """Returns the format of CTA-861 with this code, or None."""
     return next((found for found in formats() if found.source == CTA and found.code == vic), None)
 
 
@@ -312,7 +315,7 @@ class Mode(NamedTuple):
 
     @property
     def size(self) -> tuple[int, int]:
-        """Pixels across and down."""
+        """The width and height in pixels."""
         return self.active_across, self.active_down
 
     @property
@@ -327,14 +330,14 @@ class Mode(NamedTuple):
 
     @property
     def room(self) -> int:
-        """The packets that a frame has room for: each line some whole packets, and 18 at most (docs/guide/FORMATS.md)."""
+        """The number of packets that fit a frame. Each line has room for whole packets, at most 18 (docs/guide/FORMATS.md)."""
         beside, alone = self.sync_across + self.back_across - 30, self.across - 16
         blank = sum(self[5:8])
         return self.active_down * max(0, min(18, beside // 32)) + blank * max(0, min(18, alone // 32))
 
 
 class Timing(NamedTuple):
-    """What CTA-861 says of a video identification code: the mode, the frames a second, the picture's aspect ratio."""
+    """The properties of a video identification code in CTA-861: mode, frames a second, aspect ratio of the picture."""
 
     mode: Mode
     rate: int
@@ -346,12 +349,12 @@ class Timing(NamedTuple):
         return self.mode.columns * self.rate
 
 
-CUSTOM_CLOCK = 25_200_000  # of a mode of one's own, in Hz
-MADE = (1, 2, 3, 4, 16, 17, 18, 19)  # the codes that `make content` has (docs/guide/FORMATS.md)
+CUSTOM_CLOCK = 25_200_000  # the pixel clock of a custom mode, in Hz
+MADE = (1, 2, 3, 4, 16, 17, 18, 19)  # the codes that `make content` accepts (docs/guide/FORMATS.md)
 
 
 def _timing(vic: int) -> Timing:
-    """The mode of a format of CTA-861, at its whole number of frames a second."""
+    """Returns the mode of a format of CTA-861, at its integer number of frames a second."""
     found = of_vic(vic)
     assert found is not None
     across, down = ((axis.active, axis.front, axis.sync, axis.back) for axis in (found.across, found.down))

@@ -1,4 +1,4 @@
-"""What the numbers in the fields of packets stand for, in words (CTA-861, section 6; HDMI 1.4, sections 5.3 and 8.2)."""
+"""Words for the values of packet fields (CTA-861, section 6; HDMI 1.4, sections 5.3 and 8.2)."""
 
 from __future__ import annotations
 
@@ -11,18 +11,18 @@ from vabgrot.formats.audio import RATES
 
 
 class Words(NamedTuple):
-    """The words for the numbers of a field, and what is said of a number that has none; `{}` there is the number."""
+    """The words for the values of a field. `other` is for values without a word; `{}` there is the value."""
 
     known: Mapping[int, str]
     other: str = "code {}"
 
     def of(self, number: int) -> str:
-        """The words for a number."""
+        """Returns the words for a value."""
         return self.known.get(number) or self.other.format(number)
 
 
 def _listed(*words: str, first: int = 0, other: str = "code {}") -> Words:
-    """The words for neighbouring numbers."""
+    """Makes the words for successive values."""
     return Words(dict(enumerate(words, first)), other)
 
 
@@ -63,7 +63,7 @@ FURTHER = Words(
         **{11: "MPEG-H 3D Audio", 12: "AC-4", 13: "3D Audio of PCM"},
     }
 )
-FREQUENCIES = (0, *RATES)  # by SF, in Hz; 0 by the stream
+FREQUENCIES = (0, *RATES)  # by SF, in Hz; 0 means "as the stream says"
 FREQUENCY_WORDS = _listed("by the stream", *(f"{hertz / 1000:g} kHz" for hertz in RATES))
 SIZES = _listed("by the stream", "16 bits", "20 bits", "24 bits")
 LFE_LEVELS = _listed("none told", "0 dB", "10 dB", "reserved")
@@ -115,14 +115,14 @@ PROTECTIONS = _listed("generic audio", "audio identified by IEC 60958", "DVD-Aud
 ISRC_STATES = Words({1: "starting", 2: "in the midst", 4: "ending"})
 ISRC_ENDS = _listed("no", "in a second packet")
 YES = _listed("no", "yes")
-OWNERS = _listed("a vendor", "HDMI", "CTA-861", "VESA")  # of the data sets of extended metadata
+OWNERS = _listed("a vendor", "HDMI", "CTA-861", "VESA")  # owners of the data sets of extended metadata
 DATA_SETS = _listed("periodic pseudo-static", "periodic dynamic", "unique", "reserved")
 SEQUENCES = _listed("in the midst", "first", "last", "the only one")
 PRECISIONS = _listed("8 bits", "10 bits", "12 bits", "reserved")
 GAMUT_SPACES = _listed("BT.709", "xvYCC601", "xvYCC709", "XYZ")
 GAMUT_FORMS = _listed("vertices", "a range")
 
-# The formats of CTA-861 behind those of `modes`: the first code, the size, and the rates of this code and those after it.
+# The formats of CTA-861 after those of `modes`: the first code, the size, and the rates of this code and the following ones.
 LATER = """
 108 1280x720 48;109 1280x720 48;110 1680x720 48;111 1920x1080 48;112 1920x1080 48;113 2560x1080 48;114 3840x2160 48
 115 4096x2160 48;116 3840x2160 48;117 3840x2160 100,120,100,120;121 5120x2160 24,25,30,48,50,60,100;193 5120x2160 120
@@ -132,7 +132,7 @@ LATER = """
 
 
 def _later() -> dict[int, str]:
-    """The formats of LATER in words, by their codes."""
+    """Returns the formats of LATER in words, by code."""
     found = {}
     for entry in LATER.strip().replace("\n", ";").split(";"):
         code, size, rates = entry.split()
@@ -147,7 +147,7 @@ LATER_NAMES = _later()
 
 @cache
 def mode_name(vic: int) -> str:
-    """A video identification code in words."""
+    """Returns a video identification code in words."""
     if vic == 0:
         return "no video identification code"
     known = modes.of_vic(vic)

@@ -1,4 +1,4 @@
-"""The rules that a capture is held against, each with the clause of the public standard that asks it."""
+"""The rules for captures, each with the clause of the public standard that requires it."""
 
 from __future__ import annotations
 
@@ -7,7 +7,7 @@ from dataclasses import dataclass
 
 @dataclass(frozen=True)
 class Rule:
-    """A rule: its name, what it asks, and the clause."""
+    """A rule: its name, its text, and the clause."""
 
     name: str
     asks: str
@@ -18,7 +18,7 @@ def _by_name(*rules: Rule) -> dict[str, Rule]:
     return {rule.name: rule for rule in rules}
 
 
-# The rules that hold of a stream of DVI too, and who asks them there.
+# The rules that also apply to DVI, with the clauses for DVI.
 OF_DVI = {
     "control characters": "DVI 1.0, 3.2.2",
     "control period": "own, as of HDMI 1.4, 5.2.1.2",

@@ -1,10 +1,10 @@
-"""The speakers of a sound of up to eight channels: the channel allocations of an audio InfoFrame (CTA-861, section 6.6), and
-the order of speakers and the channel mask of a WAV file."""
+"""Speakers for up to eight channels: the channel allocations of an audio InfoFrame (CTA-861, section 6.6), and the order of speakers and
+the channel mask of a WAV file."""
 
 from collections.abc import Sequence
 
-# The allocations CA of an audio InfoFrame, by their numbers from 00 to 31 (hexadecimal): the speakers of channels 3 to 8, where -
-# is a channel that is not used. Channels 1 and 2 are always front left and right.
+# The channel allocations CA of an audio InfoFrame, 00 to 31 (hexadecimal): the speakers of channels 3 to 8; - means that a channel is not
+# used. Channels 1 and 2 are always front left and right.
 ALLOCATIONS = tuple(
     ("FL", "FR", *row.split())
     for row in """
@@ -80,7 +80,7 @@ WORDS = {
     "FLW": "front left wide",
     "FRW": "front right wide",
 }
-# The bits of a WAV file's channel mask, in the order in which its channels stand. FLW and FRW have none there.
+# The bits of a WAV file's channel mask, in the order of its channels. FLW and FRW have none.
 MASK = {
     "FL": 0,
     "FR": 1,
@@ -96,7 +96,7 @@ MASK = {
     "FCH": 13,
     "FRH": 14,
 }
-BESIDE = {"RL": 9, "RR": 10, "RLC": 4, "RRC": 5}  # where four are in the rear: the outer ones are the sides of a WAV file
+BESIDE = {"RL": 9, "RR": 10, "RLC": 4, "RRC": 5}  # with four rear speakers, the outer ones become the sides of a WAV file
 USUAL = {
     1: 0x00,
     2: 0x00,
@@ -106,31 +106,31 @@ USUAL = {
     6: 0x0B,
     7: 0x0F,
     8: 0x13,
-}  # the allocation of a sound of so many channels
-SENT = {2: 0x00, 4: 0x03, 6: 0x0B, 8: 0x13}  # the least one that uses all of the first so many channels of a link
+}  # the usual allocation for this number of channels
+SENT = {2: 0x00, 4: 0x03, 6: 0x0B, 8: 0x13}  # the lowest allocation that uses all of this many channels of a link
 
 
 def speakers(allocation: int) -> tuple[str, ...]:
-    """The speakers of channels 1 to 8, `NONE` where a channel is not used; of an allocation without a meaning no names."""
+    """Returns the speakers of channels 1 to 8, `NONE` for a channel that is not used. An undefined allocation has none."""
     return ALLOCATIONS[allocation] if allocation < len(ALLOCATIONS) else ()
 
 
 def words(allocation: int) -> str:
-    """The speakers of an allocation, channel by channel."""
+    """Describes the speakers of an allocation, channel by channel."""
     found = [speaker for speaker in speakers(allocation) if speaker != NONE]
     return " ".join(found) if found else "an allocation that is reserved"
 
 
 def places(names: Sequence[str]) -> tuple[list[int], int]:
-    """The order in which a WAV file has channels of these speakers, and its channel mask. Speakers without a bit come last."""
+    """Returns the order of these speakers in a WAV file, and the channel mask. Speakers without a bit come last."""
     bits = MASK | (BESIDE if "RLC" in names else {})
     order = sorted(range(len(names)), key=lambda at: (bits.get(names[at], 32), at))
     return order, sum(1 << bits[name] for name in names if name in bits)
 
 
 def of_mask(mask: int) -> int | None:
-    """The least allocation that has exactly the speakers of a WAV file's channel mask; None where none has them. Two in the rear
-    may be those of either pair of bits there."""
+    """Returns the lowest allocation with exactly the speakers of a WAV file's channel mask, or None. Two rear speakers may use either
+    pair of bits."""
     for allocation, row in enumerate(ALLOCATIONS):
         names = [name for name in row if name != NONE]
         masks = {places(names)[1], sum(1 << (MASK | {"RL": 9, "RR": 10}).get(name, 32) for name in names)}

@@ -1,1 +1,1 @@
-"""Bits out of waveforms and of simulations' dumps."""
+"""Reads bits from waveforms and from the dumps of simulations."""

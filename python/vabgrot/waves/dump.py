@@ -1,4 +1,4 @@
-"""Value change dumps of simulations (IEEE 1364-2005, clause 18), and FST files by gtkwave's fst2vcd: their variables and changes."""
+"""Reads value change dumps of simulations (IEEE 1364-2005, clause 18), and FST files with gtkwave's fst2vcd: variables and changes."""
 
 import difflib
 import re
@@ -10,12 +10,12 @@ from typing import NamedTuple
 from vabgrot.errors import Refused
 
 PREFIXES = {"": 1, "m": 1e-3, "u": 1e-6, "n": 1e-9, "p": 1e-12, "f": 1e-15}
-MOST_NAMES = 8  # that a refusal lists
-RANGE = re.compile(r"\[-?\d+:-?\d+\]$")  # of a vector's bits, which some simulators write without a space behind its name
+MOST_NAMES = 8  # the most names that an error lists
+RANGE = re.compile(r"\[-?\d+:-?\d+\]$")  # the range of a vector; some simulators write no space before it
 
 
 class Variable(NamedTuple):
-    """A variable of a dump: its scopes and its name with dots between them, the code of its changes, its bits."""
+    """A variable of a dump: its path (scopes and name, joined by dots), its code, and its number of bits."""
 
     path: str
     code: str
@@ -27,8 +27,8 @@ class Variable(NamedTuple):
 
 
 class Change(NamedTuple):
-    """A change at a time: of the variable with this code, to digits 0, 1, x and z with the highest bit first. A new time
-    is a change without a code."""
+    """A change of the variable with this code, at a time. The digits are 0, 1, x and z, the highest bit first. Without a code, it is a
+    new time."""
 
     time: int
     code: str | None
@@ -36,7 +36,7 @@ class Change(NamedTuple):
 
 
 def lines_of(path: str | Path) -> Iterator[str]:
-    """The lines of a value change dump, or of one that `fst2vcd` makes of an FST file."""
+    """Yields the lines of a value change dump. `fst2vcd` converts an FST file first."""
     with open(path, encoding="ascii", errors="replace") as file:
         if Path(path).suffix.lower() != ".fst":
             yield from file
@@ -54,8 +54,7 @@ def lines_of(path: str | Path) -> Iterator[str]:
 
 
 class Dump:
-    """A dump: its variables, and `scale`, the seconds of its unit of time (None where it does not say). The changes are
-    read once, in turn."""
+    """A dump: its variables, and `scale`, the unit of time in seconds (None if not given). The changes can be read once."""
 
     def __init__(self, path: str | Path) -> None:
         self.path = path
@@ -66,7 +65,7 @@ class Dump:
         self.read_header()
 
     def read_header(self) -> None:
-        """Reads up to the changes; raises Refused where these do not come."""
+        """Reads the header, up to the changes. Raises Refused if there are none."""
         for word in self.words:
             if word == "$enddefinitions":
                 return
@@ -81,7 +80,7 @@ class Dump:
         raise Refused(f"{self.path}: no value change dump: it has no $enddefinitions")
 
     def take(self, word: str, body: list[str]) -> None:
-        """Takes what stands between a keyword of the header and its $end."""
+        """Takes the words between a keyword of the header and its $end."""
         if word == "$timescale":
             scale = re.fullmatch(r"(\d+)([munpf]?)s", "".join(body))
             self.scale = int(scale[1]) * PREFIXES[scale[2]] if scale else None
@@ -94,8 +93,8 @@ class Dump:
             self.variables.append(Variable(".".join([*self.scopes, name]), body[2], int(body[1])))
 
     def changes(self, codes: Container[str]) -> Iterator[Change]:
-        """Each new time, and the changes of the variables with these codes. A time that goes back is refused. Words may stand on
-        lines in any way."""
+        """Yields each new time, and the changes of the variables with these codes. Words may be divided over lines in any way. Raises
+        Refused if the time decreases."""
         now, words = 0, self.words
         for word in words:
             head = word[0]
@@ -107,17 +106,17 @@ class Dump:
             elif head in "01xXzZ":
                 if (code := word[1:] or next(words, "")) in codes:
                     yield Change(now, code, head)
-            elif head in "bBrRsS":  # a code may begin with $, as a keyword does
+            elif head in "bBrRsS":  # a code may begin with $, like a keyword
                 if (code := next(words, "")) in codes and head in "bB":
                     yield Change(now, code, word[1:])
             elif word == "$comment":
-                any(part == "$end" for part in words)  # goes past it
+                any(part == "$end" for part in words)  # skips to the $end
             elif head != "$":
                 raise Refused(f"{self.path}: `{word[:20]}` is no change of a variable")
 
     def find(self, word: str) -> Variable:
-        """The variable that a word names: by its whole path, or by an ending of it that no other variable has. Raises Refused where
-        it names none, or more than one."""
+        """Returns the variable with this path. An unambiguous end of a path is enough. Raises Refused if there is none, or more than one.
+        """
         same = {it.code: it for it in reversed(self.variables) if it.path == word}
         found = same or {it.code: it for it in reversed(self.variables) if it.path.endswith(f".{word}")}
         if len(found) == 1:
@@ -132,6 +131,6 @@ class Dump:
 
 
 def some(names: Iterable[str]) -> str:
-    """The first ones of some names, as text."""
+    """Returns the first few names as text."""
     each = list(dict.fromkeys(names))
     return ", ".join(each[:MOST_NAMES]) + (" and others" if len(each) > MOST_NAMES else "")

@@ -1,6 +1,7 @@
-"""The loops of `slice`: over edges, and, where Debian's python3-numba is there, over samples and bits. They are compiled
-once and kept in a folder of the user's; without numba Python runs `follow` as it stands, and NumPy does what the other
-two do (recovery.py), to the last bit."""
+"""The inner loops of `slice`: one over edges, and two over samples and bits.
+
+With Debian's python3-numba they are compiled once and cached in a folder of the user. Without it, Python runs `follow`, and NumPy does
+the work of the other two (recovery.py). The results are equal to the last bit."""
 
 import importlib
 import os
@@ -17,16 +18,16 @@ import numpy.typing as npt
 Reals = npt.NDArray[np.float64]
 Ints = npt.NDArray[np.int64]
 Levels = npt.NDArray[np.float32]
-Numbers = Reals | MutableSequence[float]  # NumPy's for numba, lists for Python
+Numbers = Reals | MutableSequence[float]  # NumPy arrays for numba, lists for Python
 Places = Ints | MutableSequence[int]
 Track = tuple[Reals, Ints, Reals]  # phases, numbers and periods
 P = ParamSpec("P")
 R = TypeVar("R")
 
-GAIN, PULL = 0.03, 0.03**2 / 10  # of the phase-locked loop, a bit
-MOST_WEIGHT = 8  # bits without an edge for which the next one makes up
-STRAY = 0.02  # how far the period may move from the one that was found
-CYCLE = 10  # the bits of a cycle of the clock (HDMI 1.4, section 4.2.4)
+GAIN, PULL = 0.03, 0.03**2 / 10  # gains of the phase-locked loop, for one bit
+MOST_WEIGHT = 8  # the greatest weight of an edge, in bits since the edge before
+STRAY = 0.02  # the relative change of the period that is allowed
+CYCLE = 10  # bits in a cycle of the clock (HDMI 1.4, section 4.2.4)
 WITHOUT = "Debian's package python3-numba is not here: with it this takes a fraction of the time"
 
 
@@ -40,9 +41,11 @@ def follow(
     periods: Numbers,
     errors: Numbers,
 ) -> None:
-    """Follows the edges one by one with a second-order digital phase-locked loop; each counts by the bits since the one
-    before, 8 at most. Bit numbers[i] begins at phases[i], and periods[i] is that of a bit: before the first edge, which
-    is given, and behind each; errors[i] is how far edge i is behind the beginning of a bit, in bits."""
+    """Follows the edges with a second-order digital phase-locked loop. The weight of an edge is the number of bits since the edge before,
+    at most 8.
+
+    Bit numbers[i] begins at phases[i], and periods[i] is the length of a bit. Index 0 is the state before the first edge, which the
+    caller gives; index i + 1 is the state after edge i. errors[i] is by how many bits edge i is later than the beginning of a bit."""
     least, most = (1 - STRAY) * period, (1 + STRAY) * period
     number = numbers[0]
     phases[0] = phase
@@ -67,9 +70,10 @@ def follow(
 
 
 def cross(values: Levels, begin: int, side: bool, low: np.float32, high: np.float32, first: float, moments: Numbers) -> int:
-    """Writes when the level is above `high` or below `low` for the first time after the other (`side`: it was above when
-    last seen), and answers how often that is. Value i lies at `first` + i, from 1 on; a level between two values lies on
-    the line from one to the other."""
+    """Writes the moments at which the level crosses to the other side: above `high` after it was below `low`, and the other way round.
+    Returns their number. `side` says whether the level was above when last seen.
+
+    Value i, from 1 on, is at `first` + i. Between two values the level is interpolated."""
     count, place = 0, begin
     while place < len(values):
         if side:
@@ -98,10 +102,11 @@ def sample(
     middle: float,
     ones: npt.NDArray[np.bool_],
 ) -> tuple[float, float]:
-    """Writes whether the level in the middle of each bit from `number` on is above `middle`; answers the lowest level
-    that is and the highest that is not. `track` has the phases, numbers and periods of the lane, and `clock` those of
-    the clock, which are empty where there is none. Value i, of two at least, lies at `first` + i, and a level between two
-    values lies on the line from one to the other."""
+    """Writes for each bit from `number` on whether the level in its middle is above `middle`. Returns the lowest level above and the
+    highest level that is not.
+
+    `track` has the phases, numbers and periods of the lane, `clock` those of the clock (empty without a clock). Value i is at `first` +
+    i; there are at least two. Between two values the level is interpolated."""
     phases, numbers, periods = track
     clock_phases, clock_numbers, clock_periods = clock
     lowest_one, highest_zero = np.inf, -np.inf
@@ -137,7 +142,7 @@ TYPES: dict[Callable[..., Any], str] = {
 
 
 def cache() -> str | None:
-    """The folder of the user's for what was compiled; None where there is none that can be written."""
+    """Returns the user's folder for compiled loops, or None if there is none that can be written."""
     try:
         place = Path(os.environ.get("XDG_CACHE_HOME") or Path.home() / ".cache") / "vabgrot"
         if place.is_absolute():
@@ -149,7 +154,7 @@ def cache() -> str | None:
 
 @once
 def numba() -> ModuleType | None:
-    """Numba, with the folder in which it keeps what it compiled; None where it is missing."""
+    """Returns the module numba, set up to cache in this folder, or None if it is not installed."""
     try:
         found = importlib.import_module("numba")
     except ImportError:
@@ -160,26 +165,26 @@ def numba() -> ModuleType | None:
 
 @once
 def compiled(function: Callable[..., Any]) -> Any:
-    """One of the loops as machine code; None without numba."""
+    """Returns one of the loops as machine code, or None without numba."""
     tool = numba()
     if tool is None:
         return None
     try:
         if tool.config.CACHE_DIR:
             return tool.njit(TYPES[function], cache=True)(function)
-    except Exception:  # the folder has no room, or what is in it is torn, which ends in faults of many kinds
+    except Exception:  # the folder is full or its content damaged: numba raises many kinds of errors then
         pass
     return tool.njit(TYPES[function])(function)
 
 
 def fast(function: Callable[P, R]) -> Callable[P, R] | None:
-    """One of the loops as machine code; None without numba."""
+    """Returns one of the loops as machine code, or None without numba."""
     found: Callable[P, R] | None = compiled(function)
     return found
 
 
 def followed(edges: Reals, phase: float, period: float, pull: float, number: int) -> tuple[Reals, Ints, Reals, Reals]:
-    """The phases, numbers, periods and errors that `follow` writes of an array of edges."""
+    """Returns the phases, numbers, periods and errors that `follow` writes for an array of edges."""
     size = len(edges) + 1
     if run := fast(follow):
         phases, periods, errors, numbers = np.empty(size), np.empty(size), np.empty(size - 1), np.empty(size, np.int64)

@@ -12,20 +12,20 @@ Reals = npt.NDArray[np.float64]
 # The hexagon in the middle of the eye: unit intervals from the middle of a bit, and volts of the pair from their middle.
 SHARP, FLAT, INNER, OUTER = 0.35, 0.25, 0.200, 0.780
 OFFSETS = np.linspace(-SHARP, SHARP, 37)[1:-1]
-ROOM: Reals = INNER * np.clip((SHARP - np.abs(OFFSETS)) / (SHARP - FLAT), 0, 1)  # that is to stay free at each of them
+ROOM: Reals = INNER * np.clip((SHARP - np.abs(OFFSETS)) / (SHARP - FLAT), 0, 1)  # the height of the hexagon at each offset
 CORNERS = [(-SHARP, 0.0), (-FLAT, INNER), (FLAT, INNER), (SHARP, 0.0), (FLAT, -INNER), (-FLAT, -INNER)]
 
 
 class Mask:
-    """Counts the bits whose level enters the mask, or lies beyond its outer limits. `volts` is what one unit of the file is."""
+    """Counts the bits with a level inside the mask or beyond its outer limits. `volts` is the value of one unit of the file."""
 
     def __init__(self, volts: float) -> None:
         self.volts = volts
         self.bits = self.inside = self.beyond = 0
-        self.least = np.inf  # how far the nearest level stays from the hexagon, in volts; below 0 it is inside
+        self.least = np.inf  # the distance of the nearest level from the hexagon, in volts; negative if inside
 
     def take(self, levels: Reals) -> None:
-        """Takes the levels from the middle of a lane on, in units of the file: a row each of OFFSETS, a column a bit."""
+        """Takes levels relative to the middle of a lane, in units of the file. The rows are the OFFSETS, the columns are bits."""
         volts = np.abs(levels) * self.volts
         free = volts - ROOM[:, None]
         self.bits += levels.shape[1]
@@ -35,7 +35,7 @@ class Mask:
 
     @property
     def is_kept(self) -> bool:
-        """Whether no level entered the mask."""
+        """Whether no level was inside the mask."""
         return not (self.inside or self.beyond)
 
     def __str__(self) -> str:
@@ -45,5 +45,5 @@ class Mask:
         return f"mask: FAIL, {self.inside:,} of {self.bits:,} bits enter it, by {max(-self.least, 0):.3f} V{beyond}"
 
     def plain(self) -> dict[str, Any]:
-        """The same for machines."""
+        """Returns the same as a value for JSON."""
         return {"pass": self.is_kept, "bits": self.bits, "inside": self.inside, "beyond": self.beyond, "volts_free": self.least}

@@ -1,4 +1,4 @@
-"""Bits out of a waveform: levels, edges, a phase-locked loop over them, and the level in the middle of each bit."""
+"""Recovers bits from a waveform: levels, edges, a phase-locked loop over the edges, and the level in the middle of each bit."""
 
 import tempfile
 from dataclasses import dataclass, field
@@ -18,23 +18,23 @@ from vabgrot.waves.waveform import Channel, Piece, Samples
 
 Mask = npt.NDArray[np.bool_]
 
-FIRST = 2000  # the edges by which bit rate and phase are found
-RUNS, RUN = 32, 1024  # of values by which the levels of a piece are found
-LEAST_SAMPLES = 2.6  # a bit, where its edges alone tell the bits
-HYSTERESIS = 0.1  # of the swing, on both sides of the threshold
+FIRST = 2000  # the number of edges that give bit rate and phase
+RUNS, RUN = 32, 1024  # number and length of the runs of values that give the levels of a piece
+LEAST_SAMPLES = 2.6  # the least samples a bit if there is no clock
+HYSTERESIS = 0.1  # as a part of the swing, on both sides of the threshold
 EYE_WIDTH, EYE_HEIGHT, EYE_BITS, EYE_ROOM = 101, 101, 4096, 0.5
-LEAST_OPENING, MOST_JITTER = 0.1, 0.9  # of an eye that is open
+LEAST_OPENING, MOST_JITTER = 0.1, 0.9  # the limits of an open eye
 
 
 def rows_of(keys: npt.NDArray[Any], values: npt.NDArray[Any]) -> Ints:
-    """Of each of some rising values the last of the rising keys that is not past it, or the first one."""
+    """Returns for each of the rising `values` the last of the rising `keys` that is not greater, or the first one."""
     begins = np.maximum.accumulate(np.searchsorted(values, keys))
     begins[0] = 0
     return np.repeat(np.arange(len(keys)), np.diff(begins, append=len(values)))
 
 
 class Bits:
-    """The bits of a lane that come piece by piece, in a file without a name: bit i is bit i mod 8 of its byte i / 8."""
+    """Collects the bits of a lane in a temporary file. Bit i is bit i mod 8 of byte i / 8."""
 
     def __init__(self) -> None:
         self.file: IO[bytes] = tempfile.TemporaryFile()
@@ -42,7 +42,7 @@ class Bits:
         self.held: Mask = np.zeros(0, bool)
 
     def write(self, bits: Mask) -> None:
-        """Adds the bits of an array of booleans."""
+        """Adds the bits of a Boolean array."""
         self.count += len(bits)
         if self.count > MOST_BITS:
             raise Refused(f"a lane has at most {MOST_BITS} bits")
@@ -52,12 +52,12 @@ class Bits:
         self.held = bits[whole:]
 
     def put(self, bits: Mask) -> None:
-        """Writes whole bytes of bits, or the last ones; raises OSError with the folder of the file."""
+        """Writes whole bytes of bits, or the last ones. An OSError names the file's folder."""
         with naming(tempfile.gettempdir()):
             self.file.write(np.packbits(bits, bitorder="little").tobytes())
 
     def ended(self) -> IO[bytes]:
-        """The file at its beginning, with all bits in it."""
+        """Returns the complete file, positioned at its beginning."""
         self.put(self.held)
         with naming(tempfile.gettempdir()):
             self.file.seek(0)
@@ -65,11 +65,11 @@ class Bits:
 
 
 class Trace:
-    """The levels of one lane over a piece, and the last ones before it."""
+    """The levels of one lane in a piece, preceded by the last ones before it."""
 
     def __init__(self, piece: Piece, channel: Channel, before: "Trace | None" = None) -> None:
         kept = before.values[-2:] if before else np.zeros(0, np.float32)
-        self.new = tail = len(kept)  # where the values of the piece begin
+        self.new = tail = len(kept)  # the index at which the values of the piece begin
         self.values: npt.NDArray[np.float32] = np.empty(tail + len(piece.values), np.float32)
         self.values[:tail] = kept
         channel.write(piece.values, self.values[tail:])
@@ -80,7 +80,7 @@ class Trace:
         self.last = piece.last
 
     def at(self, moments: Reals) -> Reals:
-        """The level at each moment; between two samples on the line from one to the other."""
+        """Returns the level at each moment, interpolated between samples."""
         if self.times is not None:
             stood: Reals = self.values[np.maximum(np.searchsorted(self.times, moments, "right") - 1, 0)]
             return stood
@@ -91,7 +91,7 @@ class Trace:
         return between
 
     def moments(self, places: npt.NDArray[np.intp], thresholds: Reals) -> Reals:
-        """When the level passed the thresholds on the way to the samples at some places."""
+        """Returns when the level crossed the thresholds before the samples at some places."""
         if self.times is not None:
             changed: Reals = self.times[places]
             return changed
@@ -118,7 +118,7 @@ class Levels:
 
 
 def spread(values: Samples) -> Samples:
-    """The values, or runs of them that are spread evenly over many."""
+    """Returns the values. If there are many, it returns runs spread evenly over them."""
     if len(values) <= RUNS * RUN:
         return values
     begins = np.linspace(0, len(values) - RUN, RUNS).astype(int)
@@ -126,7 +126,7 @@ def spread(values: Samples) -> Samples:
 
 
 def levels_of(values: Samples) -> Levels:
-    """The levels round which the values lie, by the means of those above and below the middle."""
+    """Returns the two levels: the means of the values above and below the middle."""
     values = spread(values)
     middle = (float(values.min()) + float(values.max())) / 2
     low = high = middle
@@ -142,7 +142,7 @@ def levels_of(values: Samples) -> Levels:
 
 
 def crossed(trace: Trace, side: bool, low: np.float32, high: np.float32) -> Reals:
-    """The moments that `loops.cross` writes of the new values of a trace."""
+    """Returns the moments that `loops.cross` writes for the new values of a trace."""
     run = trace.times is None and loops.fast(loops.cross)
     if run:
         moments = np.empty(len(trace.values))
@@ -157,8 +157,7 @@ def crossed(trace: Trace, side: bool, low: np.float32, high: np.float32) -> Real
 
 
 def edges_of(trace: Trace, levels: Levels, side: bool) -> tuple[Reals, Mask, bool]:
-    """The moments at which the level changes from one side of the threshold to the other, whether it rises, and the side
-    on which it is at the end."""
+    """Returns the moments at which the level crosses the threshold, whether each edge rises, and the side at the end."""
     low, high = (np.float32(levels.middle + part * levels.swing) for part in (-HYSTERESIS, HYSTERESIS))
     moments = crossed(trace, side, low, high)
     rising = np.arange(len(moments)) % 2 == int(side)
@@ -166,8 +165,8 @@ def edges_of(trace: Trace, levels: Levels, side: bool) -> tuple[Reals, Mask, boo
 
 
 class Track(NamedTuple):
-    """Where a loop stood before some edges and behind each of them: bit `numbers` begins at `phases`, and how far each
-    edge was behind the beginning of a bit, in bits."""
+    """The states of a loop before some edges and after each of them: bit `numbers` begins at `phases`. `errors` is by how many bits each
+    edge was later than the beginning of a bit."""
 
     phases: Reals
     numbers: Ints
@@ -175,14 +174,14 @@ class Track(NamedTuple):
     errors: Reals
 
     def middles(self, numbers: Ints) -> tuple[Reals, Reals]:
-        """The middles of some bits that rise, and their periods."""
+        """Returns the middles of bits, and their periods. `numbers` must rise."""
         at = rows_of(self.numbers, numbers)
         return self.phases[at] + (numbers - self.numbers[at] + 0.5) * self.periods[at], self.periods[at]
 
 
 @dataclass
 class Loop:
-    """A phase-locked loop: bit `number` begins at `phase`, and `period` is that of a bit."""
+    """A phase-locked loop: bit `number` begins at `phase` and lasts `period`."""
 
     phase: float
     period: float
@@ -197,8 +196,8 @@ class Loop:
 
 
 def settled(edges: Reals, loop: Loop, start: float) -> Loop:
-    """The loop as it stands before the first edge, once it has gone over the edges forth and back; bit 0 is the first
-    whose middle is not before the start."""
+    """Returns the loop in its state before the first edge, after it followed the edges forwards and backwards. Bit 0 is the first bit
+    with its middle at or after `start`."""
     loop.track(edges)
     back = Loop(-loop.phase, loop.period, 0, loop.pull)
     back.track(-edges[::-1])
@@ -207,7 +206,7 @@ def settled(edges: Reals, loop: Loop, start: float) -> Loop:
 
 
 def period_of(edges: Reals, least: float) -> float | None:
-    """The bit period by the spacing of edges: the longest whose multiples the spacings are."""
+    """Returns the bit period: the longest one that divides the distances of the edges."""
     steps = np.diff(edges)
     low, high = max(np.percentile(steps, 25) / 3, least), 1.5 * np.percentile(steps, 75)
     if not low < high:
@@ -229,38 +228,39 @@ NO_TRACK = Track(np.empty(0), np.empty(0, np.int64), np.empty(0), np.empty(0))
 
 
 class Base(Protocol):
-    """The time of lanes: a scale on which their bits are even, or nearly."""
+    """The time base of lanes: a scale on which all bits have (nearly) the same length."""
 
     track: Track
 
     def feed(self, piece: Piece) -> None:
-        """Takes the next piece, before the lanes do."""
+        """Takes the next piece. Call it before the lanes take the piece."""
 
     def bits(self, moments: Reals) -> Reals:
-        """The times on the scale of moments of the file that rise."""
+        """Converts moments of the file, which must rise, to the scale."""
 
     def moments(self, bits: Reals) -> Reals:
-        """The moments of the file of times on the scale that rise."""
+        """Converts rising times on the scale to moments of the file."""
 
     def lock(self, edges: Reals, start: float, name: str, least: float) -> Loop:
-        """The loop of a lane by its first edges, whose bits have at least so many samples. Raises Refused where they tell none."""
+        """Returns the loop of a lane, given its first edges. A bit has at least `least` samples. Raises Refused if they show no bit rate.
+        """
 
 
 class Freely:
-    """The time of lanes that have no clock: the file's own."""
+    """The time base of lanes without a clock: the file's own time."""
 
     def __init__(self) -> None:
         self.track = NO_TRACK
 
     def feed(self, piece: Piece) -> None:
-        """Takes the next piece, before the lanes do."""
+        """Does nothing."""
 
     def bits(self, moments: Reals) -> Reals:
-        """The times of moments of the file: the same."""
+        """Returns the same moments."""
         return moments
 
     def moments(self, bits: Reals) -> Reals:
-        """The moments of the file of times: the same."""
+        """Returns the same moments."""
         return bits
 
     def lock(self, edges: Reals, start: float, name: str, least: float) -> Loop:
@@ -273,7 +273,7 @@ class Freely:
 
 
 class Lane:
-    """A lane whose bits are found piece by piece, and kept in a file. `trace`, `levels` and `loop` are those of the last piece."""
+    """Finds the bits of a lane piece by piece, and keeps them in a file. `trace`, `levels` and `loop` belong to the last piece."""
 
     trace: Trace
     levels: Levels
@@ -289,7 +289,7 @@ class Lane:
         self.eye_levels: Levels | None = None
 
     def edges(self, piece: Piece) -> tuple[Reals, Mask]:
-        """The edges of the next piece: the moments, and whether the level rises. Raises Refused where there are no levels."""
+        """Returns the edges of the next piece: their moments, and whether each rises. Raises Refused if the level does not change."""
         is_first, self.pieces = not self.pieces, self.pieces + 1
         self.trace = Trace(piece, self.channel, None if is_first else self.trace)
         if not np.isfinite(self.trace.values).all():
@@ -305,7 +305,7 @@ class Lane:
         return moments, rising
 
     def feed(self, piece: Piece, base: Base) -> None:
-        """Takes the next piece, after `base` did. Raises Refused where no bit rate is found in the first one."""
+        """Takes the next piece, after `base` took it. Raises Refused if the first piece shows no bit rate."""
         moments, _ = self.edges(piece)
         edges = base.bits(moments)
         if self.pieces == 1:
@@ -318,7 +318,7 @@ class Lane:
         self.slice(track, base)
 
     def slice(self, track: Track, base: Base) -> None:
-        """Takes the level in the middle of each bit up to the last moment of the piece."""
+        """Reads the level in the middle of each bit, up to the end of the piece."""
         loop, last = self.loop, base.bits(np.array([self.trace.last]))[0]
         behind = loop.number + int(np.floor((last - loop.phase) / loop.period - 0.5)) + 1
         if behind <= self.written.count:
@@ -333,13 +333,13 @@ class Lane:
         self.written.write(ones)
 
     def measure_mask(self, mask: EyeMask, middles: Reals, periods: Reals, base: Base) -> None:
-        """Takes the levels around the middle of bits for the mask, except of bits that are not whole in the piece."""
+        """Passes the levels around the middle of bits to the mask. Bits that are only partly in the piece are left out."""
         rows = [base.moments(middles + offset * periods) for offset in OFFSETS]
         whole = (rows[0] >= self.trace.first) & (rows[-1] <= self.trace.last)
         mask.take(np.stack([self.trace.at(moments[whole]) for moments in rows]) - self.levels.middle)
 
     def take(self, piece: Piece) -> None:
-        """Takes the next piece of a lane that was sampled once a bit. Raises Refused if there are no levels."""
+        """Takes the next piece of a lane with one sample for each bit. Raises Refused if the level does not change."""
         self.edges(piece)
         levels = self.trace.values[self.trace.new :]
         ones = levels > self.levels.middle
@@ -349,8 +349,8 @@ class Lane:
         self.written.write(ones)
 
     def sampled(self, track: Track, base: Base, behind: int) -> tuple[Mask, float, float]:
-        """Whether the level in the middle of each bit that was not written yet is over the threshold, and what
-        `loops.sample` answers."""
+        """Returns for each new bit whether the level in its middle is above the threshold, and the two levels that `loops.sample`
+        returns."""
         trace, number, middle = self.trace, self.written.count, self.levels.middle
         run = trace.times is None and loops.fast(loops.sample)
         if run:
@@ -362,7 +362,7 @@ class Lane:
         return ones, levels[ones].min(initial=np.inf), levels[~ones].max(initial=-np.inf)
 
     def draw(self, eye: Reals, middles: Reals, periods: Reals, base: Base) -> None:
-        """Counts the levels from one bit before the middle of a bit to one behind it."""
+        """Adds the levels from one bit before the middle of a bit to one bit after it to the eye diagram."""
         if self.eye_levels is None:
             room = EYE_ROOM * self.levels.swing
             self.eye_levels = Levels(self.levels.low - room, self.levels.high + room)
@@ -377,39 +377,39 @@ class Lane:
 
 @dataclass
 class Measure:
-    """What is told of a lane: its bit period, jitter in unit intervals, levels, and the opening of its eye."""
+    """The measurements of a lane: bit period, jitter in unit intervals, levels, and the opening of the eye."""
 
     bits: int = 0
     edges: int = 0
     square: float = 0.0
     early: float = 0.0
     late: float = 0.0
-    ends: list[float] = field(default_factory=list)  # the moments of the first and of the last bit
+    ends: list[float] = field(default_factory=list)  # the moments of the first and the last bit
     sums: Reals = field(default_factory=lambda: np.zeros(2))
     lowest_one: float = np.inf
     highest_zero: float = -np.inf
 
     def errors(self, errors: Reals) -> None:
-        """Adds how far some edges were behind the beginning of a bit."""
+        """Adds by how many bits some edges were late."""
         self.edges += len(errors)
         if len(errors):
             self.square += float(np.square(errors).sum())
             self.early, self.late = min(self.early, errors.min()), max(self.late, errors.max())
 
     def take(self, bits: int, levels: Levels, lowest_one: float, highest_zero: float) -> None:
-        """Adds some bits, the levels of their lane, and those in the middle of the bits."""
+        """Adds bits: their number, the lane's levels, and the extreme levels in the middle of the bits."""
         self.lowest_one = min(self.lowest_one, lowest_one)
         self.highest_zero = max(self.highest_zero, highest_zero)
         self.sums += bits * np.array([levels.low, levels.high])
         self.bits += bits
 
     def spans(self, middles: Reals) -> None:
-        """Adds the moments of the first and of the last of some bits."""
+        """Adds the moments of the first and the last of some bits."""
         self.ends = [self.ends[0] if self.ends else middles[0], middles[-1]]
 
     @property
     def period(self) -> float:
-        """The time of a bit, in the file's units."""
+        """The length of a bit, in the file's units."""
         return (self.ends[1] - self.ends[0]) / (self.bits - 1) if self.bits > 1 else 0.0
 
     @property
@@ -418,22 +418,22 @@ class Measure:
 
     @property
     def opening(self) -> float:
-        """How far the levels in the middle of ones and zeros lie apart, in parts of the swing."""
+        """The distance between ones and zeros in the middle of bits, as a part of the swing."""
         return (self.lowest_one - self.highest_zero) / self.levels.swing
 
     @property
     def jitter(self) -> tuple[float, float]:
-        """Root mean square, and peak to peak."""
+        """The jitter: root mean square, and peak to peak."""
         return (self.square / max(self.edges, 1)) ** 0.5, self.late - self.early
 
     @property
     def is_shut(self) -> bool:
-        """Whether a level came near the threshold, or an edge near the middle of a bit: bits may be wrong."""
+        """Whether a level was near the threshold, or an edge near the middle of a bit. Then bits may be wrong."""
         return self.opening < LEAST_OPENING or self.jitter[1] > MOST_JITTER
 
 
 class Clock:
-    """The time of lanes by the rising edges of a clock channel: ten bits a cycle."""
+    """The time base given by the rising edges of a clock channel: ten bits a cycle."""
 
     def __init__(self, channel: Channel) -> None:
         self.lane = Lane("the clock", channel)
@@ -441,7 +441,7 @@ class Clock:
         self.track = NO_TRACK
 
     def feed(self, piece: Piece) -> None:
-        """Follows the clock over the next piece, before the lanes are."""
+        """Follows the clock through the next piece. Call it before the lanes take the piece."""
         moments, rising = self.lane.edges(piece)
         edges = moments[rising]
         if self.loop is None:
@@ -452,14 +452,14 @@ class Clock:
         self.track = self.loop.track(edges)
 
     def bits(self, moments: Reals) -> Reals:
-        """The times in bits, ten a cycle, of moments that rise."""
+        """Converts rising moments to bits, ten in each cycle."""
         track = self.track
         at = rows_of(track.phases, moments)
         bits: Reals = loops.CYCLE * (track.numbers[at] + (moments - track.phases[at]) / track.periods[at])
         return bits
 
     def moments(self, bits: Reals) -> Reals:
-        """The moments of the file of times in bits that rise."""
+        """Converts rising times in bits to moments of the file."""
         track, cycles = self.track, bits / loops.CYCLE
         at = rows_of(track.numbers, cycles)
         moments: Reals = track.phases[at] + (cycles - track.numbers[at]) * track.periods[at]

@@ -1,4 +1,4 @@
-"""Words of ten bits out of a value change dump, as a clock samples them, or one a step of time."""
+"""Reads words of ten bits from a value change dump: sampled by a clock, or one for each step of time."""
 
 import math
 from collections.abc import Iterator
@@ -16,13 +16,13 @@ from vabgrot.waves.dump import Dump, Variable
 Row = tuple[int, ...]  # the words of lanes 0, 1 and 2
 Words = npt.NDArray[np.uint16]  # columns by lanes
 
-UNKNOWN = -1  # a word of which a bit is x or z
+UNKNOWN = -1  # a word with a bit that is x or z
 ASK = "give --clock"
 MOST_AT_ONCE = 1 << 16  # columns
 
 
 class Stretch(NamedTuple):
-    """Columns of the same words: the times of the first and of the last, how many they are, and the words of lanes 0 to 2."""
+    """Columns with equal words: the times of the first and the last, their number, and the words of lanes 0 to 2."""
 
     first: int
     last: int
@@ -31,8 +31,8 @@ class Stretch(NamedTuple):
 
 
 class Columns:
-    """The columns of a dump piece by piece, those with x or z left out: `early` are those before the first whole one, at the
-    time `first`, and `late` those after it, the first at the time `torn`. `step` is the time from a column to the next."""
+    """The columns of a dump, piece by piece, without those that contain x or z. `early` counts such columns before the first complete one
+    (at time `first`), `late` those after it (the first of them at time `torn`)."""
 
     def __init__(self, stretches: Iterator[Stretch], size: int) -> None:
         self.stretches, self.size = stretches, min(size, MOST_AT_ONCE)
@@ -43,12 +43,12 @@ class Columns:
 
     @property
     def step(self) -> float:
-        """The units of time a column, over all columns; 0 where there is no second one."""
+        """The mean time from one column to the next, or 0 if there is only one."""
         steps = self.count + self.late - 1
         return (self.last - (self.first or 0)) / steps if steps > 0 else 0
 
     def take(self, stretch: Stretch) -> bool:
-        """Counts a stretch, and answers whether its columns are written."""
+        """Counts a stretch. Returns whether to write its columns."""
         is_whole = UNKNOWN not in stretch.words
         if is_whole:
             self.count += stretch.columns
@@ -65,7 +65,7 @@ class Columns:
         return is_whole
 
     def pieces(self) -> Iterator[Words]:
-        """Arrays of columns, three words a row."""
+        """Yields arrays of columns, three words in each row."""
         held: list[Stretch] = []
         columns = 0
         for stretch in filter(self.take, self.stretches):
@@ -79,13 +79,13 @@ class Columns:
 
 
 def repeated(stretches: list[Stretch]) -> Words:
-    """The columns of some stretches, three words a row."""
+    """Returns the columns of some stretches, three words in each row."""
     rows = np.array([stretch.words for stretch in stretches], np.uint16)
     return np.repeat(rows, [stretch.columns for stretch in stretches], axis=0)
 
 
 def variables_of(dump: Dump, names: list[str], clock: str | None) -> tuple[list[Variable], Variable | None]:
-    """The variables of the three lanes, ten bits each, and of the clock, which is None where none is named."""
+    """Returns the variables of the three lanes, ten bits each, and of the clock (None if no clock is named)."""
     lanes = [dump.find(name) for name in names]
     for lane in lanes:
         if lane.width != TEN:
@@ -101,7 +101,7 @@ def variables_of(dump: Dump, names: list[str], clock: str | None) -> tuple[list[
 
 
 class Held(dict[str, int]):
-    """The words of the three lanes at a time, by the codes of their variables."""
+    """The current words of the three lanes, by the codes of their variables."""
 
     known: dict[str, int] = {}
 
@@ -118,7 +118,7 @@ class Held(dict[str, int]):
 
 
 def by_clock(dump: Dump, lanes: list[Variable], clock: Variable) -> Iterator[Stretch]:
-    """A column at each rise of the clock: the words as they stood before that time, which a register takes."""
+    """Yields a column at each rising edge of the clock. Its words are those before that time, as a register would take them."""
     held, coming, level = Held(lanes), list[tuple[str, str]](), "x"
     rose: int | None = None
     for time, code, digits in dump.changes({clock.code, *held}):
@@ -138,7 +138,7 @@ def by_clock(dump: Dump, lanes: list[Variable], clock: Variable) -> Iterator[Str
 
 
 def changes_of(dump: Dump, lanes: list[Variable]) -> Iterator[tuple[int, Row | None]]:
-    """The times at which words change, and the words from there on; last the time at which the dump ends, and None."""
+    """Yields the times at which words change, each with the new words. The last item is the end of the dump and None."""
     held, changed, before = Held(lanes), set[str](), 0
     for time, code, digits in dump.changes(set(held)):
         if code is not None:
@@ -157,7 +157,8 @@ def changes_of(dump: Dump, lanes: list[Variable]) -> Iterator[tuple[int, Row | N
 
 
 def by_step(dump: Dump, lanes: list[Variable], size: int) -> Iterator[Stretch]:
-    """A column each step of time: the least time between changes of the words, of which every other one is a multiple."""
+    """Yields a column for each step of time. The step is the shortest time between changes of the words. Raises Refused if another time
+    is not a multiple of it."""
     found, size = changes_of(dump, lanes), min(size, MOST_AT_ONCE)
     for time, row in found:
         if row is None:
@@ -167,7 +168,7 @@ def by_step(dump: Dump, lanes: list[Variable], size: int) -> Iterator[Stretch]:
             break
         yield Stretch(time, time, 1, row)
     first = [(time, row), *islice(found, size)]
-    times = [time for time, row in first if row]  # the end of the dump need be at no step
+    times = [time for time, row in first if row]  # the end of the dump need not be at a step
     spans = [later - earlier for earlier, later in zip(times, times[1:])]
     step = min(spans, default=0)
     if not step or math.gcd(*spans) != step:

@@ -1,4 +1,4 @@
-"""Samples in HDF5 files (.h5) and in those of MATLAB (.mat), as oscilloscopes and scripts write them."""
+"""Reads samples from HDF5 files (.h5) and MATLAB files (.mat), as oscilloscopes and scripts write them."""
 
 from __future__ import annotations
 
@@ -12,20 +12,20 @@ import numpy.typing as npt
 
 from vabgrot.errors import Refused
 
-Array = Any  # of NumPy or of h5py: it has a shape, a type of its numbers, and parts of it
+Array = Any  # an array of NumPy or h5py: it has a shape and a type, and can be sliced
 RATES = ("rate", "samplerate", "fs")  # samples a second
-STEPS = ("tinterval", "xinc", "ts", "dt")  # seconds a sample: PicoScope's, Keysight's, and MATLAB's habits
+STEPS = ("tinterval", "xinc", "ts", "dt")  # seconds a sample, as PicoScope, Keysight and MATLAB scripts name it
 TIMES = ("time", "times", "t")
 HDF5 = ".h5", ".hdf5"
 
 
 def plain(name: str) -> str:
-    """A name as those of rates are written."""
+    """Returns a name in the spelling of RATES and STEPS."""
     return name.rpartition("/")[2].replace("_", "").replace(" ", "").lower()
 
 
 def rate_in(numbers: Mapping[str, float]) -> float | None:
-    """The samples a second that some named numbers say."""
+    """Returns the samples a second, if one of the named numbers gives it."""
     found = {plain(name): number for name, number in numbers.items() if number > 0}
     for name in RATES:
         if name in found:
@@ -34,12 +34,12 @@ def rate_in(numbers: Mapping[str, float]) -> float | None:
 
 
 def long_sides(shape: tuple[int, ...]) -> list[int]:
-    """Which dimensions of an array have more than one place."""
+    """Returns the dimensions of an array that are longer than one."""
     return [side for side, size in enumerate(shape) if size > 1]
 
 
 def rows_of(array: Array, first: int, behind: int) -> npt.NDArray[Any]:
-    """Some samples of an array, one a row. Its longest dimension is that of the samples."""
+    """Returns some samples of an array, one in each row. The longest dimension counts samples."""
     side = int(np.argmax(array.shape))
     part = array[tuple(slice(first, behind) if it == side else slice(None) for it in range(len(array.shape)))]
     found: npt.NDArray[Any] = np.moveaxis(np.asarray(part), side, 0)
@@ -47,7 +47,7 @@ def rows_of(array: Array, first: int, behind: int) -> npt.NDArray[Any]:
 
 
 def columns_of(arrays: Mapping[str, Array], path: str) -> dict[str, Array]:
-    """The arrays that have the samples: one of samples by channels, or those with the most samples, one a channel."""
+    """Returns the arrays with samples: one array of samples by channels, or the longest ones, one for each channel."""
     wide = {name: it for name, it in arrays.items() if len(long_sides(it.shape)) > 1}
     if any(len(long_sides(it.shape)) > 2 for it in wide.values()) or len(wide) > 1:
         raise Refused(f"{path}: one array of samples by channels is wanted; it has {', '.join(wide)}")
@@ -61,7 +61,7 @@ def columns_of(arrays: Mapping[str, Array], path: str) -> dict[str, Array]:
 
 
 def short_names(names: list[str]) -> list[str]:
-    """The last parts of paths, if these are unlike."""
+    """Returns the last parts of paths if they are all different, otherwise the paths."""
     short = [name.rpartition("/")[2] for name in names]
     return short if len(set(short)) == len(short) else names
 
@@ -70,7 +70,7 @@ Parts = tuple[list[str], float | None, Iterator[npt.NDArray[Any]], int]  # names
 
 
 def parts_of(arrays: Mapping[str, Array], numbers: Mapping[str, float], path: str, piece: int) -> Parts:
-    """What a wave is made of."""
+    """Returns the parts of a wave."""
     found = columns_of(arrays, path)
     for it in found.values():
         if it.dtype.kind not in "biuf":
@@ -90,7 +90,7 @@ def parts_of(arrays: Mapping[str, Array], numbers: Mapping[str, float], path: st
 
 
 def of_h5(path: str, piece: int) -> Parts:
-    """The datasets of an HDF5 file; numbers and attributes of their names say the rate."""
+    """Reads the datasets of an HDF5 file. Numbers and attributes with one of the known names give the rate."""
     h5py = importlib.import_module("h5py")
     try:
         file = h5py.File(path, "r")
@@ -113,12 +113,12 @@ def of_h5(path: str, piece: int) -> Parts:
 
 
 def is_number(value: Any) -> bool:
-    """Whether an attribute is one number."""
+    """Returns whether an attribute is a single number."""
     return bool(np.size(value) == 1 and np.asarray(value).dtype.kind in "biuf")
 
 
 def of_mat(path: str, piece: int) -> Parts:
-    """The variables of a file of MATLAB; from its version 7.3 on that is an HDF5 file."""
+    """Reads the variables of a MATLAB file. From version 7.3 on it is an HDF5 file."""
     io = importlib.import_module("scipy.io")
     try:
         held: dict[str, Any] = io.loadmat(path)
@@ -126,7 +126,7 @@ def of_mat(path: str, piece: int) -> Parts:
         return of_h5(path, piece)
     except OSError:
         raise
-    except Exception as why:  # of a broken file it ends with faults of many kinds
+    except Exception as why:  # a broken file raises many kinds of errors
         raise Refused(f"{path}: no file of MATLAB ({why})") from None
     arrays = {name: it for name, it in held.items() if isinstance(it, np.ndarray) and it.dtype.kind in "biuf" and it.size > 1}
     numbers = {name: float(it.reshape(-1)[0]) for name, it in held.items() if isinstance(it, np.ndarray) and is_number(it)}
@@ -137,5 +137,5 @@ READERS: dict[str, Callable[[str, int], Parts]] = {**dict.fromkeys(HDF5, of_h5),
 
 
 def read(path: str, piece: int) -> Parts:
-    """What the wave of a file is made of, by the end of its name."""
+    """Reads the parts of the wave in a file, chosen by its suffix."""
     return READERS[Path(path).suffix.lower()](path, piece)

@@ -1,4 +1,4 @@
-"""Waveforms of files, piece by piece: NumPy arrays, CSV, raw samples, VCD, FST, sigrok's sessions, HDF5 and MATLAB's files."""
+"""Reads waveforms piece by piece: NumPy arrays, CSV, raw samples, VCD, FST, sigrok sessions, HDF5 and MATLAB files."""
 
 import configparser
 import re
@@ -19,7 +19,7 @@ from vabgrot.waves import stores
 from vabgrot.waves.dump import PREFIXES as UNITS
 from vabgrot.waves.dump import Dump
 
-Samples = npt.NDArray[Any]  # of any kind of numbers: samples by channels
+Samples = npt.NDArray[Any]  # samples by channels, of any type of number
 
 PIECE = 1 << 20  # samples
 RAW = {"int8": "i1", "int16": "<i2", "float32": "<f4"}
@@ -29,8 +29,8 @@ MOST_HEADER_LINES = 64
 
 
 class Piece(NamedTuple):
-    """Some samples after one another, a row each. Where `times` is None they lie one unit apart, the first at `first`;
-    else row i came at times[i] and stood until the next, up to `behind`."""
+    """Successive samples, one in each row. If `times` is None they are one unit apart and the first is at `first`. Otherwise row i is
+    valid from times[i] to the next time, the last one to `behind`."""
 
     first: float
     values: Samples
@@ -39,13 +39,13 @@ class Piece(NamedTuple):
 
     @property
     def last(self) -> float:
-        """The last moment that the piece tells of."""
+        """The last moment of the piece."""
         return self.first + len(self.values) - 1 if self.times is None else self.behind
 
 
 class Wave(NamedTuple):
-    """The channels of a file by name, the units of time a second (None where the file does not say), its pieces over
-    all channels as arrays of samples by channels (or, of VCD, as pieces), and how much progress there is to make."""
+    """The channels of a file by name, the units of time a second (None if not given), the pieces as arrays of samples by channels (for
+    VCD as pieces), and the total for a progress bar."""
 
     names: list[str]
     rate: float | None
@@ -54,7 +54,7 @@ class Wave(NamedTuple):
 
 
 class Numbers(Protocol):
-    """What has numbers of one kind."""
+    """Anything with a type of number."""
 
     @property
     def dtype(self) -> np.dtype[Any]: ...
@@ -64,19 +64,19 @@ A = TypeVar("A", bound=Numbers)
 
 
 def numeric(array: A, path: str | Path) -> A:
-    """An array of numbers; raises Refused where it holds something else."""
+    """Returns an array of numbers. Raises Refused if it contains something else."""
     if array.dtype.kind not in "biuf":
         raise Refused(f"{path}: it holds {array.dtype}, and numbers are wanted")
     return array
 
 
 def numbered(count: int) -> list[str]:
-    """The names of channels that have none: their numbers from 0."""
+    """Returns names for unnamed channels: numbers from 0."""
     return [str(number) for number in range(count)]
 
 
 def of_npy(path: str, piece: int) -> Wave:
-    """An array of samples by channels; only the part that is looked at is read."""
+    """Reads an array of samples by channels. Only the part in use is read."""
     array = numeric(np.load(path, mmap_mode="r"), path)
     if array.ndim != 2:
         raise Refused(f"{path}: an array of {array.ndim} dimensions, and samples by channels are wanted")
@@ -89,7 +89,7 @@ class Member:
 
     def __init__(self, archive: zipfile.ZipFile, name: str) -> None:
         self.file = archive.open(name)
-        header: Any = np.lib.format  # which has no types
+        header: Any = np.lib.format  # numpy gives no types for it
         read = header.read_array_header_1_0 if header.read_magic(self.file) == (1, 0) else header.read_array_header_2_0
         self.shape: tuple[int, ...]
         self.dtype: np.dtype[Any]
@@ -98,14 +98,14 @@ class Member:
             raise ValueError(f"the array {name} lies channel by channel, and sample by sample is wanted")
 
     def rows(self, count: int) -> Samples:
-        """At most so many rows more."""
+        """Returns up to `count` further rows."""
         width = int(np.prod(self.shape[1:]))
         data = self.file.read(count * width * self.dtype.itemsize)
         return np.frombuffer(data, self.dtype).reshape(-1, *self.shape[1:])
 
 
 def of_npz(path: str, piece: int) -> Wave:
-    """One array of samples by channels, or one array a channel, by its name; a number `rate` is in Hz."""
+    """Reads one array of samples by channels, or one named array for each channel. A number `rate` is in Hz."""
     archive = zipfile.ZipFile(path)
     members = {name.removesuffix(".npy"): Member(archive, name) for name in archive.namelist()}
     rate = members.pop("rate", None)
@@ -121,7 +121,7 @@ def of_npz(path: str, piece: int) -> Wave:
 
 
 def of_raw(path: str, piece: int, form: str, channels: int) -> Wave:
-    """Samples one after another, of all channels in turn."""
+    """Reads successive samples, with all channels interleaved."""
     size = np.dtype(RAW[form]).itemsize * channels
     length = Path(path).stat().st_size
     if length % size:
@@ -136,7 +136,7 @@ def of_raw(path: str, piece: int, form: str, channels: int) -> Wave:
 
 
 def is_row(line: str) -> bool:
-    """Whether a line of a CSV file has numbers alone."""
+    """Returns whether a line of a CSV file contains only numbers."""
     try:
         return bool([float(field) for field in line.split(",")])
     except ValueError:
@@ -144,7 +144,7 @@ def is_row(line: str) -> bool:
 
 
 def rate_of(times: npt.NDArray[np.float64], unit: float, path: str) -> float:
-    """The samples a second by the first and the last of some times."""
+    """Returns the samples a second, from the first and the last of some times."""
     steps = len(times) - 1
     step = float(times[-1] - times[0]) / steps if steps else 0.0
     if not step > 0:
@@ -155,7 +155,7 @@ def rate_of(times: npt.NDArray[np.float64], unit: float, path: str) -> float:
 
 
 def of_csv(path: str, piece: int) -> Wave:
-    """A header of names (more lines without numbers may follow it), then a time and a value of each channel a line."""
+    """Reads a CSV file: a line of names (more lines without numbers may follow), then lines with a time and a value for each channel."""
     file = open(path, encoding="utf-8-sig", errors="replace")
     head: list[list[str]] = []
     for line in islice(file, MOST_HEADER_LINES):
@@ -189,7 +189,7 @@ def of_csv(path: str, piece: int) -> Wave:
 
 
 def of_sigrok(path: str, piece: int) -> Wave:
-    """A session of sigrok: its logic channels, then its analog ones."""
+    """Reads a sigrok session: its logic channels, then its analog ones."""
     archive = zipfile.ZipFile(path)
     settings = configparser.ConfigParser(interpolation=None)
     settings.read_string(archive.read("metadata").decode("utf-8", "replace"))
@@ -200,7 +200,7 @@ def of_sigrok(path: str, piece: int) -> Wave:
     rate = re.fullmatch(r"([\d.]+)\s*([kmg]?)(hz)?", device.get("samplerate", "").strip().lower())
 
     def chunks(prefix: str) -> Iterator[bytes]:
-        """The members `prefix` or `prefix-1`, `prefix-2` and so on, as one stream of bytes."""
+        """Yields the bytes of the members `prefix`, or `prefix-1`, `prefix-2` and so on."""
         found = [name for name in archive.namelist() if re.fullmatch(rf"{re.escape(prefix)}(-\d+)?", name)]
         for name in sorted(found, key=lambda name: int(name[len(prefix) + 1 :] or 0)):
             with archive.open(name) as file:
@@ -224,7 +224,7 @@ def of_sigrok(path: str, piece: int) -> Wave:
 
 
 def pieces_of(arrays: Iterable[Samples], size: int) -> Iterator[Samples]:
-    """The rows of some arrays as arrays of `size` rows; the last one has fewer."""
+    """Joins the rows of some arrays into arrays of `size` rows. The last one may have fewer."""
     held: list[Samples] = []
     rows = 0
     for array in arrays:
@@ -239,7 +239,7 @@ def pieces_of(arrays: Iterable[Samples], size: int) -> Iterator[Samples]:
 
 
 class Vcd:
-    """The wires of a value change dump; a bus NAME gives NAME[0] and so on."""
+    """The wires of a value change dump. A bus NAME is split into NAME[0] and so on."""
 
     def __init__(self, path: str, piece: int) -> None:
         self.dump, self.piece = Dump(path), piece
@@ -251,7 +251,7 @@ class Vcd:
                 self.names += [it.name] if it.width == 1 else [f"{it.name}[{bit}]" for bit in range(it.width)]
 
     def changes(self) -> Iterator[tuple[int, int | None, int]]:
-        """The time, the channel and the new level of each change; None for both with each new time."""
+        """Yields the time, the channel and the new level of each change. A new time is yielded first, with None as the channel."""
         for time, code, digits in self.dump.changes(self.places):
             if code is None:
                 yield time, None, 0
@@ -260,7 +260,7 @@ class Vcd:
                     yield time, place, int(level == "1")
 
     def pieces(self) -> Iterator[Piece]:
-        """Pieces of at most so many times at which something changed."""
+        """Yields pieces with at most `piece` times at which something changes."""
         levels = np.zeros(len(self.names), np.uint8)
         times: list[int] = []
         rows: list[npt.NDArray[np.uint8]] = []
@@ -282,20 +282,21 @@ class Vcd:
 
 
 def of_vcd(path: str, piece: int) -> Wave:
-    """A value change dump, or an FST file: pieces of at most so many times at which something changed."""
+    """Reads a value change dump or an FST file. A piece has at most `piece` times at which something changes."""
     wires = Vcd(path, piece)
     return Wave(wires.names, 1 / wires.dump.scale if wires.dump.scale else None, wires.pieces(), None)
 
 
 def of_store(path: str, piece: int) -> Wave:
-    """The arrays of an HDF5 file or of one of MATLAB."""
+    """Reads the arrays of an HDF5 or MATLAB file."""
     return Wave(*stores.read(path, piece))
 
 
 READERS: dict[str, Callable[[str, int], Wave]]
 READERS = {".npy": of_npy, ".npz": of_npz, ".csv": of_csv, ".vcd": of_vcd, ".fst": of_vcd, ".sr": of_sigrok}
 READERS |= dict.fromkeys(stores.READERS, of_store)
-# What reading a broken file ends with: numpy's headers are Python's text, the others have faults of their own.
+# Errors that reading a broken file can raise. NumPy's headers are Python text, which explains SyntaxError; the other formats have their
+# own errors.
 BROKEN: tuple[type[Exception], ...]
 BROKEN = (ValueError, KeyError, EOFError, RuntimeError, OverflowError, MemoryError, SyntaxError, tokenize.TokenError)
 BROKEN += (zlib.error, zipfile.BadZipFile, configparser.Error)
@@ -303,7 +304,7 @@ BROKEN += (zlib.error, zipfile.BadZipFile, configparser.Error)
 
 @contextmanager
 def told(path: str) -> Iterator[None]:
-    """What speaks against a file is told with its name."""
+    """Turns errors of a broken file into Refused, with the file's name."""
     try:
         yield
     except BROKEN as why:
@@ -311,8 +312,8 @@ def told(path: str) -> Iterator[None]:
 
 
 def opened(path: str, piece: int = PIECE, raw: str | None = None, channels: int | None = None) -> Wave:
-    """The wave of a file, by the end of its name or as raw samples of some channels. It comes in pieces of so many samples. Raises
-    Refused, with the path, where the file is none of its kind."""
+    """Opens a wave: by the suffix of the file, or as raw samples of `channels` channels. A piece has `piece` samples. Raises Refused,
+    which names the path, if the file does not have its format."""
     if raw and channels:
         return of_raw(path, piece, raw, channels)
     reader = READERS.get(Path(path).suffix.lower())
@@ -323,21 +324,21 @@ def opened(path: str, piece: int = PIECE, raw: str | None = None, channels: int 
 
 
 class Channel(NamedTuple):
-    """A lane's wire, or the two of its pair: the level is that of `plus` less that of `minus`."""
+    """The wire of a lane, or the two wires of its pair. The level is `plus` minus `minus`."""
 
     plus: int | None
     minus: int | None
 
     def write(self, values: Samples, levels: npt.NDArray[np.float32]) -> None:
-        """Writes the levels of the wire, or of the pair, in each row of the values into an array of as many."""
-        with np.errstate(all="ignore"):  # what is too large comes out as no finite number, and is refused
+        """Writes the levels of the wire or of the pair to `levels`, one for each row of values."""
+        with np.errstate(all="ignore"):  # an overflow gives an infinite number, which is refused
             levels[:] = values[:, self.plus] if self.plus is not None else 0
             if self.minus is not None:
                 levels -= values[:, self.minus].astype(np.float32)
 
 
 def channel_of(word: str, names: list[str]) -> Channel:
-    """The channel that a word names: its name, its number, P-N for a pair, or -N for a wire upside down."""
+    """Returns the channel that a word names: a name, a number, P-N for a pair, or -N for an inverted wire."""
 
     def place(name: str) -> int:
         if name in names:
@@ -355,8 +356,9 @@ def channel_of(word: str, names: list[str]) -> Channel:
 
 
 def channels_of(words: Iterable[str], names: list[str]) -> list[Channel]:
-    """The channels that some words name. One that is named twice is refused: as a lane of its own, as the first wire of
-    two lanes, or as the same pair turned over; many lanes may have one second wire."""
+    """Returns the channels that some words name. Many lanes may share their second wire.
+
+    Raises Refused if a channel is named twice: as two lanes, as the first wire of two lanes, or as the same pair with exchanged wires."""
     channels: list[Channel] = []
     known: set[int | frozenset[int]] = set()
     for channel in (channel_of(word, names) for word in words):
@@ -371,13 +373,13 @@ def channels_of(words: Iterable[str], names: list[str]) -> list[Channel]:
 
 
 def arrays_of(wave: Wave, path: str) -> Iterator[Samples | Piece]:
-    """The arrays of a wave; what is found to be wrong on the way is told."""
+    """Yields the arrays of a wave. Errors name the file."""
     with told(path):
         yield from wave.arrays
 
 
 def pieces(wave: Wave, path: str, size: int) -> Iterator[Piece]:
-    """The pieces of a wave, each over all channels and none shorter than `size` but the only one."""
+    """Yields the pieces of a wave with all channels. No piece is shorter than `size`, unless there is only one."""
     held: Samples | None = None
     first = 0
     for part in arrays_of(wave, path):
