@@ -1,6 +1,7 @@
-"""What surrounds the proved program: its formats, the tools over them, and how the program itself is run; and the receiver and the
-sender as the proved C library has them (docs/guide/LIBRARY.md). Nothing here is proved. The names below are loaded when they are
-first used."""
+"""The Python package around the proved program: its file formats, the tools, a way to run the program, and the receiver and sender of the
+proved C library (docs/guide/LIBRARY.md).
+
+Nothing here is proved. The names below are loaded on first use."""
 
 import importlib
 from typing import TYPE_CHECKING, Any

@@ -1,4 +1,4 @@
-"""Captures, as docs/guide/FORMATS.md lays them out: the header, and three lanes in blocks of 4,096 bytes in turn."""
+"""Reads and writes captures (docs/guide/FORMATS.md): the header, and three lanes in alternating blocks of 4,096 bytes."""
 
 import shutil
 import tempfile
@@ -13,12 +13,12 @@ from vabgrot.errors import Refused
 
 BLOCK = 4096
 MOST_BITS = (1 << 32) - 1
-HEADER = 16  # bytes of a header at most
+HEADER = 16  # the greatest size of a header in bytes
 
 
 def write(out: IO[bytes], lanes: Sequence[IO[bytes]], counts: Sequence[int]) -> None:
-    """Writes a capture of three lanes, open files of bits from their beginning on, the first bit lowest. `counts` are the bits of
-    each lane; of version 1 it is one number for all. Raises OSError."""
+    """Writes a capture of three lanes, which are open files of bits (the first bit lowest). `counts` gives the bits of each lane. In
+    version 1 it is one number for all lanes. Raises OSError."""
     out.write(b"TMC2" if len(counts) > 1 else b"TMC1")
     out.write(b"".join(count.to_bytes(4, "big") for count in counts))
     for _ in range(0, (max(counts) + 7) // 8, BLOCK):
@@ -27,7 +27,7 @@ def write(out: IO[bytes], lanes: Sequence[IO[bytes]], counts: Sequence[int]) -> 
 
 
 def check_magic(data: bytes) -> None:
-    """Raises Refused if the first bytes of a file, as far as they are there, begin no capture."""
+    """Raises Refused if the first bytes of a file cannot begin a capture. Fewer bytes than the header has are enough."""
     if data[:3] != b"TMC"[: len(data)]:
         made = place.named("Make one from raw bits with `tools/lanes pack`")
         raise Refused(f"not a capture: it starts with {data[:3].hex(' ')}, not with TMC. {made}")
@@ -36,13 +36,13 @@ def check_magic(data: bytes) -> None:
 
 
 def size_of_header(data: bytes) -> int:
-    """How many bytes a header has, by its first four."""
+    """Returns the size of a header, given its first four bytes."""
     return 4 + 4 * (3 if data[3:4] == b"2" else 1)
 
 
 def header_of(data: bytes) -> tuple[list[int], int]:
-    """How many bits each of the three lanes has, and the byte at which the lanes begin, by the first 16 bytes of a capture. Raises
-    Refused if they are no header."""
+    """Reads a capture's header from its first 16 bytes. Returns the number of bits of each lane and the offset of the first block. Raises
+    Refused if this is not a header."""
     check_magic(data)
     start = size_of_header(data)
     if len(data) < start:
@@ -52,15 +52,16 @@ def header_of(data: bytes) -> tuple[list[int], int]:
 
 
 def place_of(start: int, lengths: Sequence[int], lane: int, byte: int) -> int:
-    """The place in a capture of a byte of a lane, where the lanes begin at `start` and have so many bytes."""
+    """Returns where byte `byte` of lane `lane` is stored in a capture file. `lengths` are the sizes of the lanes in bytes, `start` is the
+    offset of the first block."""
     at = byte - byte % BLOCK
     before = sum(min(at, length) for length in lengths)
     return start + before + sum(min(BLOCK, max(length - at, 0)) for length in lengths[:lane]) + byte - at
 
 
 def lanes_of(data: bytes) -> tuple[list[bytearray], list[int]]:
-    """The three lanes of a whole capture, eight bits a byte with the first bit lowest, and how many bits each has. Raises Refused
-    where the bytes are no capture."""
+    """Reads the three lanes of a complete capture: their bytes (the first bit lowest) and their numbers of bits. Raises Refused if this
+    is not a capture."""
     counts, at = header_of(data)
     lengths = [(count + 7) // 8 for count in counts]
     if len(data) != at + sum(lengths):
@@ -79,7 +80,7 @@ def lanes_of(data: bytes) -> tuple[list[bytearray], list[int]]:
 
 @contextmanager
 def path_in(source: BinaryIO) -> Iterator[Path | None]:
-    """The path of the capture that a file has, such as standard input; None if it begins otherwise."""
+    """Yields the path of the capture if `source` (for example standard input) is a file that begins with one, otherwise None."""
     if cast(BufferedReader, source).peek(1)[:1] != b"T":
         yield None
         return

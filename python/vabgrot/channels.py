@@ -1,5 +1,4 @@
-"""Sounds of up to eight channels: WAV files with their speakers, and the packets of samples in layout 1 (HDMI 1.4, section
-5.3.4) that carry them."""
+"""Sounds with up to eight channels: WAV files with their speakers, and the packets of samples in layout 1 (HDMI 1.4, section 5.3.4)."""
 
 import io
 import os
@@ -16,18 +15,18 @@ from vabgrot.formats import speakers
 from vabgrot.formats.audio import BLOCK, RATES
 from vabgrot.pcm import USED_BITS, WAVES
 
-MOST = 8  # channels
+MOST = 8  # the most channels
 BYTE = 8
-VALUE, SIDE = 24, 3  # bits and bytes of a sample of one channel
-WHOLE = 32 - VALUE  # the bits below those of a sample in a number of soundfile
-MASK_AT = 20  # of the data of a WAV file's chunk `fmt `
-USUAL_MASKS = {1: 0x4, 2: 0x3, 3: 0x7, 4: 0x33, 5: 0x37, 6: 0x3F, 7: 0x70F, 8: 0x63F}  # where a file names no speakers
-Values = NDArray[np.int32]  # of 24 bits with a sign; of the shape samples, channels
+VALUE, SIDE = 24, 3  # bits and bytes of a sample on one channel
+WHOLE = 32 - VALUE  # how far soundfile shifts a sample to the left
+MASK_AT = 20  # the offset in a WAV file's chunk `fmt `
+USUAL_MASKS = {1: 0x4, 2: 0x3, 3: 0x7, 4: 0x33, 5: 0x37, 6: 0x3F, 7: 0x70F, 8: 0x63F}  # if a file names no speakers
+Values = NDArray[np.int32]  # signed 24-bit numbers; shape: samples, channels
 
 
 @dataclass(frozen=True)
 class Wide:
-    """A sound of one to eight channels, in the order of a link; `names` are their speakers, `NONE` where a channel is not used."""
+    """A sound with one to eight channels in the order of a link. `names` are their speakers, `NONE` for a channel that is not used."""
 
     rate: int
     bits: int
@@ -36,22 +35,22 @@ class Wide:
 
     @property
     def samples(self) -> int:
-        """How many each channel has."""
+        """The number of samples on each channel."""
         return len(self.values)
 
     @property
     def allocation(self) -> int:
-        """CA of the audio InfoFrame."""
+        """The channel allocation (CA) of the audio InfoFrame."""
         return speakers.ALLOCATIONS.index((*self.names, *(speakers.NONE,) * (MOST - len(self.names))))
 
     @property
     def used(self) -> int:
-        """How many channels are used."""
+        """The number of channels in use."""
         return sum(name != speakers.NONE for name in self.names)
 
 
 def mask_in(data: bytes) -> int:
-    """The channel mask of a WAV file's bytes, 0 where it has none."""
+    """Returns the channel mask of a WAV file, or 0 if it has none."""
     at = 12
     while at + BYTE <= len(data):
         size = int.from_bytes(data[at + 4 : at + 8], "little")
@@ -63,7 +62,7 @@ def mask_in(data: bytes) -> int:
 
 
 def channels_in(path: str | os.PathLike[str]) -> int:
-    """How many channels a WAV file has; 0 where it is none."""
+    """Returns the number of channels of a WAV file, or 0 if it is none."""
     try:
         return int(soundfile.info(str(path)).channels)
     except (soundfile.SoundFileError, RuntimeError):
@@ -71,8 +70,10 @@ def channels_in(path: str | os.PathLike[str]) -> int:
 
 
 def read(path: str | os.PathLike[str], allocation: int | None = None) -> Wide:
-    """The sound of a WAV file of linear PCM, its channels in the order of an allocation: the one with the file's speakers, or the
-    one that is given, which then names the file's channels in the order of a WAV file."""
+    """Reads a WAV file of linear PCM. The channels are put in the order of an allocation.
+
+    Without `allocation`, it is the one with the file's speakers. With `allocation`, the file's channels have its speakers, in the order
+    of a WAV file."""
     with open(path, "rb") as file:
         data = file.read()
     try:
@@ -96,7 +97,7 @@ def read(path: str | os.PathLike[str], allocation: int | None = None) -> Wide:
 
 
 def _names(path: str, count: int, mask: int, allocation: int | None) -> tuple[str, ...]:
-    """The speakers of the channels of a link, up to the last that is used."""
+    """Returns the speakers of the channels of a link, up to the last one in use."""
     found = speakers.of_mask(mask) if allocation is None else allocation
     names = speakers.speakers(found) if found is not None else ()
     used = [at for at, name in enumerate(names) if name != speakers.NONE]
@@ -111,7 +112,7 @@ def _names(path: str, count: int, mask: int, allocation: int | None) -> tuple[st
 
 
 def write(wide: Wide) -> bytes:
-    """The bytes of a WAV file of the extensible format: channels in the order of their speakers, which its mask names."""
+    """Returns a WAV file of the extensible format. The channels are in the order of their speakers, which its mask names."""
     used = [at for at, name in enumerate(wide.names) if name != speakers.NONE]
     order, mask = speakers.places([wide.names[at] for at in used])
     values = wide.values[:, [used[at] for at in order]] << WHOLE
@@ -124,7 +125,7 @@ def write(wide: Wide) -> bytes:
 
 
 def packet_lines(wide: Wide, first: int, behind: int) -> Iterator[str]:
-    """The lines of a content listing for the samples from the first on: a packet of layout 1 each."""
+    """Yields the lines of a content listing for the samples from `first` on: one packet of layout 1 for each."""
     pairs = [pair for pair in range(MOST // 2) if any(name != speakers.NONE for name in wide.names[2 * pair : 2 * pair + 2])]
     plain = pcm.Sound(wide.rate, wide.bits, b"", b"")
     status = [pcm.channel_status(plain, channel + 1) for channel in range(MOST)]
@@ -140,7 +141,8 @@ def packet_lines(wide: Wide, first: int, behind: int) -> Iterator[str]:
 
 
 def body_of(sides: list[int], status: list[int]) -> str:
-    """The body of a pair of channels: their values, low byte first, and V, U, C and P of each; V and U are 0, P makes the ones even."""
+    """Returns the body of a pair of channels: the values, low byte first, and V, U, C and P of each. V and U are 0. P makes the parity
+    even."""
     data, flags = b"", 0
     for side, (value, bit) in enumerate(zip(sides, status)):
         number = value & ((1 << VALUE) - 1)

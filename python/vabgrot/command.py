@@ -1,4 +1,4 @@
-"""What the tools share as commands: their words, their help, and how they end."""
+"""The common part of all tools: options, help, and exit statuses."""
 
 import argparse
 import contextlib
@@ -16,13 +16,13 @@ from vabgrot.errors import Refused, Unaligned, missing
 
 DONE, FAULTY, REFUSED = 0, 1, 3
 WRONG_WORDS, NOT_READ = "the options are wrong", "the input is refused, or a file cannot be read or written"
-WIDTH = 78  # of the list of statuses
-FULL = (errno.ENOSPC, errno.EDQUOT, errno.EFBIG)  # the errors of a write alone
-KEYBOARD = 130  # the status of a command that is ended by the keyboard
+WIDTH = 78  # the width of the list of statuses
+FULL = (errno.ENOSPC, errno.EDQUOT, errno.EFBIG)  # errors that only writing raises
+KEYBOARD = 130  # the exit status after an interrupt from the keyboard
 
 
 def numbers(text: str, most: int) -> list[int]:
-    """The numbers of a word that has commas between them, each at most `most`. The type of an argument."""
+    """Reads numbers separated by commas, each at most `most`. Use it as the type of an argument."""
     parts = text.split(",")
     if not all(part.isdecimal() and int(part) <= most for part in parts):
         raise argparse.ArgumentTypeError(f"{text}: write numbers from 0 to {most}, with commas between them")
@@ -30,15 +30,15 @@ def numbers(text: str, most: int) -> list[int]:
 
 
 def statuses(done: str, faulty: str) -> str:
-    """The list of a tool's statuses, as the end of its help."""
+    """Returns the list of a tool's exit statuses for the end of its help."""
     said = {DONE: done, FAULTY: faulty, 2: WRONG_WORDS, REFUSED: NOT_READ}
     lines = (textwrap.fill(f"  {status}  {text}", WIDTH, subsequent_indent=" " * 5) for status, text in said.items() if text)
     return "Status:\n\n" + "\n".join(lines)
 
 
 class Help(argparse.HelpFormatter):
-    """Fills each paragraph of a text, but keeps the lines of indented ones. Commands and files have the names that they have
-    where the tools are installed."""
+    """Fills each paragraph of a text, but keeps the lines of indented ones. In an installed tool, commands and files get their installed
+    names."""
 
     def _expand_help(self, action: argparse.Action) -> str:
         return place.named(super()._expand_help(action), has_files=True)
@@ -49,7 +49,7 @@ class Help(argparse.HelpFormatter):
 
 
 def parser(name: str, text: str, faulty: str = "", examples: str = "", done: str = "done") -> argparse.ArgumentParser:
-    """The parser of a tool's words. `done` and `faulty` say when its status is 0 and 1, and `examples` are lines of commands."""
+    """Returns the argument parser of a tool. `done` and `faulty` describe the statuses 0 and 1. `examples` are lines of commands."""
     epilog = statuses(done, faulty)
     if examples:
         head = "Examples:" if place.IS_INSTALLED else "Examples, at the top of the repository:"
@@ -61,13 +61,13 @@ def parser(name: str, text: str, faulty: str = "", examples: str = "", done: str
 
 
 def say(*lines: str) -> None:
-    """Writes lines to standard error: what a tool says beside what it writes."""
+    """Prints lines to standard error."""
     for line in lines:
         print(line, file=sys.stderr)
 
 
 def add_capture(words: argparse.ArgumentParser) -> None:
-    """Adds the operand CAPTURE of a tool that reads one capture."""
+    """Adds the operand CAPTURE."""
     words.add_argument("capture", metavar="CAPTURE", type=Path, help="the capture, as `make`, `damage` or `lanes pack` writes it")
 
 
@@ -82,7 +82,7 @@ def add_json(words: argparse.ArgumentParser) -> None:
 
 
 def end_output() -> None:
-    """Writes what is still held for standard output, or drops it where that fails, so that Python does not try again."""
+    """Flushes standard output. If that fails, the rest is dropped, so that Python does not try again."""
     try:
         sys.stdout.flush()
     except OSError:
@@ -92,8 +92,8 @@ def end_output() -> None:
 
 @contextlib.contextmanager
 def ended_by_pipes() -> Iterator[None]:
-    """Lets a pipe whose reader goes away end the process, as it ends the program."""
-    is_main = threading.current_thread() is threading.main_thread()  # no other thread may set what a signal does
+    """Lets a closed pipe end the process, as it ends the program."""
+    is_main = threading.current_thread() is threading.main_thread()  # only the main thread may set signal handlers
     before = signal.signal(signal.SIGPIPE, signal.SIG_DFL) if is_main else None
     try:
         yield
@@ -104,8 +104,8 @@ def ended_by_pipes() -> Iterator[None]:
 
 
 def run(name: str, work: Callable[[], int]) -> int:
-    """The status that the work of a tool answers. A refusal or a missing package of Python is one line on standard error, and status 3.
-    If a capture is not aligned, the status is 1."""
+    """Runs a tool and returns its exit status. After a refusal or a missing Python package, it prints one line to standard error and
+    returns 3. If a capture is not aligned, it returns 1."""
     try:
         with ended_by_pipes():
             try:

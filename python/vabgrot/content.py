@@ -1,7 +1,7 @@
-"""What is known of a capture's contents: whole packets, samples of both layouts, frames, and what may be missing.
+"""The contents of a capture: complete packets, samples of both layouts, frames, and the places where something may be missing.
 
-No field comes from a packet with a lost block. `Losses` says where something may be missing, so that a rule can tell "the source did not
-send it" from "the link lost it"."""
+No field is taken from a packet with a lost block. `Losses` says where something may be missing. So a rule can distinguish "the source did
+not send it" from "the link lost it"."""
 
 from __future__ import annotations
 
@@ -20,22 +20,22 @@ from vabgrot.reading import Reading
 
 SAMPLE = LAYOUTS["samples"].fields
 SIDES = ("left", "right")
-CERTAIN = 3  # neighbouring columns of one level, from which on VSYNC has it
+CERTAIN = 3  # VSYNC has a level once this many neighbouring columns have it
 PARITY = np.array([value.bit_count() & 1 for value in range(256)], bool)
 NOTHING = np.zeros(0, np.int64)
 
 
 @dataclass(frozen=True, eq=False)
 class Packets:
-    """Packets, with what the receiver says of their blocks. `at` counts columns over all epochs, `place` is the number of the event.
+    """Packets with what the receiver says about their blocks. `at` counts columns over all epochs, `place` is the number of the event.
     `mended` has a bit for each block."""
 
     at: Ints
     place: Ints
-    octets: Octets  # a row of 63 bytes for each
+    octets: Octets  # 63 bytes for each packet
     lost: Mask
     mended: Octets
-    wrong: Ints  # characters that are none of TERC4
+    wrong: Ints  # the number of characters that are not in TERC4
 
     def __len__(self) -> int:
         return len(self.at)
@@ -51,17 +51,18 @@ class Packets:
 
     @property
     def known(self) -> Packets:
-        """Those without a lost block."""
+        """The packets without a lost block."""
         return self[~self.lost]
 
     @property
     def intact(self) -> Mask:
-        """Which of them have no damaged character and no mended block. A block with more than one wrong bit may be mended wrongly."""
+        """Whether each packet has no damaged character and no repaired block. A block with more than one wrong bit may be repaired
+        wrongly."""
         found: Mask = ~self.lost & (self.mended == 0) & (self.wrong == 0)
         return found
 
     def of(self, kind: int) -> Packets:
-        """The known packets of a type. A General Control packet is known only if its four bodies are equal."""
+        """Returns the packets of a type that have no lost block. A General Control packet counts only if its four bodies are equal."""
         which = ~self.lost & (self.kind == kind)
         if kind == Type.CONTROL:
             bodies = self.octets[:, HEADER:CARRIED].reshape(-1, BODIES, BODY)
@@ -69,7 +70,7 @@ class Packets:
         return self[which]
 
     def packet(self, place: int) -> Packet:
-        """One packet."""
+        """Returns one packet."""
         return packet_of(self.octets[place].tobytes())
 
     def __iter__(self) -> Iterator[Packet]:
@@ -77,13 +78,13 @@ class Packets:
 
 
 def packet_of(data: bytes) -> Packet:
-    """The packet of its header and bodies."""
+    """Returns a packet, given its header and bodies."""
     return Packet(data[:HEADER], [data[at : at + BODY] for at in range(HEADER, CARRIED, BODY)])
 
 
 def packets_of(events: Events, before: Ints | int = 0, first: int = 0) -> Packets:
-    """The packets among some events, with their faults, which have to be among the events. `before` are the columns of the epochs before
-    each event's own, and `first` is the number of the first event."""
+    """Returns the packets in some events. The events must contain the faults of these packets. `before` is the number of columns in
+    earlier epochs, for each event. `first` is the number of the first event."""
     places = events.of(Kind.PACKET)
     lost, mended = (blocks_of(events, places, kind) for kind in (Kind.LOST, Kind.MENDED))
     at = (events.first + before)[places]
@@ -91,15 +92,15 @@ def packets_of(events: Events, before: Ints | int = 0, first: int = 0) -> Packet
 
 
 def blocks_of(events: Events, packets: Ints, kind: Kind) -> Octets:
-    """Of all packets among some events, the blocks that a kind of fault names: a bit for each."""
+    """Returns for each packet the blocks that a kind of fault names, as one bit for each."""
     found, faults = np.zeros(len(packets), np.uint8), events.of(kind)
-    which = np.searchsorted(packets, faults) - 1  # a fault of a packet is reported after it and before the next one
+    which = np.searchsorted(packets, faults) - 1  # a fault of a packet is reported between it and the next one
     np.bitwise_or.at(found, which, (1 << events.value[faults]).astype(np.uint8))
     return found
 
 
 def packets_in(packets: Sequence[Packet]) -> Packets:
-    """Packets that came without damage, as a content listing has them."""
+    """Returns packets as undamaged. Use it for the packets of a content listing."""
     octets = np.array([[*one.header, *one.bytes, *bytes(PACKET)] for one in packets], np.uint8)
     number, zeros = np.arange(len(packets)), np.zeros(len(packets), np.int64)
     return Packets(number, number, octets, zeros.astype(bool), zeros.astype(np.uint8), zeros)
@@ -107,23 +108,23 @@ def packets_in(packets: Sequence[Packet]) -> Packets:
 
 @dataclass(frozen=True, eq=False)
 class Losses:
-    """Where the link may have lost something: columns over all epochs, sorted, and why: a packet with a lost block, columns that nothing
-    is known of, or a new alignment."""
+    """Where the link may have lost something, and why: a packet with a lost block, unknown columns, or a new alignment. Columns count
+    over all epochs and are sorted."""
 
     at: Ints
     why: tuple[str, ...]
 
     def between(self, begin: int, end: int) -> str:
-        """Why something may be missing from one column to before another; "" if nothing may be."""
+        """Returns why something may be missing in a range of columns, or "" if nothing can be."""
         first, behind = np.searchsorted(self.at, (begin, end))
         return self.why[int(first)] if first < behind else ""
 
 
 @dataclass(frozen=True, eq=False)
 class Samples:
-    """The samples of sound of both layouts. For each packet: its column, how many samples it has, its layout, and how many sides have a
-    wrong parity (`odd`). For each pair of channels: the bodies, the number of the sample that each is, and which bodies start a block.
-    `breaks` are the numbers of samples before which some may be lost."""
+    """The samples of both layouts. For each packet: its column, the number of its samples, its layout, and how many sides have odd parity
+    (`odd`). For each pair of channels: the bodies, the number of each sample, and which bodies start a block. `breaks` are the samples
+    before which some may be lost."""
 
     at: Ints
     counts: Ints
@@ -136,12 +137,12 @@ class Samples:
 
     @property
     def total(self) -> int:
-        """How many there are."""
+        """The number of samples."""
         return int(self.counts.sum())
 
     @property
     def layout(self) -> int:
-        """The layout of most packets."""
+        """The layout of the majority of packets."""
         return int(2 * self.layouts.sum() > len(self.layouts))
 
     @property
@@ -151,7 +152,7 @@ class Samples:
 
 
 def odd_sides(headers: Octets, bodies: Octets) -> Mask:
-    """For each body and side of packets of samples, whether its ones are odd. A body without a sample has none."""
+    """Returns for each body and side of packets of samples whether the parity is odd. A body without a sample is never odd."""
     present = SAMPLE["sample_present"].flags(headers)
     both = (PARITY[np.bitwise_xor.reduce(SAMPLE[side].octets(bodies), axis=2) ^ SAMPLE[f"{side} VUCP"].numbers(bodies)] for side in SIDES)
     found: Mask = np.stack([*both], axis=2) & present[:, :, None]
@@ -159,12 +160,12 @@ def odd_sides(headers: Octets, bodies: Octets) -> Mask:
 
 
 def bodies_of(octets: Octets) -> Octets:
-    """The bodies of packets."""
+    """Returns the bodies of packets."""
     return octets[:, HEADER:CARRIED].reshape(-1, BODIES, BODY)
 
 
 def samples_of(packets: Packets, losses: Ints = NOTHING) -> Samples:
-    """The samples of some packets; at some columns something may be lost."""
+    """Returns the samples of packets. `losses` are columns at which something may be lost."""
     its = packets.of(Type.SAMPLES)
     bodies = bodies_of(its.octets)
     layouts = SAMPLE["layout"].numbers(its.octets)
@@ -192,15 +193,15 @@ def samples_of(packets: Packets, losses: Ints = NOTHING) -> Samples:
 
 @dataclass(frozen=True, eq=False)
 class Content:
-    """What is known of a reading; with `is_intact` only by the packets that came without damage: the others count as lost."""
+    """The contents of a reading. With `is_intact` only undamaged packets count, and all others are treated as lost."""
 
     reading: Reading
     is_intact: bool = False
 
     @cached_property
     def packets(self) -> Packets:
-        """All packets. Those of columns that are not trusted count as lost: a lane that lost one character shifts a header by one bit,
-        and in a cyclic code that is often a block without an error."""
+        """All packets. Those in columns that are not trusted count as lost: a lane that lost one character shifts a header by one bit,
+        and in a cyclic code the result is often a block without an error."""
         found = packets_of(self.reading.events, self.reading.before)
         if self.is_intact:
             found.lost[~found.intact] = True
@@ -210,7 +211,7 @@ class Content:
 
     @cached_property
     def losses(self) -> Losses:
-        """Where something may be missing. What a capture ends within is not lost."""
+        """Where something may be missing. Unknown columns at the very end of the capture do not count."""
         found = [(at, "a packet was lost") for at in self.packets.at[self.packets.lost].tolist()]
         end = self.reading.columns
         found += [(begin, "columns could not be read") for begin, stop in self.reading.gaps.tolist() if stop < end]
@@ -220,17 +221,17 @@ class Content:
 
     @cached_property
     def samples(self) -> Samples:
-        """The samples of sound."""
+        """All samples."""
         return samples_of(self.packets, self.losses.at)
 
 
-# ---- frames, which need pixels: while a capture is read
+# ---- frames: they need pixels, so they are made while a capture is read
 
 
 @dataclass(frozen=True, eq=False)
 class Marks:
-    """The faults among the rows of a frame: the number of each event, its kind, its lane (or another number), the row before it, and the
-    pixel of that row that it names. The pixel of what names none is before the row or after it."""
+    """The faults among the rows of a frame. For each: the number of the event, its kind, its lane (or another number), the row before it,
+    and its pixel in that row. A fault without a pixel has one before or after the row."""
 
     place: Ints
     kind: Octets
@@ -239,51 +240,53 @@ class Marks:
     pixel: Ints
 
     def of(self, kind: Kind) -> Iterator[tuple[int, int, int, int]]:
-        """The place, the lane, the row and the pixel of those of a kind."""
+        """Yields the number, lane, row and pixel of the faults of a kind."""
         which = np.flatnonzero(self.kind == kind)
         return zip(*(one[which].tolist() for one in (self.place, self.value, self.row, self.pixel)))
 
     @property
     def counts(self) -> Counter[str]:
-        """How many there are of each kind."""
+        """Counts the faults by kind."""
         kinds, times = np.unique(self.kind, return_counts=True)
         return Counter({WORDS[kind]: many for kind, many in zip(kinds.tolist(), times.tolist())})
 
 
 @dataclass(frozen=True, slots=True, eq=False)
 class Frame:
-    """The rows between two changes of VSYNC in one epoch: their bytes, the columns of their first pixels and the numbers of their events.
-    `change` is the column at which VSYNC changed before them, None if that is not known. `ended` says what ended it: "vsync", "slip",
-    "relock" or "end". `is_begun` says whether VSYNC changed before them."""
+    """The rows between two changes of VSYNC in one epoch: their bytes, the columns of their first pixels, and the numbers of their
+    events.
+
+    `change` is the column of the change of VSYNC before them (None if not known). `ended` says what ended the frame: "vsync", "slip",
+    "relock" or "end". `is_begun` says whether VSYNC changed before the rows."""
 
     change: int | None
     rows: list[bytes]
     firsts: list[int]
     places: list[int]
     marks: Marks
-    end: int  # the number of the event that ended it
+    end: int  # the number of the event that ended the frame
     ended: str
     is_begun: bool
 
     @property
     def is_whole(self) -> bool:
-        """Whether VSYNC changed before and after."""
+        """Whether VSYNC changed before and after the rows."""
         return self.is_begun and self.ended == "vsync"
 
     @property
     def width(self) -> int:
-        """The pixels of the first row."""
+        """The number of pixels of the first row."""
         return len(self.rows[0]) // 3
 
     @property
     def ragged(self) -> int:
-        """How many rows have another width than the first."""
+        """The number of rows with a different width than the first one."""
         sizes = [*map(len, self.rows)]
         return len(sizes) - sizes.count(sizes[0])
 
 
 def picture_of(rows: Sequence[bytes]) -> Octets:
-    """The pixels of rows, as wide as the first; rows that are too short end in black."""
+    """Returns the pixels of rows. The picture is as wide as the first row. Shorter rows are padded with black."""
     width = len(rows[0])
     data = b"".join(row[:width].ljust(width, b"\0") for row in rows)
     return np.frombuffer(data, np.uint8).reshape(len(rows), -1, 3)
@@ -291,15 +294,15 @@ def picture_of(rows: Sequence[bytes]) -> Octets:
 
 @dataclass
 class Vsync:
-    """VSYNC, which has a level once three neighbouring columns had it, with nothing but a damaged control character between them."""
+    """Follows VSYNC. A level counts once three neighbouring columns have it. Only a damaged control character may be between them."""
 
     heard: int | None = None
     level: int | None = None
     streak: int = 0
 
     def changes(self, events: Events) -> list[tuple[int, int]]:
-        """The places of the runs among which it changed, of some events of one epoch, and how many columns had the new level by their
-        end."""
+        """Returns the changes of VSYNC in some events of one epoch: the run in which each counts, and how many columns had the new level
+        by the end of that run."""
         runs = events.of(Kind.RUN)
         parts = (events.kind != Kind.RUN) & (events.kind != Kind.WORD)
         parted = np.append(0, np.cumsum(parts))[np.append(runs, len(events))]
@@ -325,7 +328,7 @@ class Vsync:
         return found
 
     def others(self, levels: Ints, sums: Ints) -> list[int]:
-        """The groups of columns that have another level than those that counted before them."""
+        """Returns the groups of columns that have a different level than the last one that counted."""
         known = np.flatnonzero(sums >= CERTAIN)
         before = np.append(-1 if self.heard is None else self.heard, levels[known[:-1]])
         found: list[int] = known[levels[known] != before[: len(known)]].tolist()
@@ -334,17 +337,17 @@ class Vsync:
 
 @dataclass
 class Framer:
-    """Makes frames of events that come piece by piece. `count` is how many events came."""
+    """Makes frames from events that arrive in parts. `count` is the number of events so far."""
 
     vsync: Vsync = field(default_factory=Vsync)
     count: int = 0
-    parts: list[Events] = field(default_factory=list)  # of the frame that has not ended
-    first: int = 0  # the number of its first event
+    parts: list[Events] = field(default_factory=list)  # events of the current frame
+    first: int = 0  # the number of the current frame's first event
     change: int | None = None
     is_begun: bool = False
 
     def take(self, events: Events) -> Iterator[tuple[int, Frame]]:
-        """The frames that end among the next events, and the place among these at which each ends."""
+        """Takes the next events. Yields the frames that end there, each with the place of its end."""
         ends = events.of(*ENDS).tolist()
         for begin, stop in zip([0, *(end + 1 for end in ends)], [*ends, len(events)]):
             its, at = events[begin:stop], 0
@@ -363,7 +366,7 @@ class Framer:
         self.count += len(events)
 
     def ended(self, place: int, ended: str) -> Iterator[Frame]:
-        """The frame that ends before an event, if it has rows."""
+        """Yields the frame that ends before an event, if it has rows."""
         parts, number, self.parts = self.parts, self.first, []
         rows, firsts, places, marks = list[bytes](), list[int](), list[int](), list[Marks]()
         for its in parts:
@@ -378,13 +381,13 @@ class Framer:
             yield Frame(self.change, rows, firsts, places, both, self.count + place, ended, self.is_begun)
 
     def finish(self, ended: str = "end", place: int = 0) -> Iterator[Frame]:
-        """The epoch ends at an event, or the capture ends."""
+        """Yields the last frame: an epoch ends at an event, or the capture ends."""
         yield from self.ended(place, ended)
         self.change, self.is_begun, self.vsync = None, False, Vsync()
 
 
 def marks_of(events: Events, lines: Ints, number: int, before: Sequence[int]) -> Marks:
-    """The faults behind the first row of a frame, of some of its events: `before` are the first columns of the rows before these."""
+    """Returns the faults after the first row of a frame. `before` are the first columns of the rows before these events."""
     faults = events.faults
     row = len(before) + np.searchsorted(lines, faults) - 1
     faults, row = faults[row >= 0], row[row >= 0]
@@ -394,12 +397,12 @@ def marks_of(events: Events, lines: Ints, number: int, before: Sequence[int]) ->
 
 
 def first_pixels(events: Events, lines: Ints) -> Ints:
-    """The columns of the first pixels of rows."""
+    """Returns the columns of the first pixels of rows."""
     return np.where(events.first[lines] == UNTOLD, UNTOLD, (events.end - events.value)[lines])
 
 
 def known_up_to(its: Events) -> int:
-    """How many of some events come before a last packet whose faults may still come."""
+    """Returns the number of events before the last packet, if its faults may still follow, otherwise the number of all events."""
     last = len(its)
     while last and IS_OF_PACKET[its.kind[last - 1]]:
         last -= 1
@@ -408,22 +411,22 @@ def known_up_to(its: Events) -> int:
 
 @dataclass
 class Flow:
-    """What is known, as it is read: packets once all is said of their blocks, and frames with their pixels. The packets before the end of
-    a frame come before the frame. Their columns count in their own epoch."""
+    """The contents of a capture while it is read: packets (once all their faults are known) and frames with their pixels. The packets
+    before the end of a frame are yielded before the frame. Columns count in each epoch."""
 
     framer: Framer = field(default_factory=Framer)
     rest: Events = field(default_factory=lambda: joined([]))
     count: int = 0
 
     def take(self, events: Events) -> Iterator[Frame | Packets]:
-        """The next events."""
+        """Takes the next events. Yields frames and packets."""
         its = joined([self.rest, events]) if len(self.rest) else events
         keep = known_up_to(its)
         self.rest = its[keep:].without_pixels()
         yield from self.known(its[:keep])
 
     def known(self, its: Events) -> Iterator[Frame | Packets]:
-        """Events of whose packets all is said."""
+        """Yields the frames and packets of events. The faults of all packets are known."""
         at = 0
         for place, frame in self.framer.take(its):
             yield from self.packets(its[at:place], self.count + at)
@@ -434,12 +437,12 @@ class Flow:
 
     @staticmethod
     def packets(its: Events, first: int) -> Iterator[Packets]:
-        """The packets of some events, if there are any."""
+        """Yields the packets of some events, if there are any."""
         found = packets_of(its, first=first)
         if len(found):
             yield found
 
     def finish(self) -> Iterator[Frame | Packets]:
-        """Nothing more comes."""
+        """Yields the rest, at the end of the capture."""
         yield from self.known(self.rest)
         yield from self.framer.finish()

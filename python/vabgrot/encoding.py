@@ -1,4 +1,4 @@
-"""The columns of parts of a link, by the C library: control periods, lines and data islands in any order."""
+"""Makes the columns of parts of a link with the C library: control periods, lines and data islands in any order."""
 
 from __future__ import annotations
 
@@ -29,7 +29,7 @@ Words = Any  # an array of columns by three words; without NumPy a list of lists
 
 @dataclass(frozen=True, slots=True)
 class Control:
-    """`count` control columns of one value: bit 0 HSYNC, bit 1 VSYNC, bits 2 to 5 CTL0 to CTL3."""
+    """`count` equal control columns. The value has HSYNC in bit 0, VSYNC in bit 1, CTL0 to CTL3 in bits 2 to 5."""
 
     value: int
     count: int
@@ -37,8 +37,8 @@ class Control:
 
 @dataclass(frozen=True, slots=True)
 class Video:
-    """A line of 1 to 4,096 pixels: red, green and blue of each, or an array of pixels by three. Two guard columns stand before it, but in
-    a link without guard bands."""
+    """A line of 1 to 4,096 pixels: bytes (red, green and blue of each pixel) or an array of the shape (pixels, 3). Two guard columns
+    precede them, unless `guard` is False, for a link without guard bands."""
 
     pixels: Octets
     guard: bool = True
@@ -46,8 +46,10 @@ class Video:
 
 @dataclass(frozen=True, slots=True)
 class Island:
-    """A data island: its packets of 63 bytes (three of the header, four bodies of seven, and of each of 32 columns HSYNC plus twice VSYNC),
-    and the same of the two guard columns that open it and of the two that close it."""
+    """A data island.
+
+    A packet has 63 bytes: three of the header, four bodies of seven, and one for each of 32 columns (HSYNC plus twice VSYNC). `opening`
+    and `closing` are this sync value for the two guard columns before and after the packets."""
 
     packets: Sequence[Octets]
     opening: tuple[int, int] = (0, 0)
@@ -55,11 +57,11 @@ class Island:
 
 
 Part = Control | Video | Island
-Step = tuple[str, tuple[Any, ...]]  # a call of the library, and what it is given before the rows
+Step = tuple[str, tuple[Any, ...]]  # a call of the library, and its arguments before the rows
 
 
 def octets(given: Octets) -> tuple[bytes, int]:
-    """Bytes, and how many they are. Raises TypeError where it is no buffer of bytes."""
+    """Returns bytes and their number. Raises TypeError if this is not a buffer of bytes."""
     view = memoryview(given)
     if view.format not in ("B", "b", "c"):
         raise TypeError(f"pixels and packets are bytes, and not items of the format {view.format!r}")
@@ -68,7 +70,7 @@ def octets(given: Octets) -> tuple[bytes, int]:
 
 
 def number(given: int) -> int:
-    """The same. Raises ValueError where it is none of 32 bits."""
+    """Returns the number. Raises ValueError if it does not fit 32 bits."""
     found = operator.index(given)
     if not 0 <= found <= MOST:
         raise ValueError(f"a number of a part is 0 to {MOST}, and {found} is none of these")
@@ -76,7 +78,7 @@ def number(given: int) -> int:
 
 
 def steps_of(part: Part) -> Iterator[Step]:
-    """The calls that lay a part."""
+    """Yields the calls that make a part."""
     if isinstance(part, Control):
         yield "run", (number(part.value), number(part.count))
     elif isinstance(part, Video):
@@ -98,7 +100,7 @@ def steps_of(part: Part) -> Iterator[Step]:
 
 @functools.cache
 def calls() -> ctypes.CDLL:
-    """The library with the types of its calls that lay columns. Raises NoLibrary."""
+    """Returns the library with the types of the calls for columns. Raises NoLibrary."""
     found = library.needed()
     try:
         for name, words in TYPES.items():
@@ -110,7 +112,8 @@ def calls() -> ctypes.CDLL:
 
 
 def laid(step: Step, place: int, stride: int, room: int) -> tuple[int, int]:
-    """The status of a call, and how many columns its part has, with rows that begin at a place and so many bytes after one another."""
+    """Makes a call. Returns its status and the number of columns. The rows begin at address `place`, `stride` bytes apart, with room for
+    `room` columns."""
     name, words = step
     rows = [word for lane in range(LANES) for word in (place + lane * stride, room)]
     columns = c_size_t()
@@ -119,7 +122,7 @@ def laid(step: Step, place: int, stride: int, room: int) -> tuple[int, int]:
 
 
 def size_of(part: Part, step: Step) -> int:
-    """How many columns a call lays. Raises ValueError where there is no such part."""
+    """Returns the number of columns of a call. Raises ValueError if the part is not allowed."""
     nothing = (c_uint16 * 1)()
     status, columns = laid(step, addressof(nothing), 0, 0)
     if status == library.MISUSE:
@@ -128,10 +131,12 @@ def size_of(part: Part, step: Step) -> int:
 
 
 def encode(parts: Iterable[Part]) -> Words:
-    """The characters of parts that follow one another, each a Control, a Video or an Island: of each column those of blue, green and red,
-    as an array of columns by three, or without NumPy as a list of lists. Bit 0 of a character is sent first. What each part gives is proved
-    (docs/proof/PROVED.md); their order is the caller's. Raises ValueError where there is no such part, TypeError where pixels or packets
-    are no bytes, and NoLibrary."""
+    """Returns the characters of successive parts, each a Control, a Video or an Island.
+
+    The result is an array of the shape (columns, 3), or without NumPy a list of lists, with blue, green and red in each column. Bit 0 of
+    a character is sent first. The columns of each part are proved (docs/proof/PROVED.md); the caller chooses their order.
+
+    Raises ValueError if a part is not allowed, TypeError if pixels or packets are not bytes, and NoLibrary."""
     steps = [(step, size_of(part, step)) for part in parts for step in steps_of(part)]
     total = sum(size for _, size in steps)
     rows = (c_uint16 * max(1, LANES * total))()
@@ -145,7 +150,7 @@ def encode(parts: Iterable[Part]) -> Words:
 
 
 def columns_of(rows: ctypes.Array[c_uint16], total: int) -> Words:
-    """Three rows that follow one another as columns."""
+    """Returns three successive rows as columns."""
     try:
         import numpy as np
     except ImportError:

@@ -1,4 +1,4 @@
-"""How what was given is refused, and what is said of a package of Python that is missing."""
+"""Errors of the tools: input that they refuse, and missing Python packages."""
 
 import importlib.util
 
@@ -23,15 +23,16 @@ PACKAGES = {
 
 
 class Refused(Exception):
-    """What was given cannot be used; the text says why, in one line."""
+    """The input cannot be used. The text gives the reason in one line."""
 
 
 class Unaligned(Refused):
-    """The lanes of a capture are not aligned anywhere: it was read, and carries nothing."""
+    """The lanes of a capture align nowhere: it was read and has no contents."""
 
 
 def missing(why: ImportError) -> str | None:
-    """What is said of a missing package of Python, with the command that installs all that are missing; None if tools need no such one."""
+    """Returns a message for a missing Python package, with the command that installs all missing ones. Returns None if the tools do not
+    need the package."""
     package = PACKAGES.get((why.name or "").partition(".")[0])
     if package is None:
         return None

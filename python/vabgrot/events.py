@@ -1,7 +1,7 @@
-"""What a receiver reports, as one type: arrays of events, and the bytes of rows and packets.
+"""The events that a receiver reports, as one type: arrays of events, and the bytes of rows and packets.
 
-`Events` is what the C library writes (`of_records`) and what a listing says (`listing.parsed`). Nothing above this module knows which of
-the two it came from. A view (`Event`) is an object for one event: use it for faults and for printing, not for a million runs."""
+`Events` come from the C library (`of_records`) or from a listing (`listing.parsed`). No other module needs to know which of the two. A
+view (`Event`) is an object for one event: use it for faults and for printing, not for a million runs."""
 
 from __future__ import annotations
 
@@ -22,9 +22,9 @@ Octets = npt.NDArray[np.uint8]
 Mask = npt.NDArray[np.bool_]
 Records = npt.NDArray[np.void]
 
-UNTOLD = -1  # a column that a listing does not say
+UNTOLD = -1  # a column that a listing does not give
 WHOLE = CARRIED + PACKET  # bytes of a packet in `data`: header, bodies, and a sync value for each of its columns
-GUARDS = 2  # columns before the pixels of a line, and of what opens or closes an island
+GUARDS = 2  # guard columns before the pixels of a line, and on either side of an island
 # A record of vabgrot.h; its columns are below 2^60.
 RECORD = np.dtype(
     [(name, "<i8") for name in ("column", "named", "count", "offset")] + [(name, "<u4") for name in ("size", "kind", "value", "second")]
@@ -32,7 +32,7 @@ RECORD = np.dtype(
 
 
 class Kind(enum.IntEnum):
-    """The kinds of events, with their numbers in vabgrot.h. From WORD on they are faults; SLIP and RELOCKED end an epoch."""
+    """The kinds of events, with their numbers in vabgrot.h. From WORD on they are faults. SLIP and RELOCKED end an epoch."""
 
     RUN = 0
     LINE = 1
@@ -58,7 +58,7 @@ class Kind(enum.IntEnum):
 
     @property
     def word(self) -> str:
-        """The word of a fault in a listing."""
+        """The word for a fault in a listing."""
         return "relock" if self == Kind.RELOCKED else self.name.lower().replace("_", "")
 
 
@@ -68,7 +68,7 @@ ENDS = (Kind.SLIP, Kind.RELOCKED)  # they end an epoch
 LANED = tuple(OF_WORD[word] for word in faults.LINK if word in faults.LANED)  # `value` is a lane
 BLOCKED = (Kind.MENDED, Kind.LOST)  # `value` is a block of a packet
 OF_PACKET = tuple(OF_WORD[word] for word in faults.LINK if word in faults.OF_PACKET)  # reported directly after their packet
-COVERS = np.array([kind < Kind.CUT for kind in Kind])  # whether a kind stands for columns
+COVERS = np.array([kind < Kind.CUT for kind in Kind])  # whether events of a kind cover columns
 FAULTY = np.array([kind >= Kind.WORD for kind in Kind])
 IS_LANED = np.isin(np.arange(len(Kind)), LANED)
 IS_OF_PACKET = np.isin(np.arange(len(Kind)), OF_PACKET)
@@ -95,7 +95,7 @@ class Event:
 
     @property
     def lane(self) -> int | None:
-        """The lane of a fault that has one."""
+        """The lane of a fault, or None if its kind has none."""
         return self.value if self.kind in LANED else None
 
     @property
@@ -143,8 +143,7 @@ class Event:
 
 @dataclass(frozen=True, slots=True)
 class End:
-    """The end of the lanes: how many columns there were (UNTOLD if the lanes may lose bits), how many epochs, and how many of these were
-    aligned."""
+    """The end of the lanes: the number of columns (UNTOLD if the lanes may lose bits), of epochs, and of aligned epochs."""
 
     columns: int
     epochs: int
@@ -157,7 +156,7 @@ class End:
 
 
 def numbers_of(kind: int, first: int, value: int, second: int) -> tuple[int, ...]:
-    """The numbers of a fault line: what it names is at `first`."""
+    """Returns the numbers of a fault line. `first` is the column or place that it names."""
     if kind in LANED:
         return value, first
     if kind == Kind.MENDED:
@@ -207,12 +206,12 @@ class Events:
         return self.first + self.width
 
     def of(self, *kinds: Kind) -> Ints:
-        """The places of the events of some kinds."""
+        """Returns the places of the events of these kinds."""
         return np.flatnonzero(np.isin(self.kind, kinds) if len(kinds) > 1 else self.kind == kinds[0])
 
     @property
     def covering(self) -> Ints:
-        """The places of the events that stand for columns."""
+        """The places of the events that cover columns."""
         return np.flatnonzero(COVERS[self.kind])
 
     @property
@@ -221,30 +220,31 @@ class Events:
         return np.flatnonzero(FAULTY[self.kind])
 
     def octets(self, packets: Ints) -> Octets:
-        """The bytes of packets: a row of 63 for each."""
+        """Returns the bytes of packets, 63 in each row."""
         if not len(packets):
             return np.zeros((0, WHOLE), np.uint8)
         found: Octets = np.lib.stride_tricks.sliding_window_view(self.data, WHOLE)[self.offset[packets]]
         return found
 
     def row(self, place: int) -> Octets:
-        """The pixels of a line: an array of pixels by red, green and blue."""
+        """Returns the pixels of a line, as an array of the shape (pixels, 3)."""
         at = int(self.offset[place])
         return self.data[at : at + int(self.size[place])].reshape(-1, 3)
 
     def view(self, place: int) -> Event:
-        """One event as an object."""
+        """Returns one event as an object."""
         at, size = int(self.offset[place]), int(self.size[place])
         epoch, column, first, width = (int(one[place]) for one in (self.epoch, self.column, self.first, self.width))
         value, second = int(self.value[place]), int(self.second[place])
         return Event(Kind(self.kind[place]), epoch, column, first, width, value, second, self.data[at : at + size].tobytes())
 
     def views(self, places: Ints) -> Iterator[Event]:
-        """Some events as objects."""
+        """Yields some events as objects."""
         return map(self.view, places.tolist())
 
     @overload
     def __getitem__(self, which: int) -> Event:
+        """Returns one event as an object, or a selection of the events. Their bytes are not copied."""
         ...
 
     @overload
@@ -259,7 +259,7 @@ class Events:
         return Events(**some, data=self.data)
 
     def without_pixels(self) -> Events:
-        """The same events with the bytes of packets alone."""
+        """Returns the same events, but only with the bytes of packets."""
         packets = self.of(Kind.PACKET)
         offset, size = np.zeros_like(self.offset), np.zeros_like(self.size)
         offset[packets], size[packets] = WHOLE * np.arange(len(packets)), WHOLE
@@ -267,7 +267,7 @@ class Events:
 
 
 def joined(parts: Sequence[Events]) -> Events:
-    """Events that follow one another."""
+    """Joins successive events."""
     if not parts:
         return of_records(np.zeros(0, RECORD), np.zeros(0, np.uint8))
     if len(parts) == 1:
@@ -280,8 +280,8 @@ def joined(parts: Sequence[Events]) -> Events:
 
 
 def of_records(records: Records, data: Octets, epoch: int = 0, guards: int = GUARDS) -> Events:
-    """The events that the C library wrote (`vabgrot_event` in vabgrot.h). `epoch` is the number of the first one's epoch, `guards` how
-    many columns come before the pixels of a line: 2, of DVI 0."""
+    """Returns the events that the C library wrote (`vabgrot_event` in vabgrot.h). `epoch` is the epoch of the first one. `guards` is the
+    number of columns before the pixels of a line: 2, or 0 for DVI."""
     kind = records["kind"].astype(np.uint8)
     column, first, size = (records[name].astype(np.int64) for name in ("column", "named", "size"))
     value, second, offset = (records[name].astype(np.int64) for name in ("value", "second", "offset"))

@@ -1,4 +1,4 @@
-"""The command `vabgrot` of a wheel: it becomes the script that the wheel has beside the package."""
+"""The command `vabgrot` of a wheel. It replaces itself with the script that the wheel contains."""
 
 import os
 import sys
@@ -7,5 +7,5 @@ from vabgrot import place
 
 
 def main() -> None:
-    """Runs the script with the words of the command line."""
+    """Runs the script with the arguments of the command line."""
     os.execv(place.FRONT, [str(place.FRONT), *sys.argv[1:]])

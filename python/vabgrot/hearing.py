@@ -1,5 +1,5 @@
-"""The sound of a capture or of a listing: the samples of each channel, what they are, and the rates that clock packets, channel status and
-audio InfoFrame tell."""
+"""Reads the sound of a capture or a listing: the samples of each channel, their kind, and the sampling rates that clock regeneration,
+channel status and audio InfoFrame give."""
 
 from collections import Counter
 from collections.abc import Sequence
@@ -22,26 +22,26 @@ from vabgrot.packets import Packet
 from vabgrot.video.colours import DEPTHS
 
 STATUS_BYTES = BLOCK // 8
-SIDE = 3  # bytes of a sample of one channel
+SIDE = 3  # bytes of a sample on one channel
 SAMPLE = LAYOUTS["samples"].fields
-C_BIT = SAMPLE["left C"].low  # where the bit of the channel status is in V, U, C and P
+C_BIT = SAMPLE["left C"].low  # the bit of the channel status in V, U, C and P
 NAMED: dict[int, str] = {
     Type.ONE_BIT: "One Bit Audio",
     Type.DST: "DST audio",
     Type.HIGH_RATE: "high bit rate audio (IEC 61937)",
-}  # packets of sound that is no PCM, by their type
+}  # packets of sound that is not PCM, by type
 Line = tuple[int, str, list[str]]
 
 
 @dataclass
 class Status:
-    """The channel status of one channel: the C bits of its samples from the first one that starts a block on."""
+    """Collects the channel status of one channel: the C bits of its samples from the first start of a block on."""
 
     bits: list[int] = field(default_factory=list)
-    block: bytes = b""  # the first whole one
+    block: bytes = b""  # the first complete block
 
     def take(self, starts: bool, bit: int) -> None:
-        """The C bit of a sample."""
+        """Takes the C bit of a sample."""
         if self.block:
             return
         if starts:
@@ -54,34 +54,34 @@ class Status:
 
     @property
     def rate(self) -> int | None:
-        """The sampling rate that it names; None where it names none, or is that of professional use."""
+        """The sampling rate, or None if it gives none or is for professional use."""
         return CODED.get(self.block[3] & 15) if self.block and not self.block[0] & 1 else None
 
     @property
     def is_pcm(self) -> bool:
-        """Whether it says nothing else than linear PCM."""
+        """Whether it describes linear PCM, or is not known."""
         return not self.block or not self.block[0] & 2
 
 
 @dataclass
 class Heard:
-    """The sound of a capture, or of a listing as its lines are taken."""
+    """The sound of a capture, or of a listing while its lines are read."""
 
-    sides: list[bytearray] = field(default_factory=list)  # of channels 1, 2 ..: three bytes a sample, high byte first
+    sides: list[bytearray] = field(default_factory=list)  # channels 1, 2 and so on: three bytes a sample, high byte first
     samples: int = 0
     status: Status = field(default_factory=Status)
-    clock: tuple[int, int] | None = None  # N and CTS of the first clock packet
+    clock: tuple[int, int] | None = None  # N and CTS of the first clock regeneration packet
     vic: int | None = None
     depth: int = 24
-    frequency: int = 0  # of the audio InfoFrame, in Hz; 0 by the stream
+    frequency: int = 0  # from the audio InfoFrame, in Hz; 0 means "as the stream says"
     allocation: int | None = None
     others: Counter[str] = field(default_factory=Counter)
     faults: Counter[str] = field(default_factory=Counter)
-    is_wide: bool = False  # layout 1
-    kept: list[Packet] = field(default_factory=list)  # of a content listing, the packets of samples that have no line of their own
+    is_wide: bool = False  # whether the samples have layout 1
+    kept: list[Packet] = field(default_factory=list)  # from a content listing: packets of samples without a line of their kind
 
     def take(self, line: int, name: str, fields: list[str]) -> None:
-        """A line of a content listing, or of what `read biphase` writes."""
+        """Takes a line of a content listing, or of the output of `read biphase`."""
         if name == "s":
             self.sample_line(line, listing.fields_of(fields, 6, line))
         elif name == "acr":
@@ -110,13 +110,13 @@ class Heard:
             self.faults[fields[0]] += 1
 
     def end(self) -> None:
-        """No more lines come."""
+        """Takes the end of the listing."""
         if self.kept and not self.samples:
             its = packets_in(self.kept)
             self.hear(its, samples_of(its))
 
     def sample_line(self, line: int, fields: list[str]) -> None:
-        """A line of a sample of two channels."""
+        """Takes a line with a sample of two channels."""
         left, right, flags, _, starts, _ = fields
         self.sides = self.sides or [bytearray(), bytearray()]
         for side, text, name in zip(self.sides, (left, right), SIDES):
@@ -126,7 +126,7 @@ class Heard:
 
     @staticmethod
     def value(text: str, name: str) -> bytes:
-        """The three bytes of a sample."""
+        """Returns the three bytes of a sample."""
         try:
             data = bytes.fromhex(text)
         except ValueError:
@@ -136,12 +136,12 @@ class Heard:
         return data
 
     def infoframe(self, rate: int, allocation: int) -> None:
-        """SF and CA of an audio InfoFrame, the first one's."""
+        """Takes SF and CA of an audio InfoFrame. The first one counts."""
         if self.allocation is None:
             self.frequency, self.allocation = FREQUENCIES[rate & 7], allocation
 
     def packet(self, it: Packet) -> None:
-        """A packet without a lost block, but none of samples."""
+        """Takes a packet that has no samples and no lost block."""
         if it.kind in NAMED:
             self.others[NAMED[it.kind]] += 1
         faults = [fault.split()[0] for fault in packets.content_of(it).faults]
@@ -156,7 +156,7 @@ class Heard:
             self.infoframe(it.number("SF"), it.number("CA"))
 
     def hear(self, its: Packets, samples: Samples) -> None:
-        """All packets, and their samples."""
+        """Takes all packets and their samples."""
         for packet in its[~its.lost & (its.kind != Type.NULL) & (its.kind != Type.SAMPLES)]:
             self.packet(packet)
         lost = int((its.lost & np.isin(its.kind, (Type.CLOCK, Type.SAMPLES))).sum())
@@ -173,14 +173,14 @@ class Heard:
             self.status.block = np.packbits(first[0], bitorder="little").tobytes()
 
     def usual_clock(self) -> int | None:
-        """The rate of columns of the mode's code, and for a mode of one's own that which `content` takes, in Hz; of deep colour it is
-        that of pixels as many times as a pixel has more than 24 bits."""
+        """Returns the columns a second in Hz: from the mode's code, or for a custom mode the rate that `content` assumes. In deep colour
+        it is higher than the pixel clock."""
         clock = CUSTOM_CLOCK if self.vic == 0 else VICS[self.vic].clock if self.vic in VICS else None
         return clock and clock * self.depth // 24
 
     def rates(self, clock: int | None) -> dict[str, int]:
-        """What tells a sampling rate, and which; the rate by the clock packet (HDMI 1.4, section 7.2) first. The pixel clock of a mode
-        of one's own is a guess, by which a rate is told only where nothing else tells one."""
+        """Returns the sampling rates by source. The one from clock regeneration (HDMI 1.4, section 7.2) comes first. The pixel clock of a
+        custom mode is a guess. It is used only if no other source gives a rate."""
         is_guess, clock = clock is None and self.vic == 0, clock or self.usual_clock()
         told = {"the channel status": self.status.rate or 0, "the audio InfoFrame": self.frequency or 0}
         told = {who: rate for who, rate in told.items() if rate}
@@ -189,7 +189,7 @@ class Heard:
         return {"the clock packets": pcm.rate_of(*self.clock, clock)} | told
 
     def rate(self, clock: int | None) -> int:
-        """The sampling rate, by the first that tells one."""
+        """Returns the sampling rate from the first source that gives one."""
         found = self.rates(clock)
         if found:
             return next(iter(found.values()))
@@ -198,7 +198,7 @@ class Heard:
         raise Refused(f"the sound has no {lack}, so its rate is not known. Give it with {give}")
 
     def values(self) -> Values:
-        """The samples of all channels."""
+        """Returns the samples of all channels."""
         parts = []
         for side in self.sides:
             data = np.frombuffer(bytes(side).ljust(SIDE * self.samples, b"\0"), np.uint8).reshape(-1, SIDE).astype(np.int32)
@@ -207,8 +207,8 @@ class Heard:
         return np.where(found >> 23, found - (1 << 24), found).astype(np.int32)
 
     def names(self, allocation: int | None) -> tuple[str, ...]:
-        """The speakers of the channels, by an allocation or else by the InfoFrame's; and where none is told by the one that uses as
-        many."""
+        """Returns the speakers of the channels: by `allocation`, by the InfoFrame, or by the usual allocation for this number of
+        channels."""
         count = len(self.sides)
         chosen = self.allocation if allocation is None else allocation
         if chosen is None:
@@ -219,7 +219,7 @@ class Heard:
         return names[:count]
 
     def wide(self, rate: int, bits: int | None, allocation: int | None) -> Wide:
-        """The sound, of 16 bits where all others are 0 and else of 24, or of as many as are given."""
+        """Returns the sound. Without `bits`, samples have 16 bits if the lower eight are always 0, otherwise 24."""
         values = self.values()
         bits = bits or (24 if (values & 255).any() else 16)
         names = self.names(allocation)
@@ -227,15 +227,15 @@ class Heard:
 
 
 def heard_of(its: Packets, samples: Samples) -> Heard:
-    """The sound of packets."""
+    """Returns the sound of packets."""
     found = Heard()
     found.hear(its, samples)
     return found
 
 
 def joined(pairs: Sequence[Heard]) -> Heard:
-    """The sound of pairs of channels that were heard one by one, as of `recover biphase 0` and so on. Each begins at its own first block;
-    what one has more than the others is left out."""
+    """Joins pairs of channels that were read separately, for example by `recover biphase 0`, `1` and so on. Each begins at its first
+    block. Longer ones are cut at the end."""
     first = pairs[0]
     first.samples = min(pair.samples for pair in pairs)
     first.sides = [side for pair in pairs for side in pair.sides]

@@ -1,4 +1,4 @@
-"""The fields of a packet as numbers, and in words as rows, by the table of `formats.layouts`."""
+"""Reads the fields of packets as numbers and as rows of text, with the table in `formats.layouts`."""
 
 from __future__ import annotations
 
@@ -15,7 +15,7 @@ HOLE = re.compile(r"\{([^:}]+):?([^}]*)\}")
 
 
 class Row(NamedTuple):
-    """A field of a packet: what it is called, what it says, and its name and number in the standard."""
+    """A field of a packet: its name, its value in words, and its name and number in the standard."""
 
     name: str
     value: str
@@ -23,29 +23,29 @@ class Row(NamedTuple):
 
 
 def text_of(data: bytes) -> str:
-    """Characters of seven bits."""
+    """Returns a text of 7-bit characters."""
     return "".join(chr(byte & 127) if 32 <= byte & 127 < 127 else " " for byte in data).strip() or "(blank)"
 
 
 def size_of(header: bytes) -> int:
-    """How many of the bytes from PB0 on belong to a packet: those within the length, and the checksum, of an InfoFrame."""
+    """Returns how many bytes from PB0 on belong to a packet. For an InfoFrame these are the checksum and the bytes within the length."""
     return LENGTH.of(header) + 1 if header[0] >= Type.INFOFRAMES else 28
 
 
 def number_in(field: Field, header: bytes, data: bytes) -> int:
-    """The number of a field."""
+    """Returns the value of a field."""
     return field.of(header if field.in_header else data)
 
 
 def numbers_of(layout: Layout, header: bytes, data: bytes) -> dict[str, int]:
-    """The numbers of the fields that a packet of this layout has within its length."""
+    """Returns the values of the fields that are within the packet's length."""
     size = size_of(header)
     fields = layout.all_fields.items()
     return {name: number_in(it, header, data) for name, it in fields if it.end <= (HEADER if it.in_header else size)}
 
 
 def form_of(header: bytes) -> Layout | None:
-    """The layout of a packet's type. That of an InfoFrame is that of its version, or of the next lower one that is known."""
+    """Returns the layout for a packet's type. For an InfoFrame it is the one of its version, or of the next lower known version."""
     known = sorted((it for it in layouts_of(header[0]) if not it.where), key=lambda it: it.header[1])
     lower = [it for it in known if it.header[1] <= header[1]]
     found = lower[-1:] or known[:1]
@@ -53,7 +53,7 @@ def form_of(header: bytes) -> Layout | None:
 
 
 def layout_of(header: bytes, data: bytes) -> Layout | None:
-    """The layout by which a packet is read; None where its type, its version or its length is not known."""
+    """Returns the layout with which to read a packet, or None if its type, its version or its length is not known."""
     for it in layouts_of(header[0]):
         length, is_infoframe = LENGTH.of(header), it.is_infoframe
         if not is_infoframe or (length >= it.least if it.least else (header[1], length) == it.header[1:]):
@@ -63,7 +63,7 @@ def layout_of(header: bytes, data: bytes) -> Layout | None:
 
 
 def rows_of(layout: Layout, header: bytes, data: bytes) -> list[Row]:
-    """The rows of a packet."""
+    """Returns the rows of a packet."""
     numbers, within = numbers_of(layout, header, data), data[: size_of(header)]
     found: dict[str, Row] = {}
     for line in layout.lines:
@@ -74,13 +74,13 @@ def rows_of(layout: Layout, header: bytes, data: bytes) -> list[Row]:
 
 
 def applies(line: Line, layout: Layout, numbers: Mapping[str, int]) -> bool:
-    """Whether a row is that of a packet with these numbers."""
+    """Returns whether a row applies to a packet with these values."""
     named = {name for text in (line.says, line.number) for name, _ in HOLE.findall(text)} - layout.octets.keys()
     return named <= numbers.keys() and all(numbers.get(name) in values for name, values in line.when.items())
 
 
 def written(text: str, octets: Mapping[str, Octets], numbers: Mapping[str, int], data: bytes) -> str:
-    """A row's text with the numbers and the bytes of a packet."""
+    """Returns a row's text, filled with the values and bytes of a packet."""
 
     def filled(hole: re.Match[str]) -> str:
         name, how = hole.groups()
@@ -95,7 +95,7 @@ def written(text: str, octets: Mapping[str, Octets], numbers: Mapping[str, int],
 
 
 def in_form(number: int, how: str) -> str:
-    """A number as a row's text says."""
+    """Formats a number as a row's text says."""
     if how in TABLES:
         return TABLES[how].of(number)
     if how.startswith("/"):
@@ -105,7 +105,7 @@ def in_form(number: int, how: str) -> str:
 
 
 def mode_name(vic: int) -> str:
-    """A video identification code in words."""
+    """Returns a video identification code in words."""
     return names.MODES.of(vic)
 
 

@@ -1,4 +1,4 @@
-"""The C library of the receiver (library/vabgrot.h) by ctypes: where it is found, and the types of its calls."""
+"""Finds the C library (library/vabgrot.h) and declares the types of its calls for ctypes."""
 
 import ctypes
 import functools
@@ -12,27 +12,27 @@ from vabgrot import building, place
 from vabgrot.errors import Refused
 
 NAME = "libvabgrot.so.1"
-FOLDERS = ("", sysconfig.get_config_var("MULTIARCH") or "")  # of PREFIX/lib; Debian has one for each architecture
+FOLDERS = ("", sysconfig.get_config_var("MULTIARCH") or "")  # folders in PREFIX/lib; Debian has one for each architecture
 BUILT = place.TOP / "library" / "out" / NAME  # in a checkout
 BESIDE = [place.TOP.parent / folder / NAME for folder in FOLDERS] if place.IS_INSTALLED else [BUILT]
 NEWER = Path("glibc-hwcaps/x86-64-v3", NAME)  # beside the library: the same one for processors with these features
 FEATURES = frozenset("abm avx avx2 bmi1 bmi2 f16c fma movbe xsave".split())  # of x86-64-v3, as /proc/cpuinfo names them
-OK, FULL, MISUSE, TOOBIG, NOMEM = range(5)  # what a call answers
+OK, FULL, MISUSE, TOOBIG, NOMEM = range(5)  # the statuses of the calls
 Grammar = Literal["link", "dvi", "track", "relock"]  # the kinds of receivers, as the program's `recover` names them
 KINDS: dict[Grammar, int] = {"link": 0, "dvi": 1, "track": 2, "relock": 3}
-OF_EPOCHS: frozenset[Grammar] = frozenset(("track", "relock"))  # those of lanes that may lose bits
-LEAST_EVENTS, LEAST_BYTES = 104, 12327  # the least room with which a feed takes bits
-LEAST_TRACK_EVENTS, LEAST_TRACK_BYTES = 400, 12622  # the same of lanes that may lose bits
-QUICK_EVENTS, QUICK_BYTES = 26312, 22155  # the least room with which a feed is quickest
+OF_EPOCHS: frozenset[Grammar] = frozenset(("track", "relock"))  # the kinds for lanes that may lose bits
+LEAST_EVENTS, LEAST_BYTES = 104, 12327  # the least room for a feed to take bits
+LEAST_TRACK_EVENTS, LEAST_TRACK_BYTES = 400, 12622  # the same for lanes that may lose bits
+QUICK_EVENTS, QUICK_BYTES = 26312, 22155  # the least room for full speed
 QUICK_TRACK_EVENTS, QUICK_TRACK_BYTES = 33160, 45382
 
 
 class NoLibrary(Refused):
-    """The shared library is not there, or is none."""
+    """The shared library is missing or unusable."""
 
 
 class Misuse(Exception):
-    """A call that does not fit the calls before it, or whose bits do not fit those before them. It did nothing."""
+    """A call does not fit the calls before it, or its bits do not fit the bits before them. It did nothing."""
 
 
 class Handle(Structure):
@@ -42,25 +42,25 @@ class Handle(Structure):
 
 
 class Bits(Structure):
-    """How many bits of each lane."""
+    """The number of bits of each lane."""
 
     _fields_ = (("blue", c_uint64), ("green", c_uint64), ("red", c_uint64))
 
 
 class Answer(Structure):
-    """What a call says beside its status."""
+    """What a call returns in addition to its status."""
 
     _fields_ = (("events", c_uint64), ("bytes", c_uint64), ("taken", Bits), ("columns", c_uint64), ("aligned", c_uint64))
 
 
 def least_room(kind: Grammar) -> tuple[int, int]:
-    """How many events and bytes a receiver of a kind must have room for."""
+    """Returns how many events and bytes a receiver of this kind needs room for."""
     return (LEAST_TRACK_EVENTS, LEAST_TRACK_BYTES) if kind in OF_EPOCHS else (LEAST_EVENTS, LEAST_BYTES)
 
 
 def find() -> str:
-    """The shared library: the one that VABGROT_LIBRARY names; otherwise the one that was built or installed beside the package, or the one
-    that the system's loader finds. Raises NoLibrary if the file that VABGROT_LIBRARY names is missing."""
+    """Returns the path of the shared library: the one in VABGROT_LIBRARY, the one that was built or installed with the package, or the
+    one that the system's loader finds. Raises NoLibrary if the file in VABGROT_LIBRARY is missing."""
     named = os.environ.get("VABGROT_LIBRARY")
     if named and not Path(named).is_file():
         raise NoLibrary(f"VABGROT_LIBRARY names {named}, and there is no such file. Correct it, or leave the variable out")
@@ -81,7 +81,7 @@ def is_newer() -> bool:
 
 @functools.cache
 def loaded(path: str) -> ctypes.CDLL:
-    """The library with the types of its calls. Raises NoLibrary."""
+    """Loads a library and declares the types of its calls. Raises NoLibrary."""
     room = (c_void_p, c_size_t, c_void_p, c_size_t, POINTER(Answer))
     types = {
         "open": (c_uint32,),
@@ -102,7 +102,7 @@ def loaded(path: str) -> ctypes.CDLL:
 
 
 def needed() -> ctypes.CDLL:
-    """The library with the types of its calls, for who cannot do without it. If it is missing, a checkout builds it. Raises NoLibrary."""
+    """Returns the library, and builds it if it is missing in a checkout. Raises NoLibrary."""
     try:
         return loaded(find())
     except NoLibrary:

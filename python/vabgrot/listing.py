@@ -1,7 +1,7 @@
-"""The lines of listings (docs/guide/FORMATS.md): their names and fields, and a link listing as the same `Events` that a receiver reports.
+"""Reads the lines of listings (docs/guide/FORMATS.md): names and fields, and a link listing as the same `Events` that a receiver reports.
 
-A link listing does not say how many columns `noise`, `broken` and `longline` stand for. From there on columns are UNTOLD until a line
-names one. Nothing is guessed: rows, packets and samples do not need columns, and whoever needs them has the capture."""
+A link listing does not give the number of columns of a `noise`, `broken` or `longline`. After one of these, columns are UNTOLD until a
+line names one. Nothing is guessed: rows, packets and samples do not need columns, and a caller that needs them has the capture."""
 
 from collections.abc import Iterable, Iterator
 from dataclasses import dataclass, field
@@ -16,9 +16,9 @@ from vabgrot.formats import faults
 from vabgrot.formats.characters import PACKET
 from vabgrot.formats.layouts import BODIES, BODY, HEADER
 
-Line = tuple[int, str, list[str]]  # its number from 1, its name, its fields
+Line = tuple[int, str, list[str]]  # number (from 1), name, fields
 MOST_COLUMNS = 20_000_000
-ROW = b"v "  # how a row of a link listing begins; it is long, so that it is copied as seldom as can be
+ROW = b"v "  # the beginning of a row of a link listing; rows are long, so they are copied as rarely as possible
 CONTENT = frozenset("vic mode row frame avi audio spd info acr gcp s packet ! cut".split())
 SOUND = CONTENT | {"block"}
 LINK = frozenset("c v i p e ! cut".split())
@@ -28,9 +28,10 @@ KINDS = {CONTENT: "content listing", SOUND: "content listing", LINK: "link listi
 
 
 def lines(source: IO[bytes], names: frozenset[str] = CONTENT, is_whole: bool = True, raw_rows: bool = False) -> Iterator[Line]:
-    """The lines of a listing up to the line `end`; one that is not to be whole may break off after any line. With `raw_rows` the
-    rows of a link listing (lines `v`) have one field, whatever is in it: that is quicker where only their lengths matter.
-    Raises Refused at a line that is none of a listing of these names."""
+    """Yields the lines of a listing up to the line `end`. If `is_whole` is False, the listing may stop after any line.
+
+    With `raw_rows` a row of a link listing (line `v`) has one field with any content. That is faster if only the length matters. Raises
+    Refused if a line does not belong to a listing with these names."""
     number = 0
     for number, line in enumerate(source, 1):
         if not line.endswith(b"\n"):
@@ -56,8 +57,8 @@ def lines(source: IO[bytes], names: frozenset[str] = CONTENT, is_whole: bool = T
 
 
 def either(source: IO[bytes], names: frozenset[str], other: frozenset[str]) -> tuple[bool, Iterator[Line]]:
-    """The lines of a link listing, or of a listing of the names `other`, and whether it is a link listing: the first line that is no fault
-    tells that."""
+    """Returns whether this is a link listing or a listing with the names `other`, and its lines. The first line that is not a fault
+    decides."""
     every, first = lines(source, names), list[Line]()
     for line in every:
         first.append(line)
@@ -68,7 +69,7 @@ def either(source: IO[bytes], names: frozenset[str], other: frozenset[str]) -> t
 
 
 def of_kind(lines: Iterable[Line], names: frozenset[str]) -> Iterator[Line]:
-    """Lines of a listing; raises Refused at the first that is of another kind of listing."""
+    """Yields lines. Raises Refused at the first one that belongs to another kind of listing."""
     for number, name, fields in lines:
         if name not in names:
             text = " ".join((name, *fields))[:20]
@@ -77,21 +78,21 @@ def of_kind(lines: Iterable[Line], names: frozenset[str]) -> Iterator[Line]:
 
 
 def number(text: str, line: int) -> int:
-    """A field that is a decimal number; `line` is the number of its line, which a refusal names."""
+    """Reads a decimal number. Errors name line `line`."""
     if not text.isdecimal():
         raise Refused(f"line {line}: `{text[:20]}` is not a decimal number. FORMATS.md lists the lines")
     return int(text)
 
 
 def fields_of(fields: list[str], count: int, line: int) -> list[str]:
-    """The fields of a line; raises Refused where they are not so many."""
+    """Returns the fields of a line. Raises Refused unless there are `count`."""
     if len(fields) != count:
         raise Refused(f"line {line}: it has {len(fields)} fields instead of {count}. FORMATS.md lists the lines")
     return fields
 
 
 def digits(text: str, unit: int, line: int) -> bytes:
-    """The bytes of hexadecimal digits that come in units of so many bytes, one unit at least; raises Refused where they do not."""
+    """Reads hexadecimal digits as bytes. They form at least one unit of `unit` bytes. Raises Refused otherwise."""
     try:
         found = bytes.fromhex(text)
     except ValueError:
@@ -101,27 +102,27 @@ def digits(text: str, unit: int, line: int) -> bytes:
     return found
 
 
-PREAMBLE, CONTROLS = 0x3C, 0x04  # bits of a control column's value: of lanes 1 and 2, and those before a line
+PREAMBLE, CONTROLS = 0x3C, 0x04  # bits of a control column's value: those on lanes 1 and 2, and those before a line
 FIELDS = 9
-Row = tuple[int, int, int, int, int, int, int, int, int]  # the arrays of Events, from kind to size
+Row = tuple[int, int, int, int, int, int, int, int, int]  # the fields of Events, from kind to size
 
 
 @dataclass
 class Parser:
-    """Takes the lines of a link listing one after another. `guards` is how many columns come before the pixels of a line. If it is None,
-    the preamble before the first line says whether they are those of HDMI or of DVI."""
+    """Makes events from the lines of a link listing. `guards` is the number of columns before the pixels of a line. If it is None, the
+    preamble before the first line decides between HDMI and DVI."""
 
     guards: int | None
     rows: list[Row] = field(default_factory=list)
     data: bytearray = field(default_factory=bytearray)
     epoch: int = 0
     next: int = 0  # the next column, or UNTOLD
-    value: int = 0  # of the last control columns
+    value: int = 0  # the value of the last control columns
     last: str = ""  # the last line's name, or a fault's kind
     is_closing: bool = False  # whether the last line that is no fault closes an island
 
     def take(self, line: int, name: str, fields: list[str]) -> None:
-        """The next line."""
+        """Takes the next line."""
         match name:
             case "c":
                 self.run(line, fields)
@@ -140,8 +141,8 @@ class Parser:
         self.is_closing = self.is_closing if name == "!" else name == "e"
 
     def cover(self, kind: Kind, width: int, value: int, second: int = 0, size: int = 0) -> None:
-        """An event that stands for the next columns. The receiver reports a run and a line at the column after them, the others at their
-        last one."""
+        """Adds an event for the next columns. The receiver reports a run and a line at the column after them, all others at their last
+        column."""
         first = self.next
         if first != UNTOLD:
             self.next += width
@@ -149,13 +150,13 @@ class Parser:
         self.rows.append((kind, self.epoch, column, first, width, value, second, len(self.data) - size, size))
 
     def run(self, line: int, fields: list[str]) -> None:
-        """Control columns."""
+        """Takes control columns."""
         digits, count = fields_of(fields, 2, line)
         self.value = hexadecimal(digits, line)
         self.cover(Kind.RUN, number(count, line), self.value)
 
     def row(self, line: int, fields: list[str]) -> None:
-        """Pixels."""
+        """Takes pixels."""
         pixels = digits(fields_of(fields, 1, line)[0], 3, line)
         if self.guards is None:
             self.guards = GUARDS * (self.value & PREAMBLE == CONTROLS or self.last in ("preamble", "guard"))
@@ -163,7 +164,7 @@ class Parser:
         self.cover(Kind.LINE, len(pixels) // 3 + self.guards, len(pixels) // 3, size=len(pixels))
 
     def packet(self, line: int, fields: list[str]) -> None:
-        """A packet."""
+        """Takes a packet."""
         head, *bodies, syncs = fields_of(fields, 6, line)
         parts = [digits(part, size, line) for part, size in zip((head, *bodies), (HEADER, *(BODY,) * BODIES))]
         if len(syncs) != PACKET or set(syncs) - set("0123"):
@@ -172,14 +173,14 @@ class Parser:
         self.cover(Kind.PACKET, PACKET, parts[0][0], size=WHOLE)
 
     def guard(self, kind: Kind, line: int, fields: list[str]) -> None:
-        """The guards of an island."""
+        """Takes the guards of an island."""
         text = fields_of(fields, 1, line)[0]
         if len(text) != GUARDS:
             raise Refused(f"line {line}: `{text[:20]}` is not the two digits of guards. FORMATS.md lists the lines")
         self.cover(kind, GUARDS, *(hexadecimal(digit, line) for digit in text))
 
     def fault(self, line: int, fields: list[str]) -> None:
-        """A fault, or the end of an epoch."""
+        """Takes a fault, or the end of an epoch."""
         word, *texts = fields
         kind, numbers = OF_WORD.get(word), [number(text, line) for text in texts]
         if kind is None:
@@ -205,14 +206,14 @@ class Parser:
             self.next = UNTOLD
 
     def say_symbols(self, count: int) -> None:
-        """The last packet has so many wrong characters."""
+        """Sets the number of wrong characters of the last packet."""
         place = next((at for at in reversed(range(len(self.rows))) if self.rows[at][0] == Kind.PACKET), None)
         if place is not None:
             kind, epoch, column, first, width, value, _, offset, size = self.rows[place]
             self.rows[place] = (kind, epoch, column, first, width, value, count, offset, size)
 
     def events(self) -> Events:
-        """What was taken."""
+        """Returns all events."""
         table = np.ascontiguousarray(np.array(self.rows, np.int64).reshape(-1, FIELDS).T)
         kind, epoch, column, first, width, value, second, offset, size = table
         data = np.frombuffer(bytes(self.data), np.uint8)
@@ -220,7 +221,7 @@ class Parser:
 
 
 def hexadecimal(text: str, line: int) -> int:
-    """A field that is a hexadecimal number."""
+    """Reads a hexadecimal number."""
     try:
         return int(text, 16)
     except ValueError:
@@ -228,7 +229,7 @@ def hexadecimal(text: str, line: int) -> int:
 
 
 def parsed(source: Iterable[Line], is_dvi: bool | None = None) -> Events:
-    """The events of the lines of a link listing. Raises Refused if a line is wrong."""
+    """Returns the events of a link listing. Raises Refused if a line is wrong."""
     parser = Parser(None if is_dvi is None else GUARDS * (not is_dvi))
     for line in source:
         parser.take(*line)

@@ -1,4 +1,4 @@
-"""Packets out of the numbers of their fields, by the names that CTA-861 and HDMI 1.4 give these (`infoframes` reads them back)."""
+"""Makes packets from the values of their fields, with the names that CTA-861 and HDMI 1.4 use. `infoframes` reads them back."""
 
 from collections.abc import Mapping
 
@@ -9,7 +9,7 @@ from vabgrot.packets import STRICT, Packet
 
 
 def packet(kind: str, numbers: Mapping[str, int], text: str = "") -> Packet:
-    """The packet of a kind of LAYOUTS with these numbers, all others 0, and a text of ASCII where the kind has one."""
+    """Returns a packet of a kind in LAYOUTS with these values. All other fields are 0. `text` is ASCII, for kinds that have a text."""
     layout = LAYOUTS[kind]
     header, data = bytearray(layout.header), bytearray(SIZE)
     for name, number in {**layout.where, **layout.preset}.items():
@@ -33,20 +33,20 @@ def packet(kind: str, numbers: Mapping[str, int], text: str = "") -> Packet:
 
 
 def infoframe(kind: int, version: int, payload: bytes) -> Packet:
-    """The InfoFrame of a type and a version that has these bytes from PB1 on."""
+    """Returns the InfoFrame with this type, version, and bytes from PB1 on."""
     header = bytes((kind, version, len(payload)))
     data = bytes([-(sum(header) + sum(payload)) % 256]) + payload
     return Packet(header, bodies_of(data.ljust(SIZE, b"\0")))
 
 
 def bodies_of(data: bytes) -> list[bytes]:
-    """PB0 and those after it as the four bodies of a packet."""
+    """Returns the bytes from PB0 on as the four bodies of a packet."""
     return [bytes(data[at : at + BODY]) for at in range(0, BODY * BODIES, BODY)]
 
 
 def line(made: Packet) -> str:
-    """The line of a content listing for a packet: the one that `recover content` writes where that has a line of its own for it
-    without a loss, else `packet`."""
+    """Returns the line of a content listing for a packet. It is the one that `recover content` writes if that line has all the
+    information, otherwise `packet`."""
     if made.is_infoframe and (made.kind, made.version) not in STRICT:
         payload = made.bytes[1 : made.length + 1].hex()
         return f"info {made.kind:02x} {made.version:02x} {payload}".rstrip() + "\n"
@@ -54,7 +54,7 @@ def line(made: Packet) -> str:
 
 
 def parts(word: str) -> tuple[str, dict[str, int], str]:
-    """The kind, the numbers and the text of a word KIND:FIELD=NUMBER,.. in which a field may be `text`."""
+    """Splits KIND:FIELD=NUMBER,.. into kind, values and text. The field `text` gives the text."""
     kind, _, rest = word.partition(":")
     if kind not in OFFERED:
         raise Refused(f"there is no packet `{kind}`. Choose one of: {', '.join(OFFERED)}")

@@ -1,4 +1,4 @@
-"""Packets of data islands in words: what HDMI 1.4, CTA-861 and IEC 60958-3 call their fields."""
+"""Describes packets of data islands in words, with the field names of HDMI 1.4, CTA-861 and IEC 60958-3."""
 
 import builtins
 from collections.abc import Callable, Sequence
@@ -12,16 +12,16 @@ from vabgrot.formats.layouts import NAMES as NAMES
 from vabgrot.formats.modes import VICS
 from vabgrot.infoframes import Row
 
-STRICT = {it.header[:2]: it.header[2] for it in LAYOUTS.values() if it.is_strict}  # the lengths that `recover content` asks for
+STRICT = {it.header[:2]: it.header[2] for it in LAYOUTS.values() if it.is_strict}  # the lengths that `recover content` requires
 SAMPLE = LAYOUTS["samples"].fields
-PAIRS = BODIES  # of channels, which the four bodies of a packet of samples in layout 1 are of
+PAIRS = BODIES  # pairs of channels: in layout 1, each body of a packet has one
 SHORT = frozenset(
     "format,picture,aspect,range,channels,coding,vendor,product,kind of source,registered to,structure,curve".split(",")
 )
 
 
 class Packet(NamedTuple):
-    """A packet as a `p` line has it."""
+    """A packet as in a `p` line."""
 
     header: builtins.bytes
     bodies: list[builtins.bytes]
@@ -33,14 +33,14 @@ class Packet(NamedTuple):
 
     @property
     def name(self) -> str:
-        """What the type is called."""
+        """The name of the type."""
         if self.kind in NAMES:
             return NAMES[self.kind]
         return f"InfoFrame {self.kind:02x}" if self.is_infoframe else f"Packet {self.kind:02x}"
 
     @property
     def bytes(self) -> builtins.bytes:
-        """PB0 and those after it."""
+        """The bytes from PB0 on."""
         return b"".join(self.bodies)
 
     @property
@@ -55,22 +55,22 @@ class Packet(NamedTuple):
 
     @property
     def length(self) -> int:
-        """How many bytes behind PB0 an InfoFrame says that it has."""
+        """The number of bytes after PB0, as an InfoFrame gives it."""
         return LENGTH.of(self.header)
 
     @property
     def total(self) -> int:
-        """What the bytes of an InfoFrame sum to, modulo 256; 0 where they are right."""
+        """The sum of an InfoFrame's bytes modulo 256; 0 if it is right."""
         return sum(self.header) + sum(self.bytes[: self.length + 1]) & 255
 
     @property
     def numbers(self) -> dict[str, int]:
-        """The numbers of its fields; none where its type, its version or its length is not known."""
+        """The values of its fields. Empty if its type, its version or its length is not known."""
         layout = infoframes.layout_of(self.header, self.bytes)
         return infoframes.numbers_of(layout, self.header, self.bytes) if layout else {}
 
     def number(self, name: str) -> int:
-        """The number of a field. An InfoFrame of a version that is not known is read as one of the next lower version."""
+        """Returns the value of a field. An InfoFrame with an unknown version is read as the next lower known version."""
         form = infoframes.form_of(self.header)
         if form is None:
             raise KeyError(name)
@@ -78,8 +78,8 @@ class Packet(NamedTuple):
 
 
 class Sample(NamedTuple):
-    """A sample of two channels: three bytes a side, low byte first; V, U, C and P of each; whether a block starts; which
-    pair of channels it is of, 0 for channels 1 and 2."""
+    """A sample of two channels: three bytes a side, low byte first; V, U, C and P of each; whether a block starts; and the pair of
+    channels (0 is channels 1 and 2)."""
 
     left: bytes
     right: bytes
@@ -89,15 +89,15 @@ class Sample(NamedTuple):
     pair: int = 0
 
     def uneven(self) -> list[str]:
-        """The sides, l and r, whose parity is odd."""
+        """The sides (l, r) with odd parity."""
         sides = (("l", self.left, self.left_flags), ("r", self.right, self.right_flags))
         return [name for name, value, flags in sides if (int.from_bytes(value, "little").bit_count() + flags.bit_count()) % 2]
 
 
 @dataclass
 class Content:
-    """What a packet carries: in words, as the fields of its InfoFrame, as samples; and the fault lines of its
-    content. `pairs` are the samples of layout 1, one of each pair of channels that is present."""
+    """The content of a packet: in words, as fields of its InfoFrame, as samples, and as fault lines. `pairs` are the samples of layout 1,
+    one for each pair of channels that is present."""
 
     words: str
     rows: list[Row] = field(default_factory=list)
@@ -107,14 +107,14 @@ class Content:
 
 
 def packet_of(fields: Sequence[str], line: int) -> Packet:
-    """The packet of a `p` line's fields; with an empty last one, of a `packet` line's."""
+    """Returns a packet, given the fields of a `p` line. With an empty last field it accepts those of a `packet` line."""
     header, *bodies, _ = fields
     parts = [listing.digits(part, size, line) for part, size in zip((header, *bodies), (3, 7, 7, 7, 7))]
     return Packet(parts[0], parts[1:])
 
 
 def content_of(packet: Packet) -> Content:
-    """What a packet without a lost block carries."""
+    """Returns the content of a packet without a lost block."""
     if packet.is_infoframe:
         return infoframe(packet)
     reader = READERS.get(packet.kind)
@@ -122,7 +122,7 @@ def content_of(packet: Packet) -> Content:
 
 
 def clock(packet: Packet) -> Content:
-    """A clock regeneration packet."""
+    """Reads a clock regeneration packet."""
     if any(body != packet.bodies[0] for body in packet.bodies):
         return Content("its four copies are not alike", faults=["uneven"])
     rows = rows_of(packet)
@@ -130,17 +130,18 @@ def clock(packet: Packet) -> Content:
 
 
 def clock_numbers(packet: Packet) -> tuple[int, int]:
-    """N and CTS."""
+    """Returns N and CTS."""
     return packet.number("N"), packet.number("CTS")
 
 
 def bits_of(number: int) -> list[int]:
-    """Which of four bits are set, such as those of the bodies that are present."""
+    """Returns which of four bits are set, such as those for the bodies that are present."""
     return [place for place in range(BODIES) if number >> place & 1]
 
 
 def samples(packet: Packet) -> Content:
-    """A packet of samples: in layout 0 up to four of two channels, in layout 1 one of up to eight (HDMI 1.4, section 5.3.4)."""
+    """Reads a packet of samples. Layout 0 has up to four samples of two channels, layout 1 has one of up to eight (HDMI 1.4, section
+    5.3.4)."""
     present, flat = SAMPLE["sample_present"].of(packet.header), SAMPLE["sample_flat"].of(packet.header)
     found = samples_of(packet)
     behind = ", a block starts" * any(sample.start for sample in found)
@@ -155,50 +156,50 @@ def samples(packet: Packet) -> Content:
 
 
 def samples_of(packet: Packet) -> list[Sample]:
-    """The samples in the bodies of a packet of samples that are present."""
+    """Returns the samples in those bodies that are present."""
     present, starts, is_wide = (SAMPLE[name].of(packet.header) for name in ("sample_present", "B", "layout"))
     return [sample_of(packet.bodies[number], bool(starts >> number & 1), number * is_wide) for number in bits_of(present)]
 
 
 def sample_of(body: bytes, start: bool, pair: int) -> Sample:
-    """The sample in a body."""
+    """Returns the sample in a body."""
     left, right, left_flags, right_flags = (SAMPLE[name] for name in ("left", "right", "left VUCP", "right VUCP"))
     return Sample(body[left.byte : left.end], body[right.byte : right.end], left_flags.of(body), right_flags.of(body), start, pair)
 
 
 def one_bit(packet: Packet) -> Content:
-    """A packet of One Bit Audio samples (HDMI 1.4, section 5.3.9)."""
+    """Reads a packet of One Bit Audio samples (HDMI 1.4, section 5.3.9)."""
     present, layout, invalid = (packet.number(name) for name in ("samples_present", "layout", "samples_invalid"))
     words = f"One Bit Audio: {present.bit_count()} of four bodies, layout {layout}, {(present & invalid).bit_count()} not valid"
     return Content(words)
 
 
 def dst(packet: Packet) -> Content:
-    """A packet of DST audio (HDMI 1.4, section 5.3.10)."""
+    """Reads a packet of DST audio (HDMI 1.4, section 5.3.10)."""
     starts, invalid = packet.number("frame_start"), packet.number("samples_invalid")
     return Content(f"DST audio{', a frame starts' * starts}{', not valid' * invalid}")
 
 
 def high_rate(packet: Packet) -> Content:
-    """A packet of high bit rate audio (HDMI 1.4, section 5.3.11)."""
+    """Reads a packet of high bit rate audio (HDMI 1.4, section 5.3.11)."""
     return Content(f"high bit rate audio (IEC 61937), four frames{', a block starts' * bool(packet.number('B'))}")
 
 
 def described(packet: Packet) -> Content:
-    """A packet whose fields are rows."""
+    """Reads a packet that is described by rows."""
     rows = rows_of(packet)
     return Content(", ".join(f"{row.name} {row.value}" for row in rows[:3]), rows)
 
 
 def control(packet: Packet) -> Content:
-    """A general control packet."""
+    """Reads a General Control packet."""
     depth, rows = packet.number("CD"), rows_of(packet)
     mute = "leaves mute" if rows[0].value == "as it is" else rows[0].value
     return Content(f"{mute}, {rows[1].value}", rows, faults=[] if depth in (0, 4) else [f"depth {depth}"])
 
 
 def infoframe(packet: Packet) -> Content:
-    """An InfoFrame."""
+    """Reads an InfoFrame."""
     length, total = packet.length, packet.total
     if length != STRICT.get((packet.kind, packet.version), length) or length > MOST_LENGTH:
         return Content(f"a length of {length}, which is wrong", faults=["length"])
@@ -215,7 +216,7 @@ def infoframe(packet: Packet) -> Content:
 
 
 def rows_of(packet: Packet) -> list[Row]:
-    """The rows of a packet; of an InfoFrame whose length and sum are right. None where its fields are not known."""
+    """Returns the rows of a packet. It returns none if the fields are not known, or if an InfoFrame's length or checksum is wrong."""
     layout = infoframes.layout_of(packet.header, packet.bytes)
     return infoframes.rows_of(layout, packet.header, packet.bytes) if layout else []
 
@@ -228,7 +229,7 @@ READERS: dict[int, Callable[[Packet], Content]] = {
 
 
 def channel_status(bits: Sequence[int]) -> list[tuple[str, str]]:
-    """The 192 bits of a channel's status (IEC 60958-3), in words."""
+    """Describes the 192 bits of a channel status (IEC 60958-3) in words."""
 
     def number(first: int, count: int) -> int:
         return sum(bits[first + place] << place for place in range(count))
@@ -252,5 +253,5 @@ def channel_status(bits: Sequence[int]) -> list[tuple[str, str]]:
 
 
 def is_other_size(vic: int, width: int, height: int) -> bool:
-    """Whether a frame has another size than a known video identification code says."""
+    """Returns whether a frame's size differs from that of a known video identification code."""
     return vic in VICS and VICS[vic].mode.size != (width, height)

@@ -1,4 +1,4 @@
-"""Sound for the tools: WAV files as samples of 24 bits a side, and the channel status that goes with them."""
+"""Sound for the tools: WAV files as 24-bit samples of two sides, and their channel status."""
 
 import io
 from pathlib import Path
@@ -11,12 +11,12 @@ import soundfile
 from vabgrot.errors import Refused
 from vabgrot.formats.audio import BLOCK, RATES, WORD_LENGTHS
 
-WAVES = ("WAV", "WAVEX")  # the formats of libsndfile that are read
-USED_BITS = {"PCM_U8": 16, "PCM_16": 16, "PCM_24": 24, "PCM_32": 24}  # by its subtypes
+WAVES = ("WAV", "WAVEX")  # the formats of libsndfile that are accepted
+USED_BITS = {"PCM_U8": 16, "PCM_16": 16, "PCM_24": 24, "PCM_32": 24}  # bits of a sample, by subtype
 
 
 class Sound(NamedTuple):
-    """Samples of two sides, each of three bytes, high byte first; `bits` of the 24 are used."""
+    """Samples of two sides, three bytes each, high byte first. `bits` of the 24 are used."""
 
     rate: int
     bits: int
@@ -29,13 +29,13 @@ class Sound(NamedTuple):
 
 
 def side(values: npt.NDArray[np.int32]) -> bytes:
-    """The upper three bytes of each number, the highest first."""
+    """Returns the upper three bytes of each number, the highest first."""
     return values.astype(">i4").view(np.uint8).reshape(-1, 4)[:, :3].tobytes()
 
 
 def read(path: str | Path) -> Sound:
-    """The sound of a WAV file of one or two channels; short samples get zeros, and those of more than 24 bits are cut. Raises OSError
-    where it cannot be read, and Refused where it is none."""
+    """Reads a WAV file with one or two channels. Shorter samples are padded with zeros, longer ones are cut to 24 bits. Raises OSError if
+    it cannot be read, and Refused if it is not such a file."""
     with open(path, "rb") as source:
         try:
             with soundfile.SoundFile(source) as file:
@@ -53,7 +53,7 @@ def read(path: str | Path) -> Sound:
 
 
 def wav(sound: Sound) -> bytes:
-    """The bytes of a WAV file of two channels, with the sound's bits a sample."""
+    """Returns a WAV file with two channels and the sound's number of bits."""
     values = np.zeros((sound.samples, 2, 4), np.uint8)
     for channel, taken in enumerate((sound.left, sound.right)):
         values[:, channel, :3] = np.frombuffer(taken, np.uint8).reshape(-1, 3)
@@ -63,19 +63,19 @@ def wav(sound: Sound) -> bytes:
 
 
 def rate_of(n: int, cycles: int, clock: float) -> int:
-    """The sampling rate by a clock packet and the pixel clock (HDMI 1.4, section 7.2); one within 0.2 percent of a
-    usual rate is that rate."""
+    """Returns the sampling rate, given clock regeneration and the pixel clock (HDMI 1.4, section 7.2). If a usual rate is within 0.2
+    percent, it is returned."""
     rate = clock * n / (128 * cycles)
     return next((usual for usual in RATES if abs(rate - usual) <= usual / 500), round(rate))
 
 
 def rate_in(status: bytes) -> int | None:
-    """The sampling rate that the 24 bytes of a channel's status name, None where they name no usual one."""
+    """Returns the sampling rate in the 24 bytes of a channel status, or None if it is not a usual one."""
     return next((usual.hertz for usual in RATES.values() if usual.code == status[3] & 15), None)
 
 
 def channel_status(sound: Sound, channel: int) -> list[int]:
-    """The 192 bits of a channel's status (IEC 60958-3): consumer use, linear PCM, no copyright, the channel's number,
-    the rate, and the bits of a sample."""
+    """Returns the 192 bits of a channel status (IEC 60958-3): consumer use, linear PCM, no copyright, the channel's number, the rate, and
+    the bits of a sample."""
     status = 1 << 2 | channel << 20 | RATES[sound.rate].code << 24 | WORD_LENGTHS[sound.bits] << 32
     return [status >> place & 1 for place in range(BLOCK)]

@@ -1,7 +1,7 @@
-"""Where the package is: how commands and files are named there, and which version it is.
+"""Finds where the package is installed, how commands and files are called there, and its version.
 
-It can be in a checkout, below the prefix of `./vabgrot install`, where Debian's Python packages are, or in a wheel. A wheel has a prefix of
-its own within the package."""
+The package can be in a checkout, below the prefix of `./vabgrot install`, with Debian's Python packages, or in a wheel. A wheel contains
+a complete prefix inside the package."""
 
 import argparse
 import importlib.metadata
@@ -18,7 +18,7 @@ PLACES = (PACKAGE.parents[1], PACKAGE / "prefix/lib/vabgrot", PACKAGE.parents[2]
 
 
 def top_of(places: Sequence[Path]) -> Path:
-    """The top of a checkout, or PREFIX/lib/vabgrot: the first place that has their files."""
+    """Returns the top of a checkout, or PREFIX/lib/vabgrot: the first place with their files."""
     return next((it for it in places if (it / "build.py").is_file() or (it / "version").is_file()), places[0])
 
 
@@ -26,7 +26,7 @@ TOP = top_of(PLACES)
 PREFIX = TOP.parent.parent  # where it is installed
 IS_INSTALLED = not (TOP / "build.py").is_file()
 PROGRAM = TOP / "vabgrot" if IS_INSTALLED else TOP / "crates" / "hdmi_cli" / "out" / "hdmi_cli"
-FRONT = PREFIX / "bin" / "vabgrot" if IS_INSTALLED else TOP / "vabgrot"  # the script
+FRONT = PREFIX / "bin" / "vabgrot" if IS_INSTALLED else TOP / "vabgrot"  # the front script
 VERSION = TOP / "version"  # where it is installed
 DOCUMENTS = PREFIX / "share" / "doc" / "vabgrot"
 FILE = re.compile(r"(?<![\w./])(docs|examples)/(?=\w)")
@@ -34,8 +34,8 @@ TOOL = re.compile(rf"(?<![\w./])tools/(?=({'|'.join(tools.NAMES)})\b)")
 
 
 def named(text: str, has_files: bool = False) -> str:
-    """A text that names commands as in a checkout (`./vabgrot`, `tools/NAME`) with the names that they have where the tools
-    stand; and files of docs/ and examples/, where the text has no other file of such a name."""
+    """Replaces the names of commands in a checkout (`./vabgrot`, `tools/NAME`) by the installed ones. With `has_files` it does the same
+    for files in docs/ and examples/. Set this only if the text has no other files with such names."""
     if not IS_INSTALLED:
         return text
     if has_files:
@@ -44,16 +44,16 @@ def named(text: str, has_files: bool = False) -> str:
 
 
 def version() -> str:
-    """The version, and the kit that built the program, as a line. Raises OSError or subprocess.CalledProcessError."""
+    """Returns a line with the version and the kit that built the program. Raises OSError or subprocess.CalledProcessError."""
     if not IS_INSTALLED:
         return subprocess.run([FRONT, "--version"], capture_output=True, text=True, check=True).stdout
     if VERSION.is_file():
         return VERSION.read_text("utf-8")
-    return f"vabgrot {importlib.metadata.version('vabgrot')}\n"  # as Python's installers put it, without the program
+    return f"vabgrot {importlib.metadata.version('vabgrot')}\n"  # installed by a Python installer, without the program
 
 
 class Version(argparse._VersionAction):
-    """The word `--version` of each tool."""
+    """The option `--version` of each tool."""
 
     def __init__(self, option_strings: Sequence[str], dest: str) -> None:
         text = "print the version of Vabgrot and the kit that built its program, then exit"

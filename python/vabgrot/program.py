@@ -1,4 +1,4 @@
-"""The program for the tools: where it is, and what its notes say."""
+"""Finds the program for the tools, and reads its notes."""
 
 import os
 import shutil
@@ -7,7 +7,7 @@ from pathlib import Path
 from vabgrot import building, place
 from vabgrot.errors import Refused
 
-PIPE = 1 << 20  # bytes of a pipe: the program waits less often for its reader
+PIPE = 1 << 20  # bytes of a pipe; a larger pipe lets the program wait less often
 NO_CAPTURES = {
     "magic": place.named("not a capture: it does not begin with TMC. `tools/lanes pack` makes one from the raw bits of three lanes"),
     "version": "not a known capture: its fourth byte is {}, not 49 or 50 as in the versions 1 and 2. Make it again",
@@ -18,8 +18,8 @@ NO_CAPTURES = {
 
 
 def find(named: str | None = None) -> Path:
-    """The program: the one that is named, or that VABGROT_PROGRAM names; otherwise the one that was built or installed beside the tools,
-    or the one on the PATH. If there is none, a checkout builds it. Raises Refused if that fails."""
+    """Returns the path of the program: the one in `named` or in VABGROT_PROGRAM, the one that was built or installed with the tools, or
+    the one on the PATH. If there is none, a checkout builds it. Raises Refused if that fails."""
     named = named or os.environ.get("VABGROT_PROGRAM")
     path = Path(named or place.PROGRAM)
     if path.is_file() and os.access(path, os.X_OK):

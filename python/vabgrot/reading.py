@@ -1,6 +1,6 @@
-"""What a capture carried, epoch by epoch: the one function that reads a capture (`read`), and what it found (`Reading`).
+"""Reads a capture, epoch by epoch: the function `read`, and its result (`Reading`).
 
-An epoch is a stretch of the capture with one alignment. It ends where a lane loses bits (a slip), or where later guard bands refute the
+An epoch is a stretch of the capture with one alignment. It ends if a lane loses bits (a slip), or if later guard bands refute the
 alignment (a relock). Columns count from 0 in each epoch. Every tool gets the epochs with their cause, their place in bits and their
 alignment, so no statistic mixes two alignments."""
 
@@ -25,26 +25,26 @@ from vabgrot.lanes.columns import Columns, alignment_of
 from vabgrot.library import Grammar
 from vabgrot.receiving import Receiver
 
-ROOM, BYTES = 1 << 17, 1 << 22  # events and bytes of the receiver's room
-BLOCKS = 240  # of each lane that are read at a time: a multiple of 80 bytes
+ROOM, BYTES = 1 << 17, 1 << 22  # events and bytes that the receiver has room for
+BLOCKS = 240  # blocks of each lane that are read at a time: a multiple of 80 bytes
 SIZE = BLOCKS * capture.BLOCK
-IN_A_ROW = 3  # openings without a whole guard band, one after another, are rare unless the alignment is wrong
+IN_A_ROW = 3  # so many successive openings without a whole guard band are rare unless the alignment is wrong
 UNALIGNED = place.named("not aligned: `tools/lanes look` says what the lanes have")
 Octets = npt.NDArray[np.uint8]
 Piece = tuple[Octets, Octets, Octets, list[int]]
 
 
 class Taker(Protocol):
-    """Takes the events of a reading while the capture is read: the only way to get pixels."""
+    """Takes events while a capture is read. This is the only way to get pixels."""
 
     def take(self, events: Events) -> None:
-        """The next events."""
+        """Takes the next events."""
 
 
 @dataclass(frozen=True)
 class Bits:
-    """How many bits each lane has: as the header says (`told`), and as they are in the file (`read`). A capture that was stopped has
-    fewer; it is read to its last whole block."""
+    """The number of bits of each lane: in the header (`told`) and in the file (`read`). A capture that was stopped has fewer bits in the
+    file. It is read up to its last complete block."""
 
     told: tuple[int, ...]
     read: tuple[int, ...]
@@ -57,14 +57,14 @@ class Bits:
 
     @property
     def words(self) -> str:
-        """What of the capture is missing, in words; "" if it is whole."""
+        """What is missing of the capture, in words; "" if it is complete."""
         if not self.is_cut_off:
             return ""
         return f"the capture is cut off: {min(self.read):,} of {min(self.told):,} bits a lane are there, to the last whole block"
 
 
 def bits_of(path: Path) -> Bits:
-    """The bits of a capture's lanes. Raises Refused if the file is no capture, or if something follows its last bit."""
+    """Returns the bits of a capture's lanes. Raises Refused if the file is not a capture, or if data follow its last bit."""
     with open(path, "rb") as file:
         try:
             counts, start = capture.header_of(file.read(capture.HEADER))
@@ -85,7 +85,7 @@ def bits_of(path: Path) -> Bits:
 
 
 def pieces_of(file: BufferedReader, bits: Bits) -> Iterator[Piece]:
-    """The bytes and the bits of the three lanes of a capture, some blocks of each at a time."""
+    """Yields the bytes and the numbers of bits of the three lanes, some blocks at a time."""
     lengths, at = [(count + 7) // 8 for count in bits.read], 0
     file.seek(bits.start)
     block = np.empty((BLOCKS, 3, capture.BLOCK), np.uint8)
@@ -108,8 +108,10 @@ def pieces_of(file: BufferedReader, bits: Bits) -> Iterator[Piece]:
 
 @dataclass(frozen=True)
 class Epoch:
-    """A stretch with one alignment. `searched` is the bit of each lane from which the lanes were searched for it. `cause` is why: None
-    for the first, else Kind.SLIP (of `lane`) or Kind.RELOCKED. `before` counts the columns of all earlier epochs."""
+    """A stretch with one alignment.
+
+    `searched` is the bit of each lane at which the search for the alignment began. `cause` is the reason for a new epoch: None for the
+    first one, Kind.SLIP (of `lane`) or Kind.RELOCKED. `before` counts the columns of all earlier epochs."""
 
     number: int
     cause: Kind | None
@@ -134,8 +136,8 @@ class Epoch:
 
 @dataclass(frozen=True, eq=False)
 class Reading:
-    """What a capture carried. `events` has no pixels: a `Taker` gets these. `grammar` is how it was read, and `why` says why not in the
-    usual way ("" if it was). `aligned` is how many epochs were aligned."""
+    """The result of reading a capture. `events` has no pixels; a `Taker` gets these. `grammar` is how it was read, and `why` is the
+    reason if that is not the usual way ("" if it is). `aligned` is the number of aligned epochs."""
 
     path: Path
     grammar: Grammar
@@ -172,23 +174,23 @@ class Reading:
 
     @property
     def notes(self) -> list[str]:
-        """What every tool says first: slips and relocks by lane and place, a reading anew, and a capture that is cut off."""
+        """The first lines of every tool's output: slips and relocks by lane and place, a second reading, and a capture that is cut off."""
         return [it for it in (*(one.words for one in self.slips), self.why, self.bits.words) if it]
 
     @property
     def ends_at(self) -> int | None:
-        """The bit of each lane from which on nothing aligns, after a slip or a relock; None if something does."""
+        """The bit of each lane after which nothing aligns, following a slip or a relock. None if the last epoch is aligned."""
         last = self.epochs[-1]
         return last.searched if last.cause is not None and not last.columns else None
 
     @cached_property
     def before(self) -> Ints:
-        """For each event, the columns of the epochs before its own."""
+        """For each event, the columns of the epochs before its epoch."""
         return np.array([one.before for one in self.epochs], np.int64)[self.events.epoch]
 
     @cached_property
     def at(self) -> Ints:
-        """The first column of each event, counted over all epochs; of the end of an epoch, the column after its last."""
+        """The first column of each event, over all epochs. For the end of an epoch it is the column after its last one."""
         its = self.events
         ends = np.isin(its.kind, ENDS)
         behind = np.array([one.behind for one in self.epochs], np.int64)[its.epoch]
@@ -196,8 +198,10 @@ class Reading:
 
     @cached_property
     def tails(self) -> Ints:
-        """Columns that are not trusted, as rows of a first column and the column after the last, over all epochs: those of an epoch that a
-        slip or a relock ended, from its last opening with a whole guard band on. The bits were lost somewhere among them."""
+        """The columns that are not trusted: rows of a first column and the column after the last, over all epochs.
+
+        If a slip or a relock ended an epoch, these are its columns from its last opening with a whole guard band on. The bits were lost
+        somewhere there."""
         places, whole = openings_of(self.events)
         found = []
         for epoch in self.epochs[:-1]:
@@ -208,7 +212,7 @@ class Reading:
 
     @cached_property
     def gaps(self) -> Ints:
-        """Columns that no event covers, as rows of a first column and the column after the last, over all epochs."""
+        """The columns that no event covers: rows of a first column and the column after the last, over all epochs."""
         places = self.events.covering
         begins, ends = self.at[places], (self.at + self.events.width)[places]
         starts = np.array([one.before for one in self.epochs], np.int64)
@@ -219,8 +223,8 @@ class Reading:
         return np.column_stack([ends[wide], begins[wide]])
 
     def characters(self, epoch: Epoch) -> Columns | None:
-        """The characters of an epoch, column by column; None if it was not aligned. (The C library knows where column 0 begins and does
-        not say it; so it is searched again.)"""
+        """Returns the characters of an epoch, column by column, or None if it was not aligned. The C library does not report where column
+        0 begins, so the alignment is searched for again."""
         starts = alignment_of(self.path, epoch.searched, self.grammar == "relock")
         if starts is None:
             return None
@@ -230,13 +234,13 @@ class Reading:
         return found
 
     def refuse_unaligned(self) -> None:
-        """Raises Unaligned if nothing aligns, for a tool that has nothing to say then."""
+        """Raises Unaligned if nothing aligns. Call it in a tool that has nothing to say then."""
         if not self.is_aligned:
             raise Unaligned(f"{self.path}: {UNALIGNED}")
 
 
 def heard(path: Path, bits: Bits, grammar: Grammar, taker: Taker | None) -> tuple[Events, int]:
-    """One pass of the receiver over a capture: its events without pixels, and how many epochs were aligned."""
+    """Runs the receiver once over a capture. Returns its events without pixels, and the number of aligned epochs."""
     parts: list[Events] = []
 
     def give(events: Events) -> None:
@@ -255,8 +259,8 @@ def heard(path: Path, bits: Bits, grammar: Grammar, taker: Taker | None) -> tupl
 
 
 def read(path: Path, is_dvi: bool = False, taker: Callable[[Grammar], Taker] | None = None) -> Reading:
-    """Reads a capture. `taker` makes what takes the events and the pixels while it is read; it is called again if the capture has to be
-    read anew. Raises Refused if the file is no capture, NoLibrary if the C library is missing, and OSError."""
+    """Reads a capture. `taker` makes an object that takes the events with pixels. It is called again if the capture has to be read a
+    second time. Raises Refused if the file is not a capture, NoLibrary if the C library is missing, and OSError."""
     bits = bits_of(path)
     usual: Grammar = "dvi" if is_dvi else "track"
     events, aligned = heard(path, bits, usual, taker(usual) if taker else None)
@@ -273,7 +277,7 @@ def read(path: Path, is_dvi: bool = False, taker: Callable[[Grammar], Taker] | N
 
 
 def part_of(events: Events, grammar: Grammar) -> Reading:
-    """A reading of some events of a link that goes on: columns count from the first of them."""
+    """Returns a reading of some events of a live link. Columns count from the first of them."""
     base = int(events.first[0]) if len(events) and events.kind[0] not in ENDS else 0
     is_first = (events.epoch == events.epoch[:1].sum()) & ~np.isin(events.kind, ENDS)
     first, column = events.first - base * is_first, events.column - base * is_first
@@ -283,7 +287,7 @@ def part_of(events: Events, grammar: Grammar) -> Reading:
 
 
 def epochs_of(events: Events) -> tuple[Epoch, ...]:
-    """The epochs of some events, the first of which is of the epoch 0."""
+    """Returns the epochs of some events. The first event belongs to epoch 0."""
     ends = events.of(*ENDS)
     most = np.zeros(len(ends) + 1, np.int64)
     inside = np.flatnonzero(~np.isin(events.kind, ENDS))
@@ -298,7 +302,7 @@ def epochs_of(events: Events) -> tuple[Epoch, ...]:
 
 
 def openings_of(events: Events) -> tuple[Ints, Mask]:
-    """Where rows and islands open, or noise stands in their place; and which of these begin with a whole guard band."""
+    """Returns the places at which rows and islands open (or noise replaces them), and which of these begin with a whole guard band."""
     opened = events.of(Kind.LINE, Kind.OPEN)
     guards, noise = events.of(Kind.GUARD), events.of(Kind.NOISE)
     if not len(guards) and not len(noise):
@@ -308,7 +312,7 @@ def openings_of(events: Events) -> tuple[Ints, Mask]:
 
 
 def guarded(events: Events, guards: Ints) -> Ints:
-    """The rows and islands whose guards are damaged. A damaged guard is reported before its row, and after the opening of its island."""
+    """Returns the rows and islands with damaged guards. A damaged guard is reported before its row, but after the opening of its island."""
     regular = events.covering
     behind = np.searchsorted(regular, guards)
     rows, islands = regular[behind[behind < len(regular)]], regular[behind[behind > 0] - 1]
@@ -316,7 +320,7 @@ def guarded(events: Events, guards: Ints) -> Ints:
 
 
 def is_astray(events: Events) -> bool:
-    """Whether an alignment is likely wrong: the first opening has no whole guard band, or IN_A_ROW one after another have none."""
+    """Returns whether an alignment is probably wrong: the first opening has no whole guard band, or IN_A_ROW successive ones have none."""
     _, whole = openings_of(events)
     if not len(whole) or whole.all():
         return False

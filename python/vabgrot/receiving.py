@@ -1,4 +1,4 @@
-"""The receiver of the C library in Python: bits of three lanes in, in pieces of any size, and events out."""
+"""The receiver of the C library in Python. It takes the bits of three lanes in pieces of any size, and returns events."""
 
 import ctypes
 import threading
@@ -15,7 +15,7 @@ from vabgrot.errors import Refused
 from vabgrot.events import ENDS, GUARDS, RECORD, UNTOLD, End, Event, Events, Octets, joined, of_records
 from vabgrot.library import FULL, KINDS, MISUSE, NOMEM, OF_EPOCHS, OK, TOOBIG, Grammar, Misuse
 
-EVENTS, BYTES = 1 << 16, 1 << 20  # the room of a receiver
+EVENTS, BYTES = 1 << 16, 1 << 20  # events and bytes that a receiver has room for
 PIECE = 1 << 18  # bytes of a lane that `receive` feeds at a time
 
 Lane = Any  # bytes, a memoryview or an array of bytes: any buffer of them
@@ -23,7 +23,7 @@ Empty = np.zeros(1, np.uint8)
 
 
 def octets(lane: Lane) -> Octets:
-    """The bytes of a lane as an array. Raises TypeError where it is no buffer of bytes."""
+    """Returns the bytes of a lane as an array. Raises TypeError if this is not a buffer of bytes."""
     given: Any = np.ascontiguousarray(lane) if isinstance(lane, np.ndarray) else lane
     view = memoryview(given)
     if view.format not in ("B", "b", "c"):
@@ -32,7 +32,7 @@ def octets(lane: Lane) -> Octets:
 
 
 def bits_of(lanes: Sequence[Octets], bits: Sequence[int] | None) -> list[int]:
-    """How many bits of each lane are meant: so many, or all. Raises Misuse where its bytes have not so many."""
+    """Returns how many bits of each lane to use: `bits`, or all. Raises Misuse if the lane has fewer."""
     counts = [8 * len(lane) for lane in lanes] if bits is None else list(bits)
     if len(counts) != 3:
         raise Misuse(f"there are {len(counts)} counts of bits, and three lanes")
@@ -43,21 +43,29 @@ def bits_of(lanes: Sequence[Octets], bits: Sequence[int] | None) -> list[int]:
 
 
 class Receiver:
-    """A receiver of a link, or of one without guard bands and preambles (`kind="dvi"`). It is fed the raw bits of three lanes, of any
-    offset and up to 70 bits of skew between them, the first bit of a byte lowest; what each call answers is proved to be the events of
-    all bits that were fed (docs/proof/PROVED.md). With `kind="track"` the lanes may lose bits, and are searched anew where one did, which
-    is a Kind.SLIP. With `kind="relock"` they are also searched anew where their alignment is dropped, which is a Kind.RELOCKED. Calls of
-    several threads wait for one another. Raises ValueError if there is no such kind or too little room, NoLibrary if the C library is
-    missing or has no such kind, MemoryError, and Misuse if a call does not fit the calls before it: then it did nothing.
+    """Turns the raw bits of three lanes into events.
+
+    The lanes may start at any bit and be up to 70 bits apart. Within a byte, the first bit is the lowest.
+
+        kind="link"     HDMI, with guard bands and preambles (default)
+        kind="dvi"      DVI, without them
+        kind="track"    like "link"; if a lane loses bits, Kind.SLIP is reported and the lanes are aligned again
+        kind="relock"   like "track"; a wrong alignment is dropped too, which is reported as Kind.RELOCKED
+
+    The events are proved to depend only on the bits, not on how they are cut into calls (docs/proof/PROVED.md). Several threads may call
+    one receiver; the calls wait for each other.
+
+    Raises ValueError (unknown kind, or too little room), NoLibrary (no C library, or it lacks the kind), MemoryError, and Misuse (a call
+    does not fit the calls before it, and has done nothing).
 
         with Receiver() as receiver:
             for event in receiver.feed(blue, green, red):
                 print(event)
-            rest, end = receiver.finish()
-    """
+            rest, end = receiver.finish()"""
 
     def __init__(self, kind: Grammar = "link", events: int = EVENTS, size: int = BYTES) -> None:
-        """Of a kind, with room for so many events and so many of their bytes, which its calls fill as often as they must."""
+        """Makes a receiver of a kind. `events` and `size` are the numbers of events and bytes that it has room for at a time. They do not
+        limit the result of a call."""
         if kind not in KINDS:
             raise ValueError(f"there is no receiver of the kind {kind!r}, but of {', '.join(KINDS)}")
         fewest, least = library.least_room(kind)
@@ -79,18 +87,21 @@ class Receiver:
         self.close()
 
     def feed(self, blue: Lane, green: Lane, red: Lane, bits: Sequence[int] | None = None) -> Events:
-        """Takes bits of each lane, all of its bytes or as many as `bits` says of it, and answers the events that they decide. A lane
-        whose bits are no whole bytes, or are fewer than another lane's, has ended with them."""
+        """Takes bits of each lane: all of its bytes, or `bits` of them. Returns the events that they decide.
+
+        A lane ends if its bits are not whole bytes, or if they are fewer than another lane's."""
         with self._lock:
             return joined([replace(it, data=it.data.copy()) for it in self._fed(blue, green, red, bits)])
 
     def feed_views(self, blue: Lane, green: Lane, red: Lane, bits: Sequence[int] | None = None) -> Iterator[Events]:
-        """The same without a copy of the bytes of rows and packets, each time that the receiver's own room is full. Read each before you
-        ask for the next one, and ask for all of them before another call. No other thread may call the receiver meanwhile."""
+        """Does the same as `feed` without copying the bytes of rows and packets. It yields each time that the receiver's room is full.
+
+        Read each result before you ask for the next one, and take all of them before another call. No other thread may call the receiver
+        meanwhile."""
         yield from self._fed(blue, green, red, bits)
 
     def finish(self) -> tuple[Events, End]:
-        """Ends the lanes: the events that are left, and the End. The receiver then takes no bits until `restart`."""
+        """Ends the lanes. Returns the remaining events and the End. The receiver takes no more bits until `restart`."""
         with self._lock:
             self._check(self._calls.vabgrot_finish(byref(self._handle), *self._room))
             rest, answer = self._written(), self._answer
@@ -98,25 +109,25 @@ class Receiver:
             return replace(rest, data=rest.data.copy()), end
 
     def restart(self) -> None:
-        """Makes an open receiver as it was at first, of its kind."""
+        """Resets the receiver to its initial state."""
         with self._lock:
             self._check(self._calls.vabgrot_restart(byref(self._handle)))
             self._epoch = 0
 
     def close(self) -> None:
-        """Gives its memory back. What is called then raises Misuse, but for a further `close`."""
+        """Frees the memory. Later calls raise Misuse, except another `close`."""
         with self._lock:
             self._end()
 
     def _open(self, kind: Grammar) -> None:
-        """Takes the memory of a receiver of a kind."""
+        """Allocates the memory of a receiver."""
         status = self._calls.vabgrot_open(byref(self._handle), KINDS[kind])
         if status == MISUSE:
             raise library.NoLibrary(f"the C library has no receiver of the kind {kind!r}: it is of another version")
         self._check(status)
 
     def _fed(self, blue: Lane, green: Lane, red: Lane, bits: Sequence[int] | None) -> Iterator[Events]:
-        """What is written of bits, each time that there was no room for all."""
+        """Feeds bits. Yields the events each time that the room is full, and at the end."""
         lanes, status = [octets(lane) for lane in (blue, green, red)], FULL
         left = bits_of(lanes, bits)
         places = [lane.ctypes.data if len(lane) else Empty.ctypes.data for lane in lanes]
@@ -131,14 +142,14 @@ class Receiver:
             yield self._written()
 
     def _written(self) -> Events:
-        """What the last call wrote, with its bytes where they stand."""
+        """Returns the events of the last call. Their bytes are not copied."""
         records, data = self._records[: self._answer.events], self._bytes[: self._answer.bytes]
         found = of_records(records, data, self._epoch, self._guards)
         self._epoch += len(found.of(*ENDS))
         return found
 
     def _check(self, status: int) -> None:
-        """Raises what a status says."""
+        """Raises the error for a status."""
         if status == MISUSE:
             raise Misuse("the receiver is closed or was finished, or a lane that had ended was given bits")
         if status == TOOBIG:
@@ -155,7 +166,7 @@ def close(calls: ctypes.CDLL, handle: library.Handle) -> None:
 
 
 def pieces(blue: Lane, green: Lane, red: Lane, bits: Sequence[int] | None = None) -> Iterator[tuple[Octets, Octets, Octets, list[int]]]:
-    """Bits of three lanes in pieces that a receiver can be fed one after another: the bytes, and how many bits of each."""
+    """Yields the bits of three lanes in pieces for `feed`: the bytes, and the number of bits of each."""
     lanes = [octets(lane) for lane in (blue, green, red)]
     counts = bits_of(lanes, bits)
     for at in range(0, (max(counts) + 7) // 8, PIECE):
@@ -164,8 +175,8 @@ def pieces(blue: Lane, green: Lane, red: Lane, bits: Sequence[int] | None = None
 
 
 def receive(blue: Lane, green: Lane, red: Lane, bits: Sequence[int] | None = None, kind: Grammar = "link") -> Iterator[Event | End]:
-    """The events of the bits of three lanes, one after another, all of their bytes or as many as `bits` says of each; the last is the
-    End. `kind` is that of the Receiver: "link", "dvi", "track" or "relock"; and it raises as that does."""
+    """Yields the events in the bits of three lanes, and at last the End. It uses all bytes, or `bits` of each lane. `kind` and the errors
+    are those of Receiver."""
     with Receiver(kind) as receiver:
         for piece in pieces(blue, green, red, bits):
             yield from receiver.feed(*piece)

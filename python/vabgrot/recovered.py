@@ -1,4 +1,4 @@
-"""What a whole capture carries: its frames, packets, samples and faults as arrays."""
+"""The contents of a complete capture as arrays: frames, packets, samples and faults."""
 
 from __future__ import annotations
 
@@ -21,32 +21,31 @@ SAMPLE = np.dtype(
     [("column", "<i8"), ("left", "<i4"), ("right", "<i4"), ("left_flags", "u1"), ("right_flags", "u1"), ("start", "?"), ("pair", "u1")]
 )
 FIELDS = LAYOUTS["samples"].fields
-FULL = 1 << FIELDS["left"].bits - 1  # of full scale
-NONE = -1  # of a fault: it has no such number
+FULL = 1 << FIELDS["left"].bits - 1  # full scale of a sample
+NONE = -1  # a fault has no such number
 
 
 @dataclass(frozen=True, eq=False)
 class Recovered:
-    """What a capture carries: its events with their bytes, and the end of its lanes. What is made of them is made when it is first asked
-    for."""
+    """The contents of a capture: its events with their bytes, and the end of its lanes. The other properties are computed on first use."""
 
     events: Events
     end: End
 
     @property
     def aligned(self) -> bool:
-        """Whether its lanes were aligned."""
+        """Whether the lanes were aligned."""
         return self.end.aligned
 
     @property
     def columns(self) -> int:
-        """How many columns there were."""
+        """The number of columns."""
         return self.end.columns
 
     @cached_property
     def frames(self) -> list[Octets]:
-        """The whole frames: the lines between two changes of VSYNC, an array of rows by columns by three (red, green, blue as bytes)
-        each. As wide as its first row is; rows that are shorter end in black."""
+        """The whole frames, from one change of VSYNC to the next. Each is an array of the shape (rows, columns, 3): red, green and blue
+        as bytes. It is as wide as its first row. Shorter rows are padded with black."""
         flow = Flow()
         found = [it for it in (*flow.take(self.events), *flow.finish()) if isinstance(it, Frame)]
         return [picture_of(it.rows) for it in found if it.is_whole]
@@ -58,13 +57,14 @@ class Recovered:
 
     @cached_property
     def whole(self) -> Packets:
-        """The same as arrays."""
+        """The packets without a lost block, as arrays."""
         return packets_of(self.events).known
 
     @cached_property
     def samples(self) -> npt.NDArray[np.void]:
-        """The samples of these packets of L-PCM: the first column of the packet, the values of both sides (24 bits with a sign), V, U,
-        C and P of each in bits 0 to 3, whether a block starts, and of which pair of channels (0 is channels 1 and 2)."""
+        """The samples of the packets of L-PCM without a lost block. Each has the first column of its packet, the values of both sides
+        (signed, 24 bits), V, U, C and P of each in bits 0 to 3, whether a block starts, and the pair of channels (0 is channels 1 and 2).
+        """
         its = self.whole.of(Type.SAMPLES)
         which, body = np.nonzero(FIELDS["sample_present"].flags(its.octets))
         bodies = its.octets[:, HEADER:CARRIED].reshape(-1, BODIES, BODY)[which, body]
@@ -80,8 +80,8 @@ class Recovered:
 
     @cached_property
     def faults(self) -> npt.NDArray[np.void]:
-        """The faults: the column at which each is reported, the one that it names (`at`), its kind as listings have it, and its lane,
-        block, bit and count, -1 if the kind has none."""
+        """The faults. Each has the column at which it is reported, the column that it names (`at`), its kind as in listings, and its
+        lane, block, bit and count (-1 if the kind has none)."""
         its = self.events[self.events.faults]
         its = its[~np.isin(its.kind, ENDS)]
         found = np.empty(len(its), FAULT)
@@ -99,8 +99,8 @@ class Recovered:
 
 
 def recover(source: str | os.PathLike[str] | bytes) -> Recovered:
-    """What a capture carries: a file or its bytes, of either version (docs/guide/FORMATS.md). Raises Refused if it is no capture,
-    NoLibrary if the C library is missing, or OSError."""
+    """Reads a capture: a file or its bytes, of either version (docs/guide/FORMATS.md). Raises Refused if it is not a capture, NoLibrary
+    if the C library is missing, or OSError."""
     data = source if isinstance(source, bytes) else Path(source).read_bytes()
     (blue, green, red), counts = capture.lanes_of(data)
     with Receiver() as receiver:

@@ -1,4 +1,4 @@
-"""Files that are written whole or not at all."""
+"""Writes files completely or not at all."""
 
 import contextlib
 import errno
@@ -14,7 +14,7 @@ NUMBERS = itertools.count()
 
 @contextlib.contextmanager
 def naming(path: str | Path, *known: str | Path) -> Iterator[None]:
-    """Has the system's errors that name no file, as that of a full disk, or one of these name `path`."""
+    """Makes system errors name `path` if they name no file (for example "disk full") or one of the files `known`."""
     try:
         yield
     except OSError as why:
@@ -25,9 +25,10 @@ def naming(path: str | Path, *known: str | Path) -> Iterator[None]:
 
 @contextlib.contextmanager
 def replacing(path: str | Path, mode: str = "wb", **words: Any) -> Iterator[IO[Any]]:
-    """Opens a file that takes the place of `path` once all of it is written; `words` are those of `open`. Where it
-    cannot be written `path` stays as it was, nothing is left beside it, and the error names `path`. A device or a pipe
-    is written as it is."""
+    """Opens a file for writing, and replaces `path` with it at the end.
+
+    If anything fails, `path` is unchanged, no temporary file is left, and the error names `path`. Devices and pipes are written directly.
+    `words` are passed to `open`."""
     if os.path.exists(path) and not os.path.isfile(path):
         with naming(path), open(path, mode, **words) as file:
             yield file

@@ -1,4 +1,4 @@
-"""The capture of a listing in memory, by one call of the C library or by the program."""
+"""Makes a capture from a listing in memory, with one call of the C library or with the program."""
 
 from __future__ import annotations
 
@@ -14,16 +14,16 @@ from vabgrot import library, program
 from vabgrot.errors import Refused
 
 Maker = Literal["link", "dvi", "content"]
-KINDS: dict[Maker, int] = {"link": 0, "dvi": 1, "content": 2}  # of vabgrot_make
-NOLISTING, REFUSED = 8, 3  # the statuses of the library and of the program for a listing that is refused
+KINDS: dict[Maker, int] = {"link": 0, "dvi": 1, "content": 2}  # the kinds of vabgrot_make
+NOLISTING, REFUSED = 8, 3  # statuses of the library and of the program for a refused listing
 MOST, MOST_SKEW = 0xFFFFFFFF, 4095
-FIRST_ROOM = 8  # bytes of a capture for each of a listing, at first: pixels take some 0.6
+FIRST_ROOM = 8  # the first guess for the size of a capture, relative to the listing; pixels need about 0.6
 WRONG_LINE = re.compile(r"line (\d+) (\w+)")
 
 
 class BadListing(Refused, ValueError):
-    """A listing that is refused: its first wrong `line`, counted from 1, and the `cause`. Of a content that does not fit its mode
-    `line` is None, and the cause has numbers, as in `noroom 0 3` (docs/guide/FORMATS.md)."""
+    """A listing was refused. `line` is the first wrong line, counted from 1, and `cause` is the reason. If a content does not fit its
+    mode, `line` is None and the cause has numbers, for example `noroom 0 3` (docs/guide/FORMATS.md)."""
 
     def __init__(self, note: str) -> None:
         super().__init__(note)
@@ -33,7 +33,7 @@ class BadListing(Refused, ValueError):
 
 
 class Tap(NamedTuple):
-    """Which bits of the lanes a capture has, as the options of the program's `make` say it."""
+    """Which bits of the lanes a capture contains, as in the options of `make`."""
 
     version: int = 1
     offset: int = 0
@@ -41,7 +41,7 @@ class Tap(NamedTuple):
     bits: int | None = None
 
     def checked(self) -> Tap:
-        """The same. Raises ValueError where the command line takes no such options."""
+        """Returns the tap. Raises ValueError if the command line does not accept these options."""
         if self.version not in (1, 2):
             raise ValueError(f"the version is 1 or 2, and {self.version} is neither")
         if len(self.skew) != 3 or not all(0 <= it <= MOST_SKEW for it in self.skew):
@@ -52,26 +52,26 @@ class Tap(NamedTuple):
         return self
 
     def words(self) -> list[str]:
-        """The options."""
+        """Returns the options."""
         words = ["--version", str(self.version), "--offset", str(self.offset), "--skew", ",".join(map(str, self.skew))]
         return words if self.bits is None else [*words, "--bits", str(self.bits)]
 
 
 class Skews(Structure):
-    """How many bits later each lane begins."""
+    """By how many bits each lane begins later."""
 
     _fields_ = (("blue", c_uint32), ("green", c_uint32), ("red", c_uint32))
 
 
 class LentTap(Structure):
-    """A tap, as the library takes it."""
+    """A tap in the form of the library."""
 
     _fields_ = (("version", c_uint32), ("offset", c_uint32), ("skews", Skews), ("limited", c_uint32), ("bits", c_uint32))
 
 
 @functools.cache
 def calls() -> ctypes.CDLL:
-    """The library with the types of its call that makes captures. Raises NoLibrary."""
+    """Returns the library with the types of its call for captures. Raises NoLibrary."""
     path = library.find()
     found = library.loaded(path)
     try:
@@ -83,7 +83,7 @@ def calls() -> ctypes.CDLL:
 
 
 def by_library(text: bytes, kind: Maker, tap: Tap, room: int) -> tuple[int, int, bytes]:
-    """The library's status, the size of the capture, or of the note, and as much of it as there is room for."""
+    """Returns the library's status, the size of the capture or of the note, and the bytes that fit `room`."""
     capture, size = ctypes.create_string_buffer(max(1, room)), c_size_t()
     lent = LentTap(tap.version, tap.offset, Skews(*tap.skew), tap.bits is not None, tap.bits or 0)
     status: int = calls().vabgrot_make(KINDS[kind], byref(lent), text, len(text), capture, room, byref(size))
@@ -91,12 +91,12 @@ def by_library(text: bytes, kind: Maker, tap: Tap, room: int) -> tuple[int, int,
 
 
 def refusal(note: bytes) -> BadListing:
-    """The refusal that a note of the program says."""
+    """Reads a note of the program as an error."""
     return BadListing(note.decode().strip().removeprefix("input: "))
 
 
 def by_program(text: bytes, kind: Maker, tap: Tap) -> bytes:
-    """The capture, by the program."""
+    """Returns the capture, made by the program."""
     words = ["make", kind, *tap.words()]
     run = subprocess.run([program.find(), *words], input=text, capture_output=True, check=False)
     if run.returncode == REFUSED:
@@ -115,8 +115,10 @@ def make(
     bits: int | None = None,
     kind: Maker = "link",
 ) -> bytes:
-    """The capture that `make link`, `dvi` or `content` makes of a listing, with the options of these names: by the C library, in this
-    thread, or by the program where there is none. Raises BadListing, ValueError where there are no such options, or MemoryError."""
+    """Returns the capture that `make link`, `make dvi` or `make content` makes of a listing. The options have the same names.
+
+    Uses the C library in this thread, or the program if there is no library. Raises BadListing, ValueError if the options are not
+    allowed, or MemoryError."""
     if kind not in KINDS:
         raise ValueError(f"there are listings of {', '.join(KINDS)}, and none of {kind!r}")
     data, tap = text.encode() if isinstance(text, str) else text, Tap(version, offset, skew, bits).checked()

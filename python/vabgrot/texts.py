@@ -1,4 +1,4 @@
-"""What the program lists of a whole capture in memory, by one call of the C library or by the program."""
+"""Makes the listing of a complete capture in memory, with one call of the C library or with the program."""
 
 from __future__ import annotations
 
@@ -14,14 +14,14 @@ from vabgrot import library, program
 from vabgrot.errors import Refused
 from vabgrot.library import KINDS, Grammar
 
-Reader = Grammar | Literal["check"]  # the faults alone are vabgrot_check's
-STATUSES = {0: 0, 5: 1, 6: 3, 7: 7}  # of the program, by those of the library
-FIRST_ROOM = 4  # bytes of a listing for each of a capture, at first: pixels take some 1.6
+Reader = Grammar | Literal["check"]  # "check" lists only faults, with vabgrot_check
+STATUSES = {0: 0, 5: 1, 6: 3, 7: 7}  # the program's statuses by the library's
+FIRST_ROOM = 4  # the first guess for the size of a listing, relative to the capture; pixels need about 1.6
 WORDS = ctypes.c_char_p, c_size_t, c_char_p, c_size_t, POINTER(c_size_t)
 
 
 class Text(NamedTuple):
-    """A listing, and the status with which the program ends: 0 done, 1 done with faults, 3 no capture, 7 not aligned."""
+    """A listing, and the exit status of the program: 0 done, 1 done with faults, 3 no capture, 7 not aligned."""
 
     status: int
     text: bytes
@@ -29,7 +29,7 @@ class Text(NamedTuple):
 
 @functools.cache
 def calls() -> ctypes.CDLL:
-    """The library with the types of its calls on whole captures. Raises NoLibrary."""
+    """Returns the library with the types of its calls for whole captures. Raises NoLibrary."""
     path = library.find()
     found = library.loaded(path)
     try:
@@ -41,7 +41,7 @@ def calls() -> ctypes.CDLL:
 
 
 def by_library(data: bytes, reader: Reader, room: int) -> tuple[int, int, bytes]:
-    """The library's status, the size of the listing, and as much of it as there is room for."""
+    """Returns the library's status, the size of the listing, and the bytes that fit `room`."""
     listing, size = ctypes.create_string_buffer(max(1, room)), c_size_t()
     words = (data, len(data), listing, room, byref(size))
     if reader == "check":
@@ -52,7 +52,7 @@ def by_library(data: bytes, reader: Reader, room: int) -> tuple[int, int, bytes]
 
 
 def by_program(data: bytes, reader: Reader) -> Text:
-    """The same by the program."""
+    """Returns the listing, made by the program."""
     words = ["check"] if reader == "check" else ["recover", reader]
     run = subprocess.run([program.find(), *words], input=data, capture_output=True, check=False)
     if run.returncode not in STATUSES.values():
@@ -61,8 +61,10 @@ def by_program(data: bytes, reader: Reader) -> Text:
 
 
 def text_of(source: str | os.PathLike[str] | bytes, reader: Reader = "link") -> Text:
-    """What `recover link`, `dvi`, `track` or `relock` writes of a capture, a file or its bytes, or `check`: by the C library, in this
-    thread, or by the program where there is none. The listing is held in memory as a whole. Raises OSError, or MemoryError."""
+    """Returns what `recover link`, `dvi`, `track` or `relock`, or `check`, writes for a capture (a file or its bytes).
+
+    Uses the C library in this thread, or the program if there is no library. The complete listing is kept in memory. Raises OSError or
+    MemoryError."""
     data = source if isinstance(source, bytes) else Path(source).read_bytes()
     try:
         status, size, text = by_library(data, reader, FIRST_ROOM * len(data) + 64)

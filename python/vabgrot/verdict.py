@@ -41,8 +41,8 @@ from vabgrot.video.raster import depths_of, meter_of
 from vabgrot.video.timings import DEPTH
 
 READ_AVI = LAYOUTS["avi"].header[1]  # the version of AVI InfoFrames that `recover content` reads
-MOST_WORDS = 100  # letters of a cause in the headline
-FIRST = ("format", "AVI InfoFrame", "AVI format")  # of broken rules, those that say most about a source
+MOST_WORDS = 100  # the most letters of a cause in the headline
+FIRST = ("format", "AVI InfoFrame", "AVI format")  # broken rules that say most about a source come first
 STRUCTURE = frozenset(("opening", "preamble", "guard band", "whole periods", "video coding", "control characters", "packet parity"))
 
 
@@ -59,17 +59,17 @@ class Word(enum.StrEnum):
 
 @dataclass(frozen=True)
 class Link:
-    """What is said of the link: faults by kind and lane (None if a kind has none), what every tool says first (`notes`), and whether
-    the source explains all faults (`is_source`: rules say what it does wrong)."""
+    """The state of the link: faults by kind and lane (None if a kind has none), the first lines of every tool's output (`notes`), and
+    whether the source explains all faults (`is_source`; the rules then say what it does wrong)."""
 
     is_aligned: bool
     counts: Counter[tuple[str, int | None]]
-    notes: tuple[str, ...]  # slips and relocks, and a reading anew
+    notes: tuple[str, ...]  # slips, relocks, and a second reading
     is_source: bool
 
     @property
     def faults(self) -> int:
-        """How many there are."""
+        """The number of faults."""
         return self.counts.total()
 
     @property
@@ -79,7 +79,7 @@ class Link:
 
     @property
     def kinds(self) -> Counter[str]:
-        """How many there are of each kind."""
+        """The number of faults of each kind."""
         kinds: Counter[str] = Counter()
         for (kind, _), times in self.counts.items():
             kinds[kind] += times
@@ -87,7 +87,7 @@ class Link:
 
     @property
     def words(self) -> str:
-        """In words, slips first."""
+        """The faults in words, slips first."""
         if not self.is_aligned:
             return "the three lanes have no place at which a control period ends on all of them"
         more = f" (and {len(self.notes) - 1:,} more)" if len(self.notes) > 1 else ""
@@ -97,8 +97,8 @@ class Link:
 
 @dataclass(frozen=True)
 class Coverage:
-    """How much was judged: the columns, those of them that nothing is known of, the rules by state, whether the file was cut off, and the
-    bit of each lane from which on nothing aligns (None if something does)."""
+    """How much was judged: the number of columns, of unknown columns, and of rules by state; whether the file was cut off; and the bit of
+    each lane after which nothing aligns (None if the last epoch is aligned)."""
 
     columns: int
     unread: int
@@ -122,7 +122,7 @@ class Coverage:
 
 @dataclass(frozen=True, eq=False)
 class Verdict:
-    """All that is said of a capture."""
+    """The complete verdict on a capture."""
 
     content: Content
     link: Link
@@ -138,12 +138,12 @@ class Verdict:
 
     @property
     def timings(self) -> list[Timing]:
-        """What is said of each raster."""
+        """The result for each raster."""
         return self.case.timings
 
     @cached_property
     def broken(self) -> list[Ruling]:
-        """The rules that the source breaks, the most telling first."""
+        """The rules that the source breaks. Those that say most come first."""
         found = [one for one in self.rules if one.state == FAIL]
         return sorted(found, key=lambda one: (one.rule.name not in STRUCTURE, one.rule.name not in FIRST))
 
@@ -154,19 +154,19 @@ class Verdict:
 
     @property
     def wrong_contents(self) -> dict[str, int]:
-        """The contents that are wrong, by kind; not what `recover content` merely does not read."""
+        """The number of wrong contents by kind, without those that only `recover content` cannot read."""
         return {kind: times for kind, times in self.contents.items() if times and not CONTENT[kind].is_limit}
 
     @property
     def timing_faults(self) -> list[str]:
-        """What of the timing is wrong, in words."""
+        """The errors of the timing in words."""
         change = change_note(self.timings)
         notes = [change] if change else []
         return [note.text for note in notes + [note for one in self.timings for note in (one.head, *one.notes)] if note.is_fault]
 
     @property
     def word(self) -> Word:
-        """The worst that is to be said."""
+        """The worst word that applies."""
         if not self.link.is_aligned:
             return Word.UNALIGNED
         if self.encryption:
@@ -179,12 +179,12 @@ class Verdict:
 
     @property
     def has_contents(self) -> bool:
-        """Whether a row or a packet came."""
+        """Whether there is a row or a packet."""
         return bool(len(self.reading.events.of(Kind.LINE, Kind.PACKET)))
 
     @property
     def is_faulty(self) -> bool:
-        """Whether a tool ends with status 1."""
+        """Whether a tool exits with status 1."""
         return self.word != Word.CLEAN
 
     @cached_property
@@ -207,7 +207,7 @@ class Verdict:
         return "; ".join(says) + (f" ({self.coverage.words})" if self.coverage.words else "")
 
     def cause(self, one: Ruling) -> str:
-        """A broken rule in a few words."""
+        """Describes a broken rule in a few words."""
         if one.rule.name in ("format", "AVI format") and self.timings and self.timings[0].matched.wanted:
             matched = self.timings[0].matched
             first = next((it for it in matched.differences if one.rule.name == "format" or str(it) in one.words), None)
@@ -228,17 +228,17 @@ class Verdict:
 
     @property
     def total(self) -> str:
-        """How many rules are in which state, in words."""
+        """The number of rules in each state, in words."""
         return total_of(self.rules)
 
     def causes(self) -> list[str]:
-        """What makes faults alike, in words: by the first epoch, since all epochs have the same source."""
+        """The common causes of faults in words. They come from the first epoch, because all epochs have the same source."""
         spans = epoch_spans(self.reading, self.reading.epochs[0])
         columns = self.reading.characters(self.reading.epochs[0]) if spans.faults else None
         return causes_of(self.reading.path, spans, columns) if columns else []
 
     def plain(self) -> dict[str, Any]:
-        """The verdict for machines. Every tool's JSON has it under the name `verdict`."""
+        """Returns the verdict as a value for JSON. Every tool's JSON contains it with the name `verdict`."""
         counts = [{"kind": kind, "lane": lane, "times": times} for (kind, lane), times in sorted(self.link.counts.items(), key=str)]
         epochs = [
             {"cause": one.cause.word if one.cause else "start", "lane": one.lane, "place": one.searched, "columns": one.columns}
@@ -266,7 +266,7 @@ class Verdict:
 
 
 def counts_of(events: Events) -> Counter[tuple[str, int | None]]:
-    """How many faults there are, by kind and lane (None if a kind has none)."""
+    """Counts the faults by kind and lane (None if a kind has none)."""
     faults = events.faults
     kinds = events.kind[faults].astype(np.int64)
     lanes = np.where(IS_LANED[kinds], events.value[faults], -1)
@@ -276,14 +276,15 @@ def counts_of(events: Events) -> Counter[tuple[str, int | None]]:
 
 
 def said_by(places: Ints, numbers: list[int], at: Ints, first: int) -> Ints:
-    """The last number that was said before each column, if they were said at some places; `first` before the first one."""
+    """Returns the number that was last reported before each column. `places` are the columns of the reports. Before the first one the
+    result is `first`."""
     found: Ints = np.append(first, np.array(numbers, np.int64))[np.searchsorted(places, at)]
     return found
 
 
 def sizes_of(content: Content) -> Counter[str]:
-    """How many rows of whole frames have another width than the first, and how many frames another size than their InfoFrame says. Frames
-    in which something may be missing are left out."""
+    """Counts the rows of whole frames with a different width than the first row, and the frames with a different size than their
+    InfoFrame gives. Frames in which something may be missing are left out."""
     reading, found = content.reading, Counter[str]()
     events, at = reading.events, reading.at
     avis, depths = content.packets.of(Type.AVI), depths_of(content.packets)
@@ -306,7 +307,7 @@ def sizes_of(content: Content) -> Counter[str]:
 
 
 def contents_of(content: Content) -> Counter[str]:
-    """How many contents are wrong, by kind (`formats.faults.CONTENT`), of packets without damage and of whole frames."""
+    """Counts the wrong contents by kind (`formats.faults.CONTENT`), in undamaged packets and whole frames."""
     packets: Packets = content.packets[content.packets.intact]
     samples, found = samples_of(packets), sizes_of(content)
     found.update(parity=int(samples.odd.sum()), layout=int(samples.layouts.sum()))
@@ -316,7 +317,7 @@ def contents_of(content: Content) -> Counter[str]:
 
 
 def verdict_of(reading: Reading, rate: Rate = Rate()) -> Verdict:
-    """The verdict on a capture that was read."""
+    """Judges a capture that was read."""
     content = Content(reading)
     meter = meter_of(content)
     case = Case(content, record_of(content, meter), timings(meter, rate), rate)
