@@ -1,4 +1,4 @@
-"""The tools, each a module with `parser()`, the parser of its words, and `main(argv)`, which returns its status."""
+"""The tools. Each is a module with `parser()`, which returns its argument parser, and `main(argv)`, which returns its exit status."""
 
 import contextlib
 import importlib
@@ -18,7 +18,7 @@ REFUSED = 3
 
 @contextlib.contextmanager
 def ended_by_the_keyboard() -> Iterator[None]:
-    """Lets Ctrl-C end the process at once, as it ends the program, while modules are read."""
+    """Lets Ctrl-C end the process at once while modules are imported, as it ends the program."""
     before = signal.getsignal(signal.SIGINT)
     if before is signal.default_int_handler:
         signal.signal(signal.SIGINT, signal.SIG_DFL)
@@ -29,8 +29,8 @@ def ended_by_the_keyboard() -> Iterator[None]:
 
 
 def start(name: str, argv: Sequence[str] | None = None) -> int:
-    """Runs a tool over words, those of the command line where none are given, and answers its status: 3 if a package that it
-    needs is missing. A closed standard input counts as an empty one."""
+    """Runs a tool with `argv`, or with the arguments of the command line. Returns its exit status, which is 3 if a package is missing. A
+    closed standard input counts as empty."""
     if sys.stdin is None:
         sys.stdin = open(os.devnull, encoding="ascii")
     if sys.stdout is None:

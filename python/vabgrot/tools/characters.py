@@ -25,19 +25,19 @@ FAULTY = "done, and the capture has a fault"
 EXAMPLES = """./vabgrot make content < examples/bars.content > bars.tmc
 tools/characters bars.tmc --at 500 --count 8
 tools/characters bars.tmc --at 1:12:30"""
-BEFORE = 2  # columns that are shown before the first fault, where no column is given
+BEFORE = 2  # columns shown before the first fault, if the user gives no column
 MOST = 100_000
 
 
 def count(text: str) -> int:
-    """A number of columns of the command line."""
+    """Reads a number of columns."""
     if not text.isdecimal() or not 1 <= int(text) <= MOST:
         raise argparse.ArgumentTypeError(f"{text}: write a number of columns from 1 to {MOST}")
     return int(text)
 
 
 def place(text: str) -> int | Place:
-    """A column of the command line, or a frame, a row and a pixel."""
+    """Reads a column, or a frame, a row and a pixel."""
     if found := PLACE.fullmatch(text):
         return Place(*map(int, found.groups()))
     if not text.replace(",", "").isdecimal():
@@ -46,7 +46,7 @@ def place(text: str) -> int | Place:
 
 
 def lines_of(column: Column) -> list[str]:
-    """A column as lines of text."""
+    """Returns a column as lines of text."""
     lines = [f"column {column.column:,}: {column.says}"]
     for cell in column.cells:
         wanted = f"; WANTED {cell.wanted}" if cell.wanted else ""
@@ -55,7 +55,7 @@ def lines_of(column: Column) -> list[str]:
 
 
 def parser() -> argparse.ArgumentParser:
-    """The parser of the tool's words."""
+    """Returns the tool's argument parser."""
     found = command.parser("characters", TEXT, FAULTY, EXAMPLES)
     command.add_capture(found)
     text = "the first column, or its pixel: frame, row of the picture and pixel, each from 0 (default: the first fault)"
@@ -93,7 +93,8 @@ def work(argv: Sequence[str] | None) -> int:
 
 
 def first_of(it: Reading, at: int | Place | None) -> int | None:
-    """The first column that is shown: a place of the command line, or a little before the first fault. None if there is no such pixel."""
+    """Returns the first column to show: the place that the user gave, or a little before the first fault. Returns None if there is no
+    such pixel."""
     if isinstance(at, Place):
         return column_of(at, *spans_of(it.events, it.at, it.columns, it.is_dvi).rows)
     if at is not None:
@@ -103,5 +104,5 @@ def first_of(it: Reading, at: int | Place | None) -> int | None:
 
 
 def main(argv: Sequence[str] | None = None) -> int:
-    """Runs the tool over its words, those of the command line if none are given; answers its status."""
+    """Runs the tool with `argv`, or with the arguments of the command line. Returns the exit status."""
     return command.run("characters", lambda: work(argv))

@@ -34,13 +34,13 @@ EXAMPLES = """tools/content examples/sent.png examples/sent.png > sent.content
 ./vabgrot make content < sent.content > sent.tmc
 tools/compare sent.tmc examples/sent.png"""
 SHOWN = 8
-WINDOW = 7  # pixels of the windows of SSIM, or as many as a frame has
+WINDOW = 7  # pixels of SSIM's windows; in a smaller frame as many as it has
 
 
 @dataclass(frozen=True)
 class Compared:
-    """What came of two frames: how many pixels differ, the first of them (pixel and row) with both colours, PSNR in dB (None where
-    they are equal), SSIM (None where they are too small), and both CRC-32."""
+    """The comparison of two frames: the number of different pixels, the first of them (pixel and row) with both colours, PSNR in dB (None
+    if the frames are equal), SSIM (None if they are too small), and both CRC-32."""
 
     mine: int
     other: int
@@ -55,8 +55,8 @@ class Compared:
 
 @dataclass(frozen=True)
 class Together:
-    """What came of the samples: how many were compared, from which on in each; how many differ, and the first of them in the first
-    one; None for what is not known."""
+    """The comparison of samples: their number, where they begin on each side, how many differ, and the first of those in the first
+    capture. None is used for what is not known."""
 
     count: int
     mine: int
@@ -66,7 +66,7 @@ class Together:
 
 
 def compared(pair: Pair, mine: Carried, other: Carried) -> Compared | None:
-    """Two frames of one size compared; None where they are not of one size."""
+    """Compares two frames. Returns None if their sizes differ."""
     number, its = int(pair.mine or 0), int(pair.other or 0)
     one, two = mine.frames[number], other.frames[its]
     if (one.width, one.height) != (two.width, two.height):
@@ -84,7 +84,7 @@ def compared(pair: Pair, mine: Carried, other: Carried) -> Compared | None:
 
 
 def ssim_of(first: Picture, second: Picture) -> float | None:
-    """The mean structural similarity; None where the frames are too small for it."""
+    """Returns the mean structural similarity, or None if the frames are too small for it."""
     window = min(WINDOW, *first.shape[:2])
     window -= 1 - window % 2
     if window < 3:
@@ -93,7 +93,7 @@ def ssim_of(first: Picture, second: Picture) -> float | None:
 
 
 def write_difference(folder: Path, number: int, first: Picture, second: Picture) -> None:
-    """Writes the picture of a difference: black where two frames are alike, else the brighter the more they differ."""
+    """Writes a picture of the difference: black where the frames are equal, and brighter the more they differ."""
     difference = np.abs(first.astype(np.int16) - second).astype(np.uint16)
     shown = np.where((difference > 0).any(axis=2, keepdims=True), 64 + difference * 191 // 255, 0).astype(np.uint8)
     with replacing(folder / f"difference{number:04}.png") as file:
@@ -101,7 +101,7 @@ def write_difference(folder: Path, number: int, first: Picture, second: Picture)
 
 
 def samples_of(mine: Carried, other: Carried) -> Together | None:
-    """The samples compared where they run together; None where nothing of one is found in the other."""
+    """Compares the samples at their common offset. Returns None if they have nothing in common."""
     offset = offset_of(mine.samples, other.samples)
     if offset is None:
         return None
@@ -112,8 +112,8 @@ def samples_of(mine: Carried, other: Carried) -> Together | None:
 
 @dataclass
 class Outcome:
-    """All that was compared: the frames, those that have no like one, the packets of one alone, and the samples. `says` are lines
-    of text, and `differs` whether the two differ."""
+    """The complete comparison: frames, frames without a partner, packets of one side only, and samples. `says` are lines of text.
+    `differs` says whether there is a difference."""
 
     frames: list[Compared]
     lonely: list[Pair]
@@ -124,7 +124,7 @@ class Outcome:
 
 
 def frame_lines(pair: Pair, one: Compared | None, mine: Carried, other: Carried, is_difference: bool) -> Iterator[str]:
-    """What is said of a pair of frames."""
+    """Yields the lines about a pair of frames."""
     if None in pair:
         side, number, another = ("A", pair.mine, "B") if pair.other is None else ("B", pair.other, "A")
         why = "" if is_difference else f" ({side} begins earlier or ends later)"
@@ -144,7 +144,7 @@ def frame_lines(pair: Pair, one: Compared | None, mine: Carried, other: Carried,
 
 
 def packets_of(mine: Carried, other: Carried) -> list[dict[str, Any]]:
-    """The packets that came in one alone, with how often; nothing where the other ones are pictures and sound."""
+    """Returns the packets that only one side has, with their numbers. Returns nothing if the other side is pictures and sound."""
     if other.is_reference or mine.is_reference:
         return []
     found = []
@@ -158,7 +158,7 @@ def packets_of(mine: Carried, other: Carried) -> list[dict[str, Any]]:
 
 
 def sample_lines(mine: Carried, other: Carried, samples: Together | None) -> Iterator[str]:
-    """What is said of the samples."""
+    """Yields the lines about the samples."""
     if samples is None:
         yield f"samples: nothing of the {len(mine.samples):,} of A is found among the {len(other.samples):,} of B"
     elif samples.first is None:
@@ -168,7 +168,7 @@ def sample_lines(mine: Carried, other: Carried, samples: Together | None) -> Ite
 
 
 def outcome_of(mine: Carried, other: Carried, folder: Path | None) -> Outcome:
-    """All that is compared."""
+    """Compares everything."""
     found = Outcome([], [], packets_of(mine, other), None, [*mine.first, *other.first], False)
     pairs = pairs_of(mine, other) if mine.frames or other.frames else []
     if other.is_reference and not other.frames:
@@ -198,7 +198,7 @@ def outcome_of(mine: Carried, other: Carried, folder: Path | None) -> Outcome:
 
 
 def parser() -> argparse.ArgumentParser:
-    """The parser of the tool's words."""
+    """Returns the tool's argument parser."""
     found = command.parser("compare", TEXT, FAULTY, EXAMPLES, "done, and there is no difference")
     found.add_argument("mine", metavar="A", type=Path, help="a capture, as `make`, `damage` or `lanes pack` writes it")
     text = "another capture; or the pictures that the frames should show, and a WAV file"
@@ -228,5 +228,5 @@ def work(argv: Sequence[str] | None) -> int:
 
 
 def main(argv: Sequence[str] | None = None) -> int:
-    """Runs the tool over its words, those of the command line if none are given; answers its status."""
+    """Runs the tool with `argv`, or with the arguments of the command line. Returns the exit status."""
     return command.run("compare", lambda: work(argv))

@@ -29,13 +29,13 @@ MARKS = {PASS: "pass", FAIL: "FAIL", DAMAGED: "damaged", OPEN: "not judged"}
 
 
 def line_of(one: Verdict) -> str:
-    """A verdict as a line of text."""
+    """Returns a verdict as a line of text."""
     where = f" (first at column {one.column:,})" if one.column is not None else ""
     return f"{MARKS[one.state]:<10}  {one.rule.name:<24}  {one.words}{where}  [{one.rule.clause}]"
 
 
 def write_junit(path: Path, capture: Path, found: list[Verdict]) -> None:
-    """Writes the verdicts for a build server: a test case a rule."""
+    """Writes the verdicts for a build server. Each rule is a test case."""
     try:
         from junitparser import Failure, JUnitXml, Skipped, TestCase, TestSuite
     except ImportError as why:
@@ -55,7 +55,7 @@ def write_junit(path: Path, capture: Path, found: list[Verdict]) -> None:
 
 
 def parser() -> argparse.ArgumentParser:
-    """The parser of the tool's words."""
+    """Returns the tool's argument parser."""
     found = command.parser("conform", TEXT, FAULTY, EXAMPLES)
     command.add_capture(found)
     of_rate = found.add_mutually_exclusive_group()
@@ -85,5 +85,5 @@ def work(argv: Sequence[str] | None) -> int:
 
 
 def main(argv: Sequence[str] | None = None) -> int:
-    """Runs the tool over its words, those of the command line if none are given; answers its status."""
+    """Runs the tool with `argv`, or with the arguments of the command line. Returns the exit status."""
     return command.run("conform", lambda: work(argv))

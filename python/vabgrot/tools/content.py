@@ -35,12 +35,12 @@ EXAMPLES = """tools/content examples/sent.png examples/sent.png > sent.content
 tools/content pattern:bars pattern:moving*2 --vic 1 --sound tone:1000 | ./vabgrot make content > bars.tmc
 tools/content examples/sent.png --encoding ycbcr422 --depth 30 --packet dynamic:EOTF=2,max=1000 > deep.content"""
 ASPECTS = {"4:3": 1, "16:9": 2, "": 0}
-LEAST, MOST_LENGTH = {3: 14}, 4096  # of the numbers of a mode; the back porch across has a data island in it
-AVI_LINE = "S B A Y R M C SC Q EC ITC VIC PR top bottom left right".split()  # of an `avi` line
+LEAST, MOST_LENGTH = {3: 14}, 4096  # the least and the greatest numbers of a mode; the horizontal back porch contains a data island
+AVI_LINE = "S B A Y R M C SC Q EC ITC VIC PR top bottom left right".split()  # the fields of an `avi` line
 
 
 def mode_of(text: str) -> Mode:
-    """The value of --mode."""
+    """Reads the value of --mode."""
     numbers = command.numbers(text, 65_535)
     if len(numbers) != 9 or numbers[8] > 1:
         raise ArgumentTypeError(f"{text}: write nine numbers with commas between them, the last one 0 or 1")
@@ -51,7 +51,7 @@ def mode_of(text: str) -> Mode:
 
 
 def timing_of(args: Namespace, size: tuple[int, int]) -> tuple[int, Timing, int]:
-    """The identification code (0 for a mode of one's own), the mode with its rate and aspect, and the pixel clock."""
+    """Returns the identification code (0 for a custom mode), the mode with its rate and aspect ratio, and the pixel clock."""
     if args.mode:
         return 0, Timing(args.mode, 0, ""), args.clock or CUSTOM_CLOCK
     vic = args.vic or next((vic for vic in sorted(VICS) if VICS[vic].mode.size == size), None)
@@ -61,7 +61,7 @@ def timing_of(args: Namespace, size: tuple[int, int]) -> tuple[int, Timing, int]
 
 
 def signal_of(args: Namespace, vic: int, mode: Mode) -> tuple[Signal, int]:
-    """How pixels are sent, and the bits of a component that the source has."""
+    """Returns how pixels are sent, and the source's number of bits of a component."""
     encoding = ENCODINGS[args.encoding]
     size = args.depth // 3
     if encoding == Encoding.YCC422 and args.depth > 36:
@@ -75,7 +75,7 @@ def signal_of(args: Namespace, vic: int, mode: Mode) -> tuple[Signal, int]:
 
 
 def refuse_unfit(paths: list[str], size: tuple[int, int]) -> None:
-    """Refuses images of another size than the mode's, before anything is written."""
+    """Refuses images with a different size than the mode. It runs before anything is written."""
     for path in paths:
         width, height = size_of(path)
         if (width, height) != size:
@@ -84,8 +84,8 @@ def refuse_unfit(paths: list[str], size: tuple[int, int]) -> None:
 
 
 def refuse_crowded(mode: Mode, clock: int, sound: Sound | Wide | None, others: int) -> None:
-    """Refuses a mode whose frames have no room for their packets: InfoFrames, clock, and four samples a packet or, of more than
-    two channels, one."""
+    """Refuses a mode whose frames are too small for their packets: InfoFrames, clock regeneration and sound. A packet carries four
+    samples, or one if there are more than two channels."""
     wanted = others
     if sound:
         samples = min(sound.samples, -(-sound.rate * mode.columns // clock))
@@ -95,8 +95,10 @@ def refuse_crowded(mode: Mode, clock: int, sound: Sound | Wide | None, others: i
 
 
 def avi_line(vic: int, aspect: str, sender: Sender, told: tuple[str, dict[str, int]]) -> str:
-    """The AVI InfoFrame: the picture as large as the frame, for a display that shows all of it. `told` are the kind and the numbers
-    of one that --packet gives, which go before. Where an `avi` line cannot say it, it is another line."""
+    """Returns the AVI InfoFrame. It says that the picture fills the frame, and that the display should show all of it.
+
+    `told` are the kind and the values that --packet gives; these have priority. If an `avi` line cannot express them, another line is
+    used."""
     numbers = sender.avi({"S": 2, "A": 1, "R": 8, "M": ASPECTS[aspect], "VIC": vic}) | told[1]
     made = making.packet(told[0], numbers)
     if told[0] != "avi" or numbers.get("YQ") or numbers.get("CN"):
@@ -105,7 +107,7 @@ def avi_line(vic: int, aspect: str, sender: Sender, told: tuple[str, dict[str, i
 
 
 def sound_lines(sound: Sound | Wide, clock: int) -> list[str]:
-    """The clock packet and the audio InfoFrame of each frame."""
+    """Returns the clock regeneration packet and the audio InfoFrame of each frame."""
     rate = RATES[sound.rate]
     cycles = round(clock * rate.n / (128 * rate.hertz))
     if not 1 <= cycles < 1 << 20:
@@ -115,7 +117,7 @@ def sound_lines(sound: Sound | Wide, clock: int) -> list[str]:
 
 
 def read_sound(path: str, allocation: int | None) -> Sound | Wide:
-    """The sound of a WAV file: of one or two channels in layout 0, of more in layout 1."""
+    """Reads a WAV file. One or two channels use layout 0, more use layout 1."""
     if allocation is None and channels.channels_in(path) <= 2:
         return pcm.read(path)
     wide = channels.read(path, allocation)
@@ -125,7 +127,7 @@ def read_sound(path: str, allocation: int | None) -> Sound | Wide:
 
 
 class Samples:
-    """The lines of a sound's samples, frame after frame."""
+    """The lines for the samples of a sound, frame by frame."""
 
     def __init__(self, sound: Sound) -> None:
         self.sound = sound
@@ -134,32 +136,32 @@ class Samples:
         self.flags = [f"{4 * left} {4 * right} {int(place == 0)} 0\n" for place, (left, right) in enumerate(status)]
 
     def line(self, k: int) -> str:
-        """That of one sample."""
+        """Returns the line of one sample."""
         at = slice(6 * k, 6 * k + 6)
         return f"s {self.left[at]} {self.right[at]} {self.flags[k % BLOCK]}"
 
     def lines(self, first: int, behind: int) -> Iterator[str]:
-        """Those of some samples."""
+        """Yields the lines of some samples."""
         return map(self.line, range(first, min(behind, self.sound.samples)))
 
 
 @dataclass
 class Sent:
-    """What is sent beside the pictures: the packets of each frame, and the sound with the clock of the columns."""
+    """What is sent in addition to the pictures: the packets of each frame, and the sound with the rate of columns."""
 
     packets: list[str]
     sound: Sound | Wide | None
     clock: int
 
     def samples(self, first: int, behind: int) -> Iterator[str]:
-        """The lines of some samples."""
+        """Yields the lines of some samples."""
         if isinstance(self.sound, Wide):
             return channels.packet_lines(self.sound, first, behind)
         return Samples(self.sound).lines(first, behind) if self.sound else iter(())
 
 
 def write_frames(paths: list[str], sender: Sender, sent: Sent) -> int:
-    """The frames; answers how many samples they have room for in time."""
+    """Writes the frames. Returns how many samples fit their time."""
     behind, mode, rate = 0, sender.columns, sent.sound.rate if sent.sound else 0
     for number, path in enumerate(tqdm(paths, unit="frame", disable=None)):
         rows = sender.rows(path)
@@ -172,7 +174,7 @@ def write_frames(paths: list[str], sender: Sender, sent: Sent) -> int:
 
 
 def frame_packets(args: Namespace, vic: int, aspect: str, sender: Sender) -> list[str]:
-    """The lines of the packets of each frame, but for those of the sound."""
+    """Returns the lines of the packets of each frame, without those of the sound."""
     avi: tuple[str, dict[str, int]] = ("avi", {})
     others = []
     for word in args.packet:
@@ -187,7 +189,7 @@ def frame_packets(args: Namespace, vic: int, aspect: str, sender: Sender) -> lis
 
 
 def signal_words(parser: ArgumentParser) -> None:
-    """The words that say how pixels are sent, and which packets are."""
+    """Adds the options for pixels and packets."""
     text = "the encoding of pixels: %(choices)s (default: rgb)"
     parser.add_argument("--encoding", choices=list(ENCODINGS), default="rgb", help=text)
     text = "the matrix of YCbCr: BT.%(choices)s (default: 709 for rows of 1,280 pixels or more, otherwise 601)"
@@ -203,7 +205,7 @@ def signal_words(parser: ArgumentParser) -> None:
 
 
 def parser() -> ArgumentParser:
-    """The parser of the tool's words."""
+    """Returns the tool's argument parser."""
     found = command.parser("content", TEXT, examples=EXAMPLES)
     text = f"an image file for each frame; or pattern:NAME[*N], N frames of a test pattern: {', '.join(patterns.PATTERNS)}"
     found.add_argument("images", nargs="+", metavar="IMAGE", help=text)
@@ -225,7 +227,7 @@ def parser() -> ArgumentParser:
 
 
 def work(argv: list[str] | None) -> int:
-    """The tool's work: its status."""
+    """Does the work of the tool. Returns the exit status."""
     words = parser()
     args = words.parse_args(argv)
     if args.clock is not None and args.clock < 1:
@@ -237,7 +239,7 @@ def work(argv: list[str] | None) -> int:
 
 
 def pattern_size(args: Namespace) -> tuple[int, int]:
-    """The width and height of patterns: those of the mode that is given, or of the first image that is a file."""
+    """Returns the width and height of patterns: those of the mode, or of the first image file."""
     if args.mode or args.vic:
         mode = args.mode or VICS[args.vic].mode
         return max(1, mode.active_across // args.repeat), mode.active_down
@@ -248,13 +250,13 @@ def pattern_size(args: Namespace) -> tuple[int, int]:
 
 
 def sound_of(args: Namespace, seconds: float) -> Sound | Wide | None:
-    """The sound of a file, or a tone of so many seconds; None where there is none."""
+    """Returns the sound of a file, a tone with this length, or None if there is no sound."""
     with patterns.sound_file(args.sound, seconds) as path:
         return read_sound(path, args.allocation) if path else None
 
 
 def write(args: Namespace) -> int:
-    """Writes the listing of images and sound."""
+    """Writes the listing for images and sound."""
     width, height = size_of(args.images[0])
     vic, timing, clock = timing_of(args, (width * args.repeat, height))
     sender = Sender(*signal_of(args, vic, timing.mode), timing.mode)
@@ -277,7 +279,7 @@ def write(args: Namespace) -> int:
 
 
 def refuse_long(args: Namespace, sender: Sender) -> None:
-    """Refuses images that do not fit the mode, and more columns than a row or a listing has."""
+    """Refuses images that do not fit the mode, and rows or listings with too many columns."""
     if sender.mode.active_across % args.repeat:
         raise Refused(
             f"--repeat {args.repeat}: a row has {sender.mode.active_across} pixels, which it does not divide. Give another number"
@@ -293,5 +295,5 @@ def refuse_long(args: Namespace, sender: Sender) -> None:
 
 
 def main(argv: list[str] | None = None) -> int:
-    """Runs the tool over its words, those of the command line if none are given; answers its status."""
+    """Runs the tool with `argv`, or with the arguments of the command line. Returns the exit status."""
     return command.run("content", lambda: work(argv))

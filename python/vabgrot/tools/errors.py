@@ -36,11 +36,11 @@ FAULTY = "done, and a character is damaged; with --at-most: the rate is not show
 EXAMPLES = """./vabgrot make content < examples/bars.content > bars.tmc
 ./vabgrot damage 2:5035:0ab 0:28450:3a5 < bars.tmc > hurt.tmc
 tools/errors hurt.tmc --reference bars.tmc --at-most 1e-3"""
-SHOWN = 8  # damaged characters that are named
+SHOWN = 8  # damaged characters that are listed
 
 
 def share(text: str) -> float:
-    """A number of the command line between 0 and 1."""
+    """Reads a number between 0 and 1."""
     try:
         value = float(text)
     except ValueError:
@@ -52,14 +52,14 @@ def share(text: str) -> float:
 
 @dataclass(frozen=True)
 class Counted:
-    """What was counted: the damaged characters, how many characters of each kind a lane has, and the columns that were not read."""
+    """The counts: damaged characters, the number of characters of each kind on a lane, and the columns that were not read."""
 
     hits: list[Hit]
     exposed: dict[str, int]
     unread: int
     spans: Spans
     reading: Reading
-    videos: list[Video] = field(default_factory=list)  # what is known of the rows of each lane without a reference
+    videos: list[Video] = field(default_factory=list)  # the rows of each lane, if there is no reference
 
     @property
     def bits(self) -> int:
@@ -72,7 +72,7 @@ class Counted:
         return sum(hit.bits for hit in self.hits)
 
     def table(self) -> list[dict[str, Any]]:
-        """Of each lane and kind the characters, the damaged ones and the wrong bits."""
+        """Returns the characters, damaged characters and wrong bits for each lane and kind."""
         times = Counter((hit.lane, hit.kind) for hit in self.hits)
         bits: Counter[tuple[int, str]] = Counter()
         for hit in self.hits:
@@ -86,7 +86,7 @@ class Counted:
         ]
 
     def rate(self, confidence: float) -> Rate:
-        """The rate of wrong bits: that of the bits that were counted, or without a reference the estimate of all."""
+        """Returns the rate of wrong bits: counted if there is a reference, otherwise estimated."""
         if not self.videos:
             return Rate(self.wrong / max(self.bits, 1), *limits_of(self.wrong, max(self.bits, 1), confidence)[:2])
         outside = sum(hit.bits for hit in self.hits if hit.kind != "video")
@@ -95,8 +95,8 @@ class Counted:
 
 
 def counted_of(path: Path, reference: Path | None, is_dvi: bool) -> Counted:
-    """What is counted of a capture, against a reference if there is one: epoch by epoch, each by its own alignment. What was read between
-    a loss of bits and its slip is not counted."""
+    """Counts the damage of a capture, with a reference if there is one. Each epoch is counted with its own alignment. Columns between a
+    loss of bits and the slip that reports it are left out."""
     it = read(path, is_dvi)
     it.refuse_unaligned()
     whole = spans_of(it.events, it.at, it.columns, it.is_dvi)
@@ -124,7 +124,7 @@ def counted_of(path: Path, reference: Path | None, is_dvi: bool) -> Counted:
 
 
 def against(sent: Reading, mine: Columns, spans: Spans) -> Compared | None:
-    """The characters of an epoch that are not as in a reference; None if nothing of it is found there."""
+    """Returns the characters of an epoch that differ from the reference, or None if the reference contains nothing of it."""
     other = sent.characters(sent.epochs[0])
     offset = offset_of(mine, other) if other else None
     if other is None or offset is None:
@@ -133,7 +133,7 @@ def against(sent: Reading, mine: Columns, spans: Spans) -> Compared | None:
 
 
 def lines_of(counted: Counted, rate: Rate, confidence: float, at_most: float | None) -> list[str]:
-    """What was counted, as lines of text."""
+    """Returns the counts as lines of text."""
     lines = [f"{'':<16}{'characters':>14}{'damaged':>12}{'wrong bits':>12}"]
     for row in counted.table():
         if row["characters"]:
@@ -153,7 +153,7 @@ def lines_of(counted: Counted, rate: Rate, confidence: float, at_most: float | N
 
 
 def words_of_rate(counted: Counted, rate: Rate, confidence: float) -> str:
-    """The rate in words."""
+    """Describes the rate in words."""
     of, sure = f"{counted.wrong:,} of {counted.bits:,} bits", f"({confidence:.0%} confidence)"
     if rate.upper is None:
         return f"bit error rate: {of} are seen to be wrong: at least {rate.rate:.2e}, without an upper limit: {rate.why}"
@@ -166,7 +166,7 @@ def words_of_rate(counted: Counted, rate: Rate, confidence: float) -> str:
 
 
 def asked(counted: Counted, rate: Rate, confidence: float, at_most: float) -> str:
-    """Whether the rate is shown to be as low as is asked."""
+    """Says whether the rate is shown to be as low as required."""
     if rate.upper is not None and rate.upper <= at_most:
         return f"at most {at_most:g}: shown"
     if rate.lower > at_most:
@@ -179,7 +179,7 @@ def asked(counted: Counted, rate: Rate, confidence: float, at_most: float) -> st
 
 
 def plain_of(path: Path, counted: Counted, rate: Rate, confidence: float, status: int) -> dict[str, Any]:
-    """The same for machines."""
+    """Returns the same as a value for JSON."""
     table = counted.table()
     return {
         "capture": str(path),
@@ -203,7 +203,7 @@ def plain_of(path: Path, counted: Counted, rate: Rate, confidence: float, status
 
 
 def parser() -> argparse.ArgumentParser:
-    """The parser of the tool's words."""
+    """Returns the tool's argument parser."""
     found = command.parser("errors", TEXT, FAULTY, EXAMPLES)
     command.add_capture(found)
     found.add_argument("--reference", metavar="CAPTURE", type=Path, help="a capture of the same content without damage")
@@ -230,5 +230,5 @@ def work(argv: Sequence[str] | None) -> int:
 
 
 def main(argv: Sequence[str] | None = None) -> int:
-    """Runs the tool over its words, those of the command line if none are given; answers its status."""
+    """Runs the tool with `argv`, or with the arguments of the command line. Returns the exit status."""
     return command.run("errors", lambda: work(argv))

@@ -46,7 +46,7 @@ tools/lanes look mixed.tmc || echo it has to be packed anew"""
 
 
 def bit_counts(text: str) -> list[int]:
-    """The value of --bits or of --from: one number for all lanes, or three."""
+    """Reads the value of --bits or --from: one number for all lanes, or three."""
     counts = command.numbers(text, MOST_BITS)
     if len(counts) not in (1, 3):
         raise ArgumentTypeError(f"{text}: write one number, or three with commas between them")
@@ -54,7 +54,7 @@ def bit_counts(text: str) -> list[int]:
 
 
 def one_number(text: str) -> int:
-    """A number of bits or of times, at least 1."""
+    """Reads a number of bits or repetitions, at least 1."""
     (number, *others) = command.numbers(text, MOST_BITS)
     if others or not number:
         raise ArgumentTypeError(f"{text}: write a number from 1 to {MOST_BITS}")
@@ -62,7 +62,7 @@ def one_number(text: str) -> int:
 
 
 def lane_numbers(text: str) -> list[int]:
-    """The value of --invert: some lanes, each once."""
+    """Reads the value of --invert: some lanes, each once."""
     numbers = command.numbers(text, 2)
     if len(set(numbers)) != len(numbers):
         raise ArgumentTypeError(f"{text}: it names a lane twice. Name each lane once")
@@ -70,7 +70,7 @@ def lane_numbers(text: str) -> list[int]:
 
 
 def order(text: str) -> list[int]:
-    """The value of --order: all three lanes."""
+    """Reads the value of --order: all three lanes."""
     numbers = lane_numbers(text)
     if len(numbers) != 3:
         raise ArgumentTypeError(f"{text}: name all three lanes, such as 2,1,0")
@@ -78,12 +78,12 @@ def order(text: str) -> list[int]:
 
 
 def with_numpy(name: str) -> ModuleType:
-    """A module that asks for packages which the rest of this tool can do without."""
+    """Imports a module that needs packages which the rest of this tool does not need."""
     return importlib.import_module(f"vabgrot.lanes.{name}")
 
 
 def lane_of(path: str, wanted: int | None, args: Namespace) -> tuple[bytes, int]:
-    """The bytes of a lane and the number of its bits: those of the file, or the first ones."""
+    """Returns the bytes of a lane and the number of its bits: all bits of the file, or the first `wanted`."""
     with open(path, "rb") as file:
         data = file.read()
     words = with_numpy("words").words_of(data, args.words, path) if args.words else None
@@ -98,12 +98,12 @@ def lane_of(path: str, wanted: int | None, args: Namespace) -> tuple[bytes, int]
 
 
 def inverted(lane: bytes) -> bytes:
-    """A lane with all bits turned over."""
+    """Returns a lane with all bits inverted."""
     return bytes(byte ^ 0xFF for byte in lane)
 
 
 def each_once(paths: Iterable[str]) -> None:
-    """Refuses a file that is named twice, unless it is none that holds what is written to it."""
+    """Refuses a file that is named twice. Devices and pipes, which keep nothing that is written, may be named again."""
     known = set()
     for path in (Path(path) for path in paths):
         place = path.resolve()
@@ -113,12 +113,12 @@ def each_once(paths: Iterable[str]) -> None:
 
 
 def written(lanes: Sequence[bytes], counts: Sequence[int]) -> None:
-    """Writes a capture of some lanes to standard output."""
+    """Writes a capture to standard output."""
     capture.write(sys.stdout.buffer, [io.BytesIO(lane) for lane in lanes], counts if len(set(counts)) > 1 else counts[:1])
 
 
 def pack(args: Namespace) -> int:
-    """Three files into a capture."""
+    """Makes a capture from three files."""
     each_once(args.lanes)
     lanes, counts = [b""] * 3, [0] * 3
     for number, path, bits in zip(args.order, args.lanes, args.bits or [None] * 3):
@@ -132,7 +132,7 @@ def pack(args: Namespace) -> int:
 
 
 def unpacked(lane: bytes, count: int, args: Namespace) -> bytes:
-    """The bytes of the file of a lane."""
+    """Returns the bytes for the file of a lane."""
     if not args.words:
         return lane.translate(MIRROR if args.msb else None)
     data: bytes = with_numpy("words").parted(lane, count, args.words, args.msb)
@@ -140,7 +140,7 @@ def unpacked(lane: bytes, count: int, args: Namespace) -> bytes:
 
 
 def unpack(args: Namespace) -> int:
-    """A capture into three files."""
+    """Writes the lanes of a capture to three files."""
     each_once(args.lanes)
     lanes, counts = capture.lanes_of(sys.stdin.buffer.read())
     for path, lane, count in zip(args.lanes, lanes, counts):
@@ -152,7 +152,7 @@ def unpack(args: Namespace) -> int:
 
 
 def cut(args: Namespace) -> int:
-    """A capture without the first bits of its lanes."""
+    """Writes a capture without the first bits of its lanes."""
     with open(args.capture, "rb") as file:
         lanes, counts = capture.lanes_of(file.read())
     for number, (count, start) in enumerate(zip(counts, args.starts)):
@@ -166,7 +166,7 @@ def cut(args: Namespace) -> int:
 
 
 def blocks(args: Namespace) -> int:
-    """The lanes of a capture as raw blocks."""
+    """Writes the lanes of a capture as raw blocks."""
     with open(args.capture, "rb") as file:
         lanes, counts = capture.lanes_of(file.read())
     bits = min(counts) if args.bits is None else args.bits
@@ -178,7 +178,7 @@ def blocks(args: Namespace) -> int:
 
 
 def look(args: Namespace) -> int:
-    """What the lanes of a capture look like."""
+    """Describes the lanes of a capture."""
     told = with_numpy("told")
     with open(args.capture, "rb") as file:
         lanes, counts = capture.lanes_of(file.read())
@@ -199,7 +199,7 @@ def look(args: Namespace) -> int:
 
 
 def add_words(words: ArgumentParser) -> None:
-    """Adds the words of pack and unpack."""
+    """Adds the options of pack and unpack."""
     words.add_argument("lanes", nargs=3, metavar="FILE", help="lane 0 (blue), lane 1 (green), lane 2 (red)")
     words.add_argument("--msb", action="store_true", help="the first bit of a lane is the highest one of a byte, or of a word's ten")
     text = """each file has words of 16 or 32 bits, low byte first, whose lowest ten bits are ten bits of the lane; 10 means text
@@ -208,7 +208,7 @@ def add_words(words: ArgumentParser) -> None:
 
 
 def add_pack_words(words: ArgumentParser) -> None:
-    """Adds the words that only pack has."""
+    """Adds the options of pack only."""
     text = "take only the first bits of each file, for example if the last byte or word is not whole"
     words.add_argument("--bits", type=bit_counts, metavar="B[,B,B]", help=text)
     text = "invert all bits of these lanes of the capture, for example 1 or 0,2"
@@ -218,14 +218,14 @@ def add_pack_words(words: ArgumentParser) -> None:
 
 
 def add_blocks_words(words: ArgumentParser) -> None:
-    """Adds the words that only blocks has."""
+    """Adds the options of blocks only."""
     words.add_argument("--bits", type=one_number, metavar="B", help="only the first bits of each lane")
     text = "write each lane N times; without N, again and again until nobody reads"
     words.add_argument("--repeat", type=one_number, nargs="?", const=None, default=1, metavar="N", help=text)
 
 
 def parser() -> ArgumentParser:
-    """The parser of the tool's words, with one for each of its commands."""
+    """Returns the tool's argument parser, with a parser for each command."""
     found = command.parser("lanes", TEXT, "look: the lanes have to be packed in another way", EXAMPLES)
     parsers = found.add_subparsers(required=True, metavar="pack|unpack|blocks|cut|look")
 
@@ -263,5 +263,5 @@ def work(argv: Sequence[str] | None) -> int:
 
 
 def main(argv: Sequence[str] | None = None) -> int:
-    """Runs the tool over its words, those of the command line if none are given; answers its status."""
+    """Runs the tool with `argv`, or with the arguments of the command line. Returns the exit status."""
     return command.run("lanes", lambda: work(argv))

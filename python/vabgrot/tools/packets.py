@@ -37,12 +37,12 @@ tools/packets bars.tmc
 tools/packets bars.tmc --csv packets.csv --pcap packets.pcap"""
 HEADS = "seconds epoch column frame type name lost mended damaged interval says fields bytes".split()
 TABLE = ("type", "name", "packets", "lost", "mended", "least ms", "mean ms", "most ms")
-LEFT = 2  # columns of the table that begin at the left
+LEFT = 2  # columns of the table that are aligned at the left
 Taker = Callable[[Islands, Ints, Fraction], None]
 
 
 def parser() -> argparse.ArgumentParser:
-    """The parser of the tool's words."""
+    """Returns the tool's argument parser."""
     found = command.parser("packets", TEXT, FAULTY, EXAMPLES)
     found.add_argument("capture", metavar="CAPTURE", nargs="?", default="-", help="a file or a FIFO (default: standard input)")
     found.add_argument("--follow", action="store_true", help="at the end of the file, wait for more until the capture is whole")
@@ -57,12 +57,12 @@ def parser() -> argparse.ArgumentParser:
 
 
 def seconds(column: int, clock: Fraction) -> str:
-    """The time of a column."""
+    """Returns the time of a column in seconds."""
     return f"{float(column / clock):.9f}"
 
 
 def rows_of(its: Islands, behind: Ints, clock: Fraction) -> Iterator[tuple[Any, ...]]:
-    """The rows of packets, by HEADS."""
+    """Yields the rows of packets, with the columns in HEADS."""
     found = its.packets
     numbers = np.stack([found.at, its.epoch, its.first, its.frame, its.lost, found.mended, found.wrong, behind], axis=1).tolist()
     for (at, epoch, column, frame, lost, mended, damaged, apart), row in zip(numbers, its.octets):
@@ -76,7 +76,7 @@ def rows_of(its: Islands, behind: Ints, clock: Fraction) -> Iterator[tuple[Any, 
 
 
 def blocks(bits: int) -> str:
-    """The numbers of blocks; 4 is the header."""
+    """Returns the numbers of blocks; 4 is the header."""
     return " ".join(str(block) for block in range(5) if bits >> block & 1)
 
 
@@ -94,7 +94,7 @@ def print_rows(its: Islands, behind: Ints, clock: Fraction) -> None:
 
 @contextlib.contextmanager
 def written_to(path: str, mode: str) -> Iterator[IO[Any]]:
-    """A file, or standard output."""
+    """Opens a file, or standard output."""
     if path == "-":
         yield cast(IO[Any], sys.stdout.buffer if "b" in mode else sys.stdout)
         return
@@ -105,7 +105,7 @@ def written_to(path: str, mode: str) -> Iterator[IO[Any]]:
 
 @contextlib.contextmanager
 def takers(args: argparse.Namespace) -> Iterator[list[Taker]]:
-    """What takes the packets."""
+    """Yields the functions that write packets."""
     found: list[Taker] = []
     with contextlib.ExitStack() as stack:
         if args.csv:
@@ -116,7 +116,7 @@ def takers(args: argparse.Namespace) -> Iterator[list[Taker]]:
 
 
 def table(file: IO[str]) -> Taker:
-    """What writes a table."""
+    """Returns a function that writes a table."""
     rows = csv.writer(file, lineterminator="\n")
     rows.writerow(HEADS)
 
@@ -128,7 +128,7 @@ def table(file: IO[str]) -> Taker:
 
 
 def pcap(file: IO[bytes]) -> Taker:
-    """What writes a pcap file."""
+    """Returns a function that writes a pcap file."""
     file.write(pcap_head())
 
     def take(its: Islands, behind: Ints, clock: Fraction) -> None:
@@ -139,7 +139,7 @@ def pcap(file: IO[bytes]) -> Taker:
 
 
 def table_of(kinds: Kinds, clock: Fraction) -> Iterator[str]:
-    """The lines of the table of types."""
+    """Yields the lines of the table of types."""
     rows = [TABLE, *kinds.rows(clock)]
     widths = [max(map(len, column)) for column in zip(*rows)]
     for row in rows:
@@ -148,7 +148,7 @@ def table_of(kinds: Kinds, clock: Fraction) -> Iterator[str]:
 
 
 def work(argv: Sequence[str] | None) -> int:
-    """The tool's work: its status."""
+    """Does the work of the tool. Returns the exit status."""
     args = parser().parse_args(argv)
     if args.dissector:
         print(lua(), end="")
@@ -179,5 +179,5 @@ def work(argv: Sequence[str] | None) -> int:
 
 
 def main(argv: Sequence[str] | None = None) -> int:
-    """Runs the tool over its words, those of the command line if none are given; answers its status."""
+    """Runs the tool with `argv`, or with the arguments of the command line. Returns the exit status."""
     return command.run("packets", lambda: work(argv))

@@ -46,7 +46,7 @@ Places = dict[int, int]
 
 @dataclass
 class Growing:
-    """A frame of a content listing, which grows row by row. Of a fault's mark its row and its column of the listing are kept."""
+    """The current frame of a content listing. Each mark of a fault is kept with its row and its column of the listing."""
 
     rows: list[bytes] = field(default_factory=list)
     faults: Counter[str] = field(default_factory=Counter)
@@ -54,7 +54,7 @@ class Growing:
 
 
 def pixel_places(path: Path) -> Places:
-    """The pixel of each column that a `! code` of a link listing names, as far as the listing says columns."""
+    """Returns the pixel of each column that a `! code` line of a link listing names, as far as the listing gives columns."""
     with open(path, "rb") as source:
         its = listing.parsed(listing.lines(source, listing.LINK))
     rows, codes = its.of(Kind.LINE), its.of(Kind.CODE)
@@ -65,18 +65,18 @@ def pixel_places(path: Path) -> Places:
 
 
 class Pictures:
-    """Takes frames, and writes them. `says` is what is to be said of them at the end."""
+    """Takes frames and writes them to files. `says` are the lines to print at the end."""
 
     def __init__(self, folder: Path, mark: bool, is_raw: bool, weaves: bool, is_listed: bool = False) -> None:
         self.folder, self.mark, self.is_raw, self.is_listed = folder, mark, is_raw, is_listed
         self.weaver: Weaver[Picture] | None = Weaver() if weaves else None
         self.signals = Signals()
-        self.notes: dict[str, int] = {}  # each with the first frame that it is of
+        self.notes: dict[str, int] = {}  # each note with the number of the first frame that has it
         self.says: list[str] = []
         self.written, self.touched, self.left, self.read = 0, 0, 0, 0
 
     def add(self, rows: list[bytes], faults: Counter[str], marks: Iterable[tuple[int | None, int]], down: Fraction | None) -> None:
-        """The next frame: its rows, its faults, the pixels and rows to be marked, and the lines from VSYNC down to its first row."""
+        """Takes the next frame: its rows, its faults, the pixels and rows to mark, and the lines from VSYNC to its first row."""
         width = len(rows[0]) // 3
         it = Rendering(Signal()) if self.is_raw else self.signals.reading(width)
         colours = images.colours_of(rows, width, it.signal)
@@ -89,12 +89,12 @@ class Pictures:
             self.write(pair)
 
     def notes_of_fields(self) -> list[str]:
-        """What is said of the fields of a content listing."""
+        """Returns the notes about the fields of a content listing."""
         known = self.signals.avi and modes.of_vic(self.signals.avi["VIC"])
         return [FIELDS] if self.weaver and self.is_listed and known and known.interlaced else []
 
     def leave(self, rows: int) -> None:
-        """Leaves out the rows of a frame that does not end."""
+        """Counts the rows of a frame that does not end, and leaves them out."""
         self.left += rows
         for pair in self.weaver.end() if self.weaver else ():
             self.write(pair)
@@ -113,34 +113,34 @@ class Pictures:
         self.touched += picture.faults.total()
 
     def path(self, number: int) -> Path:
-        """The file of a picture."""
+        """Returns the path of a picture."""
         return self.folder / f"frame{number:04}.png"
 
     def remove(self) -> None:
-        """Removes what was written, before a capture is read anew."""
+        """Removes all written files, before a capture is read again."""
         for number in range(self.written):
             self.path(number).unlink()
 
 
 class Taking:
-    """Gives the frames of events to pictures. `faults` counts all faults."""
+    """Passes the frames of a capture to `Pictures`. `faults` counts all faults."""
 
     def __init__(self, pictures: Pictures, is_dvi: bool) -> None:
         self.pictures, self.flow, self.faults = pictures, Flow(), 0
         pictures.signals.has_packets = not is_dvi
 
     def take(self, events: Events) -> None:
-        """The next events."""
+        """Takes the next events."""
         self.faults += len(events.faults)
         self.keep(self.flow.take(events))
 
     def finish(self) -> None:
-        """No more events come."""
+        """Takes the end of the capture."""
         self.keep(self.flow.finish())
         self.pictures.leave(0)
 
     def keep(self, known: Iterable[Packets | Frame]) -> None:
-        """What is known now."""
+        """Takes packets and frames."""
         for it in known:
             if isinstance(it, Packets):
                 self.pictures.signals.take_packets(it)
@@ -154,18 +154,18 @@ class Taking:
 
     @property
     def others(self) -> int:
-        """How many faults touch no picture."""
+        """The number of faults that touch no picture."""
         return max(0, self.faults - self.pictures.touched)
 
 
 class Lines:
-    """Takes the lines of a content listing. `places` are the pixels of the columns that a link listing of the same says."""
+    """Takes the lines of a content listing. `places` are the pixels that a link listing of the same capture gives for columns."""
 
     def __init__(self, pictures: Pictures, places: Places) -> None:
         self.pictures, self.places, self.frame, self.others = pictures, places, Growing(), 0
 
     def take(self, line: int, name: str, fields: list[str]) -> None:
-        """A line."""
+        """Takes a line."""
         signals = self.pictures.signals
         if name == "row":
             self.frame.rows.append(listing.digits(listing.fields_of(fields, 1, line)[0], 3, line))
@@ -182,13 +182,13 @@ class Lines:
             self.info(line, fields)
 
     def info(self, line: int, fields: list[str]) -> None:
-        """An InfoFrame without a line of its own; it may have no payload."""
+        """Takes an InfoFrame without a line of its kind. Its payload may be empty."""
         kind, version, *payload = fields if len(fields) == 2 else listing.fields_of(fields, 3, line)
         head = listing.digits(kind, 1, line) + listing.digits(version, 1, line)
         self.pictures.signals.take_info(head[0], head[1], listing.digits(payload[0], 1, line) if payload else b"")
 
     def fault(self, line: int, fields: list[str]) -> None:
-        """Counts a fault; one that comes before the frame's first row touches no row that is listed."""
+        """Counts a fault. If it precedes the first row of the frame, it touches no listed row."""
         kind = fields[0]
         if kind not in OF_PICTURE or not self.frame.rows:
             self.others += 1
@@ -198,19 +198,19 @@ class Lines:
             self.frame.marks.append((len(self.frame.rows) - 1, listing.number(fields[-1], line)))
 
     def end_frame(self, line: int, width: int, height: int) -> None:
-        """The rows so far are a frame."""
+        """Ends a frame with the rows so far."""
         frame, self.frame = self.frame, Growing()
         if (3 * width, height) != (len(frame.rows[0]) if frame.rows else 0, len(frame.rows)):
             raise Refused(f"line {line}: the rows before it are no frame of {width} x {height} pixels")
         self.pictures.add(frame.rows, frame.faults, ((self.places.get(column), row) for row, column in frame.marks), None)
 
     def finish(self) -> None:
-        """No more lines come."""
+        """Takes the end of the listing."""
         self.pictures.leave(len(self.frame.rows))
 
 
 def clear(folder: Path, force: bool) -> None:
-    """Removes the frames that an earlier run left, or refuses to write among them."""
+    """Removes the frames of an earlier run, or refuses to write to their folder."""
     earlier = sorted(path for path in folder.glob("frame*.png") if path.stem[5:].isdecimal())
     if earlier and not force:
         raise Refused(f"{folder}: it already contains {earlier[0].name}. Choose another folder, or delete the old frames with --force")
@@ -219,7 +219,7 @@ def clear(folder: Path, force: bool) -> None:
 
 
 def by_capture(path: Path, make: Callable[[], Pictures], is_dvi: bool) -> tuple[Pictures, int]:
-    """Writes the frames of a capture; answers how many faults touch none."""
+    """Writes the frames of a capture. Returns the number of faults that touch none."""
     taken: list[Taking] = []
 
     def taking(grammar: Grammar) -> Taking:
@@ -236,7 +236,7 @@ def by_capture(path: Path, make: Callable[[], Pictures], is_dvi: bool) -> tuple[
 
 
 def by_listing(source: BinaryIO, make: Callable[[], Pictures], places: Places) -> tuple[Pictures, int]:
-    """The same of a listing."""
+    """Writes the frames of a listing. Returns the number of faults that touch none."""
     pictures = make()
     is_link, lines = listing.either(source, listing.EITHER, listing.CONTENT)
     shown = tqdm(lines, unit="line", disable=None)
@@ -256,7 +256,7 @@ def by_listing(source: BinaryIO, make: Callable[[], Pictures], places: Places) -
 
 
 def parser() -> argparse.ArgumentParser:
-    """The parser of the tool's words."""
+    """Returns the tool's argument parser."""
     found = command.parser("pictures", TEXT, "done, and a fault touched a frame", EXAMPLES)
     found.add_argument("dir", metavar="DIR", type=Path, help="the folder of the PNG files; the tool creates it")
     text = """draw a box around the first faulty pixel of each lane in a row, as `! code` names it. A content listing does not say
@@ -272,7 +272,7 @@ def parser() -> argparse.ArgumentParser:
 
 
 def work(argv: list[str] | None) -> int:
-    """Does the tool's work and returns its status."""
+    """Does the work of the tool. Returns the exit status."""
     words = parser()
     args = words.parse_args(argv)
     if args.link and not args.mark:
@@ -294,5 +294,5 @@ def work(argv: list[str] | None) -> int:
 
 
 def main(argv: list[str] | None = None) -> int:
-    """Runs the tool over its words, those of the command line if none are given; answers its status."""
+    """Runs the tool with `argv`, or with the arguments of the command line. Returns the exit status."""
     return command.run("pictures", lambda: work(argv))

@@ -48,8 +48,8 @@ CHANNELS = """A channel is a number from 0, a name of the file's header, P-N for
 inverts it), or -N for one inverted wire (written --lanes=-0,1,2). Name each channel once."""
 FAULTY = """done, and bits may be wrong: an eye is open by less than 0.1, a jitter is over 0.9 UI, or the bit rates of lanes
 differ by over 0.1 percent. With --mask: a level enters the mask. With --words: a column with x or z follows a whole one"""
-SECONDS = tuple(zip(("s", "ms", "us", "ns", "ps", "fs"), range(0, 16, 3)))  # the units of seconds, by their powers of ten
-MOST_APART = 1e-3  # of the lanes' bit rates
+SECONDS = tuple(zip(("s", "ms", "us", "ns", "ps", "fs"), range(0, 16, 3)))  # units of time, by their power of ten
+MOST_APART = 1e-3  # the greatest relative difference of the lanes' bit rates
 
 EXAMPLES = """tools/slice examples/red.vcd > red.tmc
 tools/slice examples/red.vcd --lanes blue,green,red --eye eye.png | ./vabgrot recover link
@@ -57,7 +57,7 @@ tools/slice examples/words.vcd --words source.q0,source.q1,source.q2 --clock clk
 
 
 def volts(text: str) -> float:
-    """The value of --mask."""
+    """Reads the value of --mask."""
     try:
         value = float(text)
     except ValueError:
@@ -68,7 +68,7 @@ def volts(text: str) -> float:
 
 
 def parser() -> ArgumentParser:
-    """The parser of the tool's words."""
+    """Returns the tool's argument parser."""
     found = command.parser("slice", f"{TEXT}\n\n{CHANNELS}\n\n{WORDS}", FAULTY, EXAMPLES)
     found.add_argument("file", metavar="FILE", help="the waveform")
     text = "the channels of lane 0 (blue), lane 1 (green) and lane 2 (red) (default: %(default)s)"
@@ -95,7 +95,7 @@ def parser() -> ArgumentParser:
 
 
 def words(argv: Sequence[str] | None) -> Namespace:
-    """The words of the command line."""
+    """Reads the arguments of the command line."""
     found = parser()
     args = found.parse_args(argv)
     check_words(found, args)
@@ -103,7 +103,7 @@ def words(argv: Sequence[str] | None) -> Namespace:
 
 
 def check_words(parser: ArgumentParser, args: Namespace) -> None:
-    """Ends with status 2 if options do not go together."""
+    """Exits with status 2 if options do not fit each other."""
     if args.lanes.count(",") != 2:
         parser.error(f"--lanes {args.lanes}: name three channels with commas between them")
     if args.words is not None and args.words.count(",") != 2:
@@ -127,7 +127,7 @@ def check_words(parser: ArgumentParser, args: Namespace) -> None:
 
 
 def sliced(args: Namespace, wave: Wave) -> list[Lane]:
-    """The lanes, with all their bits."""
+    """Returns the lanes with all their bits."""
     words = args.lanes.split(",") + ([args.clock] if args.clock else [])
     *channels, last = waveform.channels_of(words, wave.names)
     base: recovery.Base = recovery.Freely()
@@ -156,7 +156,7 @@ def sliced(args: Namespace, wave: Wave) -> list[Lane]:
 
 
 def take_bits(args: Namespace, lanes: list[Lane], piece: waveform.Piece) -> None:
-    """Takes samples that are one a bit. Raises Refused of a dump, which has changes and no samples."""
+    """Takes samples, one for each bit. Raises Refused for a dump, which has changes and no samples."""
     if piece.times is not None:
         raise Refused(f"{args.file}: it has changes and no samples, so --bits does not go with it")
     for lane in lanes:
@@ -164,7 +164,7 @@ def take_bits(args: Namespace, lanes: list[Lane], piece: waveform.Piece) -> None
 
 
 def unit_of(units: float, scale: float | None) -> str:
-    """A time in words: in seconds, or in the dump's units where it does not say what these are."""
+    """Formats a time: in seconds, or in the dump's units if their length is not known."""
     if not scale:
         return f"{units:.9g} units of time"
     unit, power = next((it for it in SECONDS if units * scale * 10 ** it[1] >= 1), SECONDS[0])
@@ -172,7 +172,7 @@ def unit_of(units: float, scale: float | None) -> str:
 
 
 def told_words(columns: sampling.Columns, scale: float | None) -> Iterator[str]:
-    """The lines on the columns of words."""
+    """Yields the lines about the columns of words."""
     step, text = columns.step, f"words: {columns.count} columns"
     if step:
         rate = f" ({1 / (step * scale) / 1e6:.6g} MHz)" if scale else ""
@@ -183,7 +183,7 @@ def told_words(columns: sampling.Columns, scale: float | None) -> Iterator[str]:
 
 
 def take_words(args: Namespace) -> int:
-    """Writes the capture of the words of a dump; the status."""
+    """Writes the capture from the words of a dump. Returns the exit status."""
     if Path(args.file).suffix.lower() not in (".vcd", ".fst"):
         raise Refused(f"{args.file}: --words needs the dump of a simulation. Give a file whose name ends in .vcd or .fst")
     source = dump.Dump(args.file)
@@ -209,12 +209,12 @@ def take_words(args: Namespace) -> int:
 
 
 def say_json(path: str, faulty: bool, says: dict[str, object]) -> None:
-    """Says on standard error, for machines, what was found of a file."""
+    """Prints what was found in a file as JSON, to standard error."""
     print(json.dumps({"file": path, "faulty": faulty} | says, indent=1), file=sys.stderr)
 
 
 def plain_of(lane: Lane, rate: float | None) -> dict[str, object]:
-    """What is said of a lane, for machines."""
+    """Returns the result for a lane as a value for JSON."""
     found = lane.measure
     root, peak = found.jitter
     return {
@@ -233,7 +233,7 @@ def plain_of(lane: Lane, rate: float | None) -> dict[str, object]:
 
 
 def apart(lanes: list[Lane]) -> float:
-    """By how much the lanes' bit rates differ, in parts of them; 0 where that is less than a bit over all."""
+    """Returns the relative difference of the lanes' bit rates, or 0 if it is less than a bit in total."""
     def period(measure: recovery.Measure) -> float:
         return measure.period
 
@@ -243,7 +243,7 @@ def apart(lanes: list[Lane]) -> float:
 
 
 def told(lane: Lane, rate: float | None, has_bits: bool) -> str:
-    """The line of a lane."""
+    """Returns the line about a lane."""
     found = lane.measure
     if has_bits:
         return f"{lane.name}: {found.bits} bits, one sample each, levels {found.levels.low:.4g} and {found.levels.high:.4g}"
@@ -257,11 +257,11 @@ def told(lane: Lane, rate: float | None, has_bits: bool) -> str:
 
 
 def draw(path: str, lanes: list[Lane]) -> None:
-    """The eye diagrams of the lanes, one below the other."""
+    """Draws the eye diagrams of the lanes, one below the other."""
     import matplotlib
 
     matplotlib.use("Agg")
-    with naming(matplotlib.get_cachedir()):  # where it keeps a list of fonts
+    with naming(matplotlib.get_cachedir()):  # matplotlib stores a list of fonts there
         from matplotlib import pyplot
     figure, parts = pyplot.subplots(3, 1, figsize=(7, 11), constrained_layout=True)
     for part, lane in zip(parts, lanes):
@@ -314,5 +314,5 @@ def work(argv: Sequence[str] | None) -> int:
 
 
 def main(argv: Sequence[str] | None = None) -> int:
-    """Runs the tool over its words, those of the command line if none are given; answers its status."""
+    """Runs the tool with `argv`, or with the arguments of the command line. Returns the exit status."""
     return command.run("slice", lambda: work(argv))

@@ -35,13 +35,13 @@ tools/sound same.wav < bars.tmc"""
 
 
 def heard_in(source: BinaryIO) -> Heard:
-    """The sound of a capture or of a listing."""
+    """Reads the sound of a capture or of a listing."""
     with capture.path_in(source) as path:
         return heard_by(path) if path else heard_by_lines(source)
 
 
 def heard_by(path: Path) -> Heard:
-    """The sound of a capture. Slips, a reading anew and a capture that is cut off are said first."""
+    """Reads the sound of a capture. Slips, a second reading and a capture that is cut off are reported first."""
     it = reading.read(path)
     it.refuse_unaligned()
     for note in it.notes:
@@ -51,12 +51,12 @@ def heard_by(path: Path) -> Heard:
 
 
 def heard_by_lines(source: BinaryIO) -> Heard:
-    """The sound of a listing: its first line that is no fault says of which kind it is."""
+    """Reads the sound of a listing. The first line that is not a fault decides which kind of listing it is."""
     is_link, lines = listing.either(source, listing.ANY, listing.SOUND)
     whole = tqdm(lines, unit="line", disable=None)
     if is_link:
         its = packets_of(listing.parsed(whole))
-        its = replace(its, at=its.place)  # a listing does not say all columns
+        its = replace(its, at=its.place)  # a listing does not give all columns
         return heard_of(its, samples_of(its, its.at[its.lost]))
     heard = Heard()
     for number, name, fields in whole:
@@ -66,7 +66,7 @@ def heard_by_lines(source: BinaryIO) -> Heard:
 
 
 def heard_by_words(args: argparse.Namespace) -> Heard:
-    """The sound of standard input, or of the files of pairs."""
+    """Reads the sound of standard input, or of the files of pairs."""
     if not args.pairs:
         return heard_in(sys.stdin.buffer)
     found = []
@@ -85,7 +85,7 @@ def heard_by_words(args: argparse.Namespace) -> Heard:
 
 
 def judge(heard: Heard, clock: int | None) -> None:
-    """Says what the sound is beside what is written, and counts it as a fault where the rates that are told disagree."""
+    """Describes the sound. It counts as a fault if the sampling rates disagree."""
     found = heard.rates(clock)
     if len(set(found.values())) > 1:
         heard.faults["rate"] += 1
@@ -108,7 +108,7 @@ def refuse_nothing(heard: Heard) -> None:
 
 
 def narrow(heard: Heard, rate: int, bits: int | None) -> pcm.Sound:
-    """A sound of two channels, of 16 bits where the others are 0."""
+    """Returns a sound with two channels. It has 16 bits if all lower bits are 0."""
     left, right = map(bytes, heard.sides[:2])
     if bits is None:
         bits = 24 if any(left[2::3]) or any(right[2::3]) else 16
@@ -116,7 +116,7 @@ def narrow(heard: Heard, rate: int, bits: int | None) -> pcm.Sound:
 
 
 def write(args: argparse.Namespace, heard: Heard) -> str:
-    """Writes the file, and answers what it has in words."""
+    """Writes the file. Returns a description of its content."""
     rate = args.rate or heard.rate(args.clock)
     sound: pcm.Sound | Wide
     if heard.is_wide or args.allocation is not None:
@@ -136,7 +136,7 @@ def write(args: argparse.Namespace, heard: Heard) -> str:
 
 
 def parser() -> argparse.ArgumentParser:
-    """The parser of the tool's words."""
+    """Returns the tool's argument parser."""
     found = command.parser("sound", TEXT, "done, and a fault touched the sound", EXAMPLES)
     found.add_argument("file", metavar="FILE.wav", help="the file to write")
     rate = found.add_mutually_exclusive_group()
@@ -153,7 +153,7 @@ def parser() -> argparse.ArgumentParser:
 
 
 def work(argv: list[str] | None) -> int:
-    """Does the tool's work and returns its status."""
+    """Does the work of the tool. Returns the exit status."""
     words = parser()
     args = words.parse_args(argv)
     if any(value is not None and value < 1 for value in (args.rate, args.clock)):
@@ -170,5 +170,5 @@ def work(argv: list[str] | None) -> int:
 
 
 def main(argv: list[str] | None = None) -> int:
-    """Runs the tool over its words, those of the command line if none are given; answers its status."""
+    """Runs the tool with `argv`, or with the arguments of the command line. Returns the exit status."""
     return command.run("sound", lambda: work(argv))

@@ -30,7 +30,7 @@ tools/lanes blocks bars.tmc --bits 54000 --repeat 9 | tools/stream --raw --y4m -
 
 
 def parser() -> argparse.ArgumentParser:
-    """The parser of the tool's words."""
+    """Returns the tool's argument parser."""
     found = command.parser("stream", TEXT, FAULTY, EXAMPLES)
     found.add_argument("capture", metavar="CAPTURE", nargs="?", default="-", help="a file or a FIFO (default: standard input)")
     found.add_argument("--follow", action="store_true", help="at the end of the file, wait for more until the capture is whole")
@@ -52,7 +52,7 @@ def parser() -> argparse.ArgumentParser:
 
 
 def sinks_of(args: argparse.Namespace) -> list[Sink]:
-    """Where the stream goes. Refused if two go to standard output, or one to a terminal."""
+    """Returns the outputs of the stream. Refuses two outputs to standard output, and output to a terminal."""
     names = [args.output or (None if args.y4m or args.wav else "-"), args.y4m, args.wav]
     if names.count("-") > 1:
         raise Refused("only one of -o, --y4m and --wav can be standard output")
@@ -63,7 +63,7 @@ def sinks_of(args: argparse.Namespace) -> list[Sink]:
 
 
 def written(link: Link, streamer: Streamer) -> int:
-    """Writes the stream; answers the status."""
+    """Writes the stream. Returns the exit status."""
     for part in Ahead(link.parts()):
         streamer.take(part)
     streamer.end()
@@ -83,7 +83,7 @@ def written(link: Link, streamer: Streamer) -> int:
 
 
 def work(argv: Sequence[str] | None) -> int:
-    """The tool's work: its status."""
+    """Does the work of the tool. Returns the exit status."""
     args = parser().parse_args(argv)
     sinks = sinks_of(args)
     from vabgrot.tools.watch import stop_on_signals
@@ -95,5 +95,5 @@ def work(argv: Sequence[str] | None) -> int:
 
 
 def main(argv: Sequence[str] | None = None) -> int:
-    """Runs the tool over its words, those of the command line if none are given; answers its status."""
+    """Runs the tool with `argv`, or with the arguments of the command line. Returns the exit status."""
     return command.run("stream", lambda: work(argv))

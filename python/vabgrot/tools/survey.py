@@ -38,30 +38,30 @@ The table is written row by row. If you stop a survey, the next one continues: i
 changed. If an alignment was wrong, the capture is read again as `recover relock` reads it. The column `relocked` says so,
 and the counts are those of the second reading."""
 FAULTY = "done, and a capture is not clean"
-CONNECT = "DASK_DISTRIBUTED__COMM__TIMEOUTS__CONNECT"  # Dask's own
+CONNECT = "DASK_DISTRIBUTED__COMM__TIMEOUTS__CONNECT"  # Dask's variable
 EXAMPLES = """mkdir -p captures
 ./vabgrot make link < examples/red.link > captures/red.tmc
 ./vabgrot make content < examples/bars.content > captures/bars.tmc
 tools/survey captures -o survey.csv"""
 THINGS = ("columns", "lines", "pixels", "islands", "packets", "cut")
 FAULTS = (*(kind for kind in faults.LINK if kind not in ("guard", "slip")), "guard")  # in the order of docs/guide/FORMATS.md
-CONTENTS = tuple(faults.CONTENT)  # faults that `recover content` alone writes
+CONTENTS = tuple(faults.CONTENT)  # faults that only `recover content` writes
 HEAD = ("path", "bytes", "modified", "verdict", "note", *THINGS, "faults", *FAULTS, "contents", *CONTENTS)
 HEAD += ("slips", "relocked", "format", "timing", "seconds")
 UNTIMED = ("refused", "not aligned", "failed")
-Row = dict[str, str | int]  # of the table, by its columns
+Row = dict[str, str | int]  # a row of the table, by column
 
 
 @dataclass(frozen=True)
 class Asked:
-    """What is asked of each capture: whether it is one of DVI, and its video timing."""
+    """What to do with each capture: whether to read it as DVI, and whether to measure its timing."""
 
     is_dvi: bool = False
     timing: bool = False
 
 
 def row_of(path: str, asked: Asked) -> Row:
-    """The verdict on one capture, and the counts of what it carries."""
+    """Returns the verdict on one capture, and the counts of its contents."""
     began = time.monotonic()
     row: Row = {"path": path, "format": ""}
     try:
@@ -73,7 +73,7 @@ def row_of(path: str, asked: Asked) -> Row:
 
 
 def judged(path: Path, asked: Asked) -> Row:
-    """The verdict on one capture by the package, and its counts."""
+    """Judges one capture in this process. Returns the row."""
     from vabgrot import library, verdict
 
     try:
@@ -89,7 +89,7 @@ def judged(path: Path, asked: Asked) -> Row:
 
 
 def counted(found: "Verdict") -> Row:
-    """The word, the headline and the counts of a verdict."""
+    """Returns the word, the headline and the counts of a verdict."""
     from vabgrot.events import Kind
 
     its = found.reading.events
@@ -110,7 +110,7 @@ def counted(found: "Verdict") -> Row:
 
 
 def captures_of(places: Iterable[str]) -> list[str]:
-    """The captures that were named, and the files *.tmc of the folders, each once."""
+    """Returns the named captures, and the files *.tmc of named folders, each once."""
     paths = []
     for place in map(Path, places):
         if place.is_dir():
@@ -123,7 +123,7 @@ def captures_of(places: Iterable[str]) -> list[str]:
 
 
 class Table:
-    """The file of the rows: one is added as soon as it is there."""
+    """The file with the rows. A row is added as soon as it is known."""
 
     def __init__(self, path: Path, anew: bool) -> None:
         self.path = path
@@ -134,7 +134,7 @@ class Table:
         self.file = open(path, "ab", buffering=0)
 
     def read(self) -> None:
-        """Takes the whole rows of an earlier survey; the last one may break off. Raises Refused where there is none."""
+        """Reads the complete rows of an earlier survey. The last row may be incomplete. Raises Refused if the file is not such a table."""
         text = self.path.read_text("utf-8", "surrogateescape")
         lines = text[: text.rfind("\n") + 1].splitlines()
         rows = csv.DictReader(lines)
@@ -145,14 +145,14 @@ class Table:
                 self.rows[row["path"]] = {**row}
 
     def replace(self, rows: Iterable[Row]) -> None:
-        """Writes these rows in place of all others, at one stroke."""
+        """Replaces all rows atomically."""
         with replacing(self.path, "w", newline="", encoding="utf-8", errors="surrogateescape") as file:
             writer = csv.DictWriter(file, HEAD, restval=0, extrasaction="ignore")
             writer.writeheader()
             writer.writerows(rows)
 
     def has(self, path: str, asked: Asked) -> bool:
-        """Whether a capture was judged and is as it was, and its timing too where that is asked."""
+        """Returns whether a capture was judged (with its timing, if required) and has not changed since."""
         row = self.rows.get(path)
         found = os.stat(path)
         if row is None or (row["bytes"], row["modified"]) != (str(found.st_size), str(found.st_mtime_ns)):
@@ -160,7 +160,7 @@ class Table:
         return not asked.timing or bool(row["format"]) or row["verdict"] in UNTIMED
 
     def add(self, row: Row) -> None:
-        """Adds a row to the file, all of it or nothing."""
+        """Appends a row to the file, completely or not at all."""
         self.rows[str(row["path"])] = row
         text = io.StringIO(newline="")
         csv.DictWriter(text, HEAD, restval=0, extrasaction="ignore").writerow(row)
@@ -175,8 +175,8 @@ class Table:
                 raise
 
     def ended(self, paths: list[str]) -> list[Row]:
-        """Writes the rows of these captures in order, and behind them those of others that are still there, in place of
-        what came as it came; answers the first."""
+        """Rewrites the table: first the rows of these captures in order, then the rows of other captures that still exist. Returns the
+        first ones."""
         self.file.close()
         rows = [{name: self.rows[path].get(name, 0) for name in HEAD} for path in paths if path in self.rows]
         others = [row for path, row in self.rows.items() if path not in set(paths) and os.path.exists(path)]
@@ -185,14 +185,14 @@ class Table:
 
 
 def begin(places: "multiprocessing.SimpleQueue[int]") -> None:
-    """Begins a process that judges captures, on a processor of its own; an interrupt is the survey's."""
+    """Sets up a worker process: its processor, and no reaction to Ctrl-C, which the survey handles."""
     signal.signal(signal.SIGINT, signal.SIG_IGN)
     os.sched_setaffinity(0, {places.get()})
 
 
 def here(paths: list[str], asked: Asked) -> Iterator[Row]:
-    """The rows of captures that are judged on this machine, as they come: a process on each processor. The processes are there when this
-    returns, so that no thread of this process is copied."""
+    """Yields the rows of captures that this machine judges, as they are ready. There is one process for each processor. All of them are
+    started before this returns, so that no thread of this process is copied."""
     context = multiprocessing.get_context("fork")
     places, processors = context.SimpleQueue(), sorted(os.sched_getaffinity(0))
     for place in processors:
@@ -203,7 +203,7 @@ def here(paths: list[str], asked: Asked) -> Iterator[Row]:
 
 
 def rows_of(pool: ProcessPoolExecutor, waits: "dict[Future[Row], str]") -> Iterator[Row]:
-    """The rows of captures that wait for a process, as they come."""
+    """Yields the rows of captures that wait for a process, as they are ready."""
     try:
         for wait in as_completed(waits):
             try:
@@ -219,7 +219,7 @@ def rows_of(pool: ProcessPoolExecutor, waits: "dict[Future[Row], str]") -> Itera
 
 
 def row_there(path: str, flags: tuple[bool, bool]) -> Row:
-    """The row of a capture on a worker, which is given nothing that this module declares."""
+    """Returns the row of a capture on a remote worker. The function is sent without this module's declarations."""
     try:
         return row_of(path, Asked(*flags))
     except ImportError as why:
@@ -227,7 +227,7 @@ def row_there(path: str, flags: tuple[bool, bool]) -> Row:
 
 
 def elsewhere(paths: list[str], scheduler: str, asked: Asked) -> Iterator[Row]:
-    """The rows of captures that the workers of a scheduler judge. Dask gives what a lost worker had to another one."""
+    """Yields the rows of captures that a scheduler's workers judge. If a worker is lost, Dask gives its captures to another one."""
     try:
         import cloudpickle
         import distributed
@@ -251,7 +251,7 @@ def elsewhere(paths: list[str], scheduler: str, asked: Asked) -> Iterator[Row]:
 
 
 def page(rows: list[Row]) -> str:
-    """The table as HTML: the columns in which something stands."""
+    """Returns the table as HTML. Empty columns are left out."""
     totals = Counter(row["verdict"] for row in rows)
     shown = [name for name in HEAD if name != "modified" and any(str(row[name]) not in ("0", "") for row in rows)]
     told = ", ".join(f"{count} {verdict}" for verdict, count in sorted(totals.items()))
@@ -273,13 +273,13 @@ def page(rows: list[Row]) -> str:
 
 
 def plain_of(row: Row) -> dict[str, str | int | float]:
-    """A row for machines: its counts are numbers."""
+    """Returns a row as a value for JSON, with its counts as numbers."""
     texts = ("path", "verdict", "note", "format")
     return {name: value if name in texts else float(value) if name == "seconds" else int(value) for name, value in row.items()}
 
 
 def parser() -> argparse.ArgumentParser:
-    """The parser of the tool's words."""
+    """Returns the tool's argument parser."""
     found = command.parser("survey", TEXT, FAULTY, EXAMPLES, "done, and every capture is clean")
     text = "a capture, or a folder whose files *.tmc are judged, with those of its folders"
     found.add_argument("places", nargs="+", metavar="DIR-OR-CAPTURE", help=text)
@@ -326,5 +326,5 @@ def work(argv: Sequence[str] | None) -> int:
 
 
 def main(argv: Sequence[str] | None = None) -> int:
-    """Runs the tool over its words, those of the command line if none are given; answers its status."""
+    """Runs the tool with `argv`, or with the arguments of the command line. Returns the exit status."""
     return command.run("survey", lambda: work(argv))

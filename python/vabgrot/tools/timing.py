@@ -33,7 +33,7 @@ NOTHING = "no row of pixels was received, so there is no raster"
 
 
 def positive(text: str) -> float:
-    """A number of the command line that is more than 0."""
+    """Reads a number greater than 0."""
     try:
         value = float(text)
     except ValueError:
@@ -44,7 +44,7 @@ def positive(text: str) -> float:
 
 
 def said_of(found: list[Timing], read: Reading) -> list[Note]:
-    """What is said of the whole capture, slips first."""
+    """Returns the notes about the whole capture, slips first."""
     notes = [Note(text, text != read.bits.words) for text in read.notes]
     if not read.is_aligned:
         return [*notes, Note(UNALIGNED)]
@@ -55,7 +55,7 @@ def said_of(found: list[Timing], read: Reading) -> list[Note]:
 
 
 def lines_of(timing: Timing) -> list[str]:
-    """What is said of one raster, as lines of text."""
+    """Returns the lines about one raster."""
     table = [("", list(PARTS), "polarity"), *timing.table]
     lines = [timing.size, f"  format: {timing.head.text}"]
     for name, cells, sign in table:
@@ -65,7 +65,7 @@ def lines_of(timing: Timing) -> list[str]:
 
 
 def parser() -> argparse.ArgumentParser:
-    """The parser of the tool's words."""
+    """Returns the tool's argument parser."""
     found = command.parser("timing", TEXT, FAULTY, EXAMPLES, "done, and the timing is that of a format")
     command.add_capture(found)
     rate = found.add_mutually_exclusive_group()
@@ -92,5 +92,5 @@ def work(argv: Sequence[str] | None) -> int:
 
 
 def main(argv: Sequence[str] | None = None) -> int:
-    """Runs the tool over its words, those of the command line if none are given; answers its status."""
+    """Runs the tool with `argv`, or with the arguments of the command line. Returns the exit status."""
     return command.run("timing", lambda: work(argv))

@@ -40,7 +40,7 @@ PICO = 1_000_000_000_000
 
 
 def parser() -> argparse.ArgumentParser:
-    """The parser of the tool's words."""
+    """Returns the tool's argument parser."""
     found = command.parser("waves", TEXT, examples=EXAMPLES)
     command.add_capture(found)
     command.add_dvi(found)
@@ -53,7 +53,7 @@ def parser() -> argparse.ArgumentParser:
 
 
 def check_words(found: argparse.ArgumentParser, args: argparse.Namespace) -> float | None:
-    """The pixel clock, if it is given. Ends with status 2 if words do not go together."""
+    """Returns the pixel clock if it is given. Exits with status 2 if options do not fit each other."""
     if (args.dump is None) != (args.words is None) or args.words and args.words.count(",") != 2:
         found.error("--dump and --words go together, and --words has three variables with commas between them")
     if args.dump or args.clock is None:
@@ -68,13 +68,13 @@ def check_words(found: argparse.ArgumentParser, args: argparse.Namespace) -> flo
 
 
 def times_of(args: argparse.Namespace) -> tuple[Ints, dump.Dump]:
-    """The time of each column of the words of a dump, at which they change to it; and the dump."""
+    """Returns the time of each column in a dump of words, and the dump. The time is when the words change to this column."""
     source = dump.Dump(args.dump)
     lanes, clock = sampling.variables_of(source, args.words.split(","), args.clock)
     stretches = sampling.by_clock(source, lanes, clock) if clock else sampling.by_step(source, lanes, sampling.MOST_AT_ONCE)
     every = [(it.first, it.last, it.columns, sampling.UNKNOWN not in it.words) for it in stretches]
     times = column_times((first, last, count) for first, last, count, _ in every)
-    if clock and len(times):  # a register takes at a rise what has stood there since the one before
+    if clock and len(times):  # at a rising edge a register takes the value that it had since the edge before
         times = np.append(max(0, 2 * times[0] - times[min(1, len(times) - 1)]), times[:-1])
     is_whole = np.repeat([it[3] for it in every], [it[2] for it in every])
     whole: Ints = times[is_whole]
@@ -82,7 +82,7 @@ def times_of(args: argparse.Namespace) -> tuple[Ints, dump.Dump]:
 
 
 def by_dump(times: Ints) -> Times:
-    """The times of bits by those of columns."""
+    """Returns a function that converts bits to times, given the times of columns."""
 
     def found(bits: Ints) -> Ints:
         if not len(times):
@@ -95,7 +95,7 @@ def by_dump(times: Ints) -> Times:
 
 
 def by_clock(clock: Fraction) -> Times:
-    """The times of bits in picoseconds by the columns a second."""
+    """Returns a function that converts bits to picoseconds, given the columns a second."""
     period = float(PICO / clock / TEN)
 
     def found(bits: Ints) -> Ints:
@@ -106,7 +106,7 @@ def by_clock(clock: Fraction) -> Times:
 
 
 def traced(link: Link, path: Path, pace: Pace) -> tuple[Trace, Paced]:
-    """What a link carried, and how many columns a second it has."""
+    """Returns the changes of a link, and its columns a second."""
 
     def start(searched: int) -> int:
         found = alignment_of(path, searched, link.kind == "relock")
@@ -125,7 +125,7 @@ def traced(link: Link, path: Path, pace: Pace) -> tuple[Trace, Paced]:
 
 
 def write(lines: Iterable[str], path: str | None) -> None:
-    """Writes a dump, as FST if its file is named so."""
+    """Writes a dump. If the file is named .fst it is converted to FST."""
     if path is None:
         sys.stdout.writelines(f"{line}\n" for line in lines)
         return
@@ -146,7 +146,7 @@ def write(lines: Iterable[str], path: str | None) -> None:
 
 
 def work(argv: Sequence[str] | None) -> int:
-    """The tool's work: its status."""
+    """Does the work of the tool. Returns the exit status."""
     found = parser()
     args = found.parse_args(argv)
     pace = Pace(check_words(found, args))
@@ -166,5 +166,5 @@ def work(argv: Sequence[str] | None) -> int:
 
 
 def main(argv: Sequence[str] | None = None) -> int:
-    """Runs the tool over its words, those of the command line if none are given; answers its status."""
+    """Runs the tool with `argv`, or with the arguments of the command line. Returns the exit status."""
     return command.run("waves", lambda: work(argv))
