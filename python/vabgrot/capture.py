@@ -16,11 +16,15 @@ MOST_BITS = (1 << 32) - 1
 HEADER = 16  # the greatest size of a header in bytes
 
 
+def head_of(counts: Sequence[int]) -> bytes:
+    """The header of a capture: the bits of each lane, or one number for all."""
+    return (b"TMC2" if len(counts) > 1 else b"TMC1") + b"".join(count.to_bytes(4, "big") for count in counts)
+
+
 def write(out: IO[bytes], lanes: Sequence[IO[bytes]], counts: Sequence[int]) -> None:
     """Writes a capture of three lanes, which are open files of bits (the first bit lowest). `counts` gives the bits of each lane. In
     version 1 it is one number for all lanes. Raises OSError."""
-    out.write(b"TMC2" if len(counts) > 1 else b"TMC1")
-    out.write(b"".join(count.to_bytes(4, "big") for count in counts))
+    out.write(head_of(counts))
     for _ in range(0, (max(counts) + 7) // 8, BLOCK):
         out.writelines(lane.read(BLOCK) for lane in lanes)
     out.flush()

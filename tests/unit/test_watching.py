@@ -34,7 +34,7 @@ def counted(parts):
     """What is counted of some events, what the ear heard, and what a look saw."""
     count, look, heard = Count(), Look(), []
     for part in parts:
-        count.take(part, heard.append)
+        count.take(part, heard.extend)
         look.take(part)
     return count, look, heard
 

@@ -4,7 +4,6 @@ from __future__ import annotations
 
 import argparse
 import contextlib
-import csv
 import os
 import signal
 import sys
@@ -17,31 +16,43 @@ from typing import Any, Protocol
 
 from vabgrot import command
 from vabgrot.errors import Refused
-from vabgrot.events import Event, Events
+from vabgrot.events import LANED, WORDS, Events, numbers_of
+from vabgrot.formats.faults import LINK
+from vabgrot.flow.parts import LIVE
+from vabgrot.library import Grammar
 from vabgrot.reading import UNALIGNED
 from vabgrot.tools.timing import positive
 from vabgrot.verdict import Word
 from vabgrot.video.matching import Rate
 from vabgrot.watching.counting import Count, Ear
 from vabgrot.watching.feeding import Feed
+from vabgrot.watching.happenings import happening
+from vabgrot.watching.keeping import Kept
 from vabgrot.watching.looking import Looks
+from vabgrot.watching.notices import KINDS
 from vabgrot.watching.state import State
+from vabgrot.watching.tables import table_in
 
 TEXT = """Shows a capture while it arrives, from standard input, a FIFO, or a file that grows. With --raw, it shows a live
 link: raw blocks without a header and without an end. Ctrl-C ends the tool with a summary.
 
 The view shows whether the lanes are aligned and since when, columns per second, the video format, frames, faults by kind
-and lane, packets, sound levels, the last ten faults, and a small picture of the last frame. If the output is not a
-terminal, the tool writes a line each second.
+and lane, packets, sound levels, the last ten faults, and a small picture of the last frame. It says if nothing comes, at
+all or on a lane. If the output is not a terminal, the tool writes a line each second.
 
-All faults and columns are counted. The view takes at most a twentieth of the time, and says if it cannot show every frame."""
+All faults and columns are counted. The view takes at most a twentieth of the time, and says if it cannot show every frame.
+
+With --events, what happens goes into a table with its time. With --stop-on, the tool ends at an event, and with --keep it
+then writes what came before."""
 FAULTY = "done, and there was a fault, or the lanes were not aligned"
 EXAMPLES = """./vabgrot make content < examples/bars.content > bars.tmc
 cat bars.tmc | tools/watch --log faults.csv
-tools/watch --follow --stop-on-fault bars.tmc"""
+tools/watch --follow --stop-on-fault bars.tmc
+tools/lanes blocks bars.tmc --bits 54000 --repeat 99 | tools/watch --raw --events events.csv --stop-on slip --keep 2"""
 EACH = 0.25  # seconds between two views, at least
 REST = 40  # times as long as a view takes to draw passes before the next one: drawing has half of the time of what looks
 SECOND = 1.0
+Row = tuple[str, str, int | str, int, int, str]
 HEADS = ("seconds", "kind", "lane", "epoch", "column", "numbers")
 
 
@@ -105,18 +116,22 @@ def viewing(state: State, is_plain: bool) -> Iterator[View]:
 @contextlib.contextmanager
 def logging(path: Path | None, state: State) -> Iterator[Ear | None]:
     """What writes each fault into a CSV file as it comes; None where none is wanted."""
-    if path is None:
-        yield None
-        return
-    with open(path, "w", encoding="utf-8", newline="", buffering=1 << 16) as file:
-        rows = csv.writer(file, lineterminator="\n")
-        rows.writerow(HEADS)
+    with table_in(path, HEADS) as table:
 
-        def write(fault: Event) -> None:
-            lane = "" if fault.lane is None else fault.lane
-            rows.writerow((f"{state.seconds:.3f}", fault.kind.word, lane, fault.epoch, fault.first, " ".join(map(str, fault.more))))
+        def write(faults: Events) -> None:
+            if table:
+                table.write(rows_of(faults, f"{state.seconds:.3f}"))
 
-        yield write
+        yield write if table else None
+
+
+def rows_of(faults: Events, seconds: str) -> Iterator[Row]:
+    """The rows of faults, by HEADS."""
+    its = faults.kind.tolist(), faults.epoch.tolist(), faults.first.tolist(), faults.value.tolist(), faults.second.tolist()
+    for kind, epoch, first, value, second in zip(*its):
+        lane: int | str = value if kind in LANED else ""
+        more = numbers_of(kind, first, value, second)[1 + (kind in LANED) :]
+        yield seconds, WORDS[kind], lane, epoch, first, " ".join(map(str, more))
 
 
 @contextlib.contextmanager
@@ -151,6 +166,8 @@ class Watch:
                 if not self.take(events):
                     return False
             self.state.sample()
+            if self.state.happenings and not self.state.happenings.idle(feed):
+                return False
             if time.monotonic() >= shown + view.each:
                 view.show()
                 shown = time.monotonic()
@@ -162,12 +179,12 @@ class Watch:
         if len(its):
             self.state.count.take(its, self.ear)
             self.state.looks.take(its)
-        return not faults
+        wanted = self.state.happenings is None or self.state.happenings.take(its)
+        return wanted and not faults
 
 
 def ended(state: State) -> int:
-    """What is said at the end, and the status."""
-    print("\n".join(state.summary()))
+    """What is said last, and the status."""
     if state.feed.error:
         raise state.feed.error
     if state.feed.refusal:
@@ -191,10 +208,9 @@ def parser() -> argparse.ArgumentParser:
     found = command.parser("watch", TEXT, FAULTY, EXAMPLES)
     found.add_argument("capture", metavar="CAPTURE", nargs="?", default="-", help="a file or a FIFO (default: standard input)")
     found.add_argument("--follow", action="store_true", help="at the end of the file, wait for more until the capture is whole")
-    kind = found.add_mutually_exclusive_group()
-    command.add_dvi(kind)
+    command.add_dvi(found)
     text = "read raw blocks without a header and without an end: 4,096 bytes of each lane in turn"
-    kind.add_argument("--raw", action="store_true", help=text)
+    found.add_argument("--raw", action="store_true", help=text)
     rate = found.add_mutually_exclusive_group()
     rate.add_argument("--clock", type=positive, metavar="HZ", help="the pixel clock of the link")
     text = "the frames per second of the link, or fields per second of interlaced video"
@@ -202,7 +218,28 @@ def parser() -> argparse.ArgumentParser:
     found.add_argument("--log", type=Path, metavar="FILE.csv", help="write each fault into a table, as it arrives")
     found.add_argument("--metrics", type=port, metavar="PORT", help="serve counters for Prometheus on this port of 127.0.0.1")
     found.add_argument("--stop-on-fault", action="store_true", help="end at the first fault")
+    add_events(found)
     found.add_argument("--plain", action="store_true", help="write a line each second instead of the view")
+    return found
+
+
+def add_events(found: argparse.ArgumentParser) -> None:
+    """Adds the options for what happens on a link."""
+    text = "write what happens into a table: alignments, slips, faults (at most 20 of a kind a second), changes, gaps, lanes that die"
+    found.add_argument("--events", type=Path, metavar="FILE.csv", help=text)
+    found.add_argument("--frames", type=Path, metavar="FILE.csv", help="write each whole frame into a table, with the CRC-32 of its bytes")
+    text = "end at the first event of these kinds, such as slip,relock,unaligned,frozen,black,format,changed,quiet,stalled,dead"
+    found.add_argument("--stop-on", type=kinds_of, metavar="KIND[,KIND]", default=frozenset(), help=text)
+    found.add_argument("--keep", type=positive, metavar="SECONDS", help="at the end, write the bits of the last seconds as a capture")
+    text = "the capture that --keep writes (default: %(default)s)"
+    found.add_argument("--kept", type=Path, metavar="FILE.tmc", default="kept.tmc", help=text)
+
+
+def kinds_of(text: str) -> frozenset[str]:
+    """The kinds of events of a word of the command line."""
+    known, found = KINDS | LINK.keys(), frozenset(text.split(","))
+    if wrong := sorted(found - known):
+        raise argparse.ArgumentTypeError(f"{wrong[0]}: no kind of event. The kinds are {', '.join(sorted(known))}")
     return found
 
 
@@ -219,25 +256,49 @@ def stop_on_signals(feed: Feed) -> None:
     signal.signal(signal.SIGTERM, stop)
 
 
+def grammar_of(args: argparse.Namespace) -> Grammar:
+    """How the link is received: a live one, which cannot be read twice, as `recover relock` does it."""
+    if args.dvi:
+        return "dvi"
+    return LIVE if args.raw else "track"
+
+
+def write_kept(feed: Feed, path: Path, seconds: float) -> None:
+    """Writes what was kept."""
+    if feed.kept:
+        bits = feed.kept.write(path)
+        print(f"the last {seconds:g} s are in {path}: {bits:,} bits a lane")
+
+
+def watched(args: argparse.Namespace, state: State) -> None:
+    """Watches a link to its end."""
+    is_plain = args.plain or not sys.stdout.isatty()
+    with contextlib.ExitStack() as stack:
+        ear = stack.enter_context(logging(args.log, state))
+        how = args.events, args.frames, args.stop_on, args.dvi, args.metrics is not None
+        state.happenings = stack.enter_context(happening(*how))
+        with viewing(state, is_plain) as view:
+            Watch(state, ear, args.stop_on_fault).run(view)
+            state.end()
+
+
 def work(argv: Sequence[str] | None) -> int:
     args = parser().parse_args(argv)
     if args.capture == "-" and sys.stdin.isatty():
         raise Refused("standard input is a terminal. Name a file, or send a capture there: `tools/watch < my.tmc`")
-    is_plain = args.plain or not sys.stdout.isatty()
     with opened(args.capture, args.follow) as source:
-        feed = Feed(source, "dvi" if args.dvi else "track", args.follow, args.raw)
+        feed = Feed(source, grammar_of(args), args.follow, args.raw)
         try:
             stop_on_signals(feed)
+            feed.kept = Kept(args.keep) if args.keep else None
             state = State(feed, Count(), Looks(feed.grammar, Rate(args.clock, args.rate)))
             if args.metrics:
                 from vabgrot.watching.metrics import serve
 
                 serve(state, args.metrics)
-            with logging(args.log, state) as ear:
-                watch = Watch(state, ear, args.stop_on_fault)
-                with viewing(state, is_plain) as view:
-                    watch.run(view)
-                    state.end()
+            watched(args, state)
+            print("\n".join(state.summary()))
+            write_kept(feed, args.kept, args.keep)
             return ended(state)
         finally:
             feed.close()

@@ -4,8 +4,9 @@ which a file is read without a copy."""
 from __future__ import annotations
 
 import os
-from bisect import bisect_right
+from bisect import bisect_left, bisect_right
 from collections.abc import Sequence
+from functools import partial
 
 import numpy as np
 
@@ -24,7 +25,7 @@ class Blocks:
     """Room for the next blocks of three lanes, each of which has so many bytes in all."""
 
     def __init__(self, sizes: Sequence[int] = (WITHOUT_END,) * LANES) -> None:
-        self.left = list(sizes)
+        self.sizes, self.left = list(sizes), list(sizes)
         self.rooms: list[Octets] = [np.empty(LONGEST, np.uint8) for _ in range(LANES)]
         self.most = FEW
         self.usual: Cut = [], [], []
@@ -85,6 +86,12 @@ class Blocks:
         block = at // BLOCK * BLOCK
         before = sum(min(left, block) for left in self.left)
         return before + sum(min(BLOCK, max(0, left - block)) for left in self.left[:lane]) + at - block
+
+    def came(self) -> list[int]:
+        """How many bytes of each lane came in all."""
+        rooms = [range(min(LONGEST, left)) for left in self.left]
+        there = [bisect_left(room, self.filled, key=partial(self.place, lane)) for lane, room in enumerate(rooms)]
+        return [size - left + more for size, left, more in zip(self.sizes, self.left, there)]
 
     def take(self, count: int) -> None:
         """So many blocks of each lane are done with: those behind them move up."""

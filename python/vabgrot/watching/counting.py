@@ -12,13 +12,41 @@ from vabgrot.content import Vsync, packets_of
 from vabgrot.events import ENDS, IS_LANED, WORDS, Event, Events, Ints, Kind
 from vabgrot.formats.characters import LANES
 from vabgrot.formats.layouts import CARRIED, Type
+from vabgrot.reading import openings_of
 
 Key = tuple[str, int | None]  # the kind of a fault, and its lane
 KINDS = WORDS[Kind.WORD :]  # of faults
 FLEETING = (Type.NULL, Type.SAMPLES, Type.ONE_BIT, Type.DST, Type.HIGH_RATE)  # packets that do not stand
 LAST = 10  # faults that are kept
+ASTRAY = 10  # openings one after another without a whole guard band: one wrong bit in a thousand makes so many once in a year
 WAYS = len(LANES) + 1  # a fault has one of the lanes, or none
-Ear = Callable[[Event], None]
+Ear = Callable[[Events], None]
+
+
+@dataclass
+class Fit:
+    """Whether rows and islands open as they should: how many, one after another up to now, have no whole guard band."""
+
+    missing: int = 0
+    is_known: bool = False  # whether anything opened
+
+    @property
+    def may_fit(self) -> bool:
+        """Whether they do, or nothing opened yet."""
+        return self.missing < ASTRAY
+
+    @property
+    def fits(self) -> bool:
+        """Whether something opened, and they do."""
+        return self.is_known and self.may_fit
+
+    def take(self, events: Events) -> None:
+        """The next events of an epoch."""
+        _, whole = openings_of(events)
+        if len(whole):
+            right = np.flatnonzero(whole)
+            self.missing = len(whole) - 1 - int(right[-1]) if len(right) else self.missing + len(whole)
+            self.is_known = True
 
 
 @dataclass
@@ -28,16 +56,22 @@ class Count:
     columns: int = 0
     before: int = 0
     epoch: int = 0
-    is_aligned: bool = False
+    is_heard: bool = False  # whether this epoch has columns
     was_aligned: bool = False  # in any epoch
+    fit: Fit = field(default_factory=Fit)
     times: Ints = field(default_factory=lambda: np.zeros(len(Kind) * WAYS, np.int64))  # of faults, by kind and lane
     last: deque[Event] = field(default_factory=lambda: deque(maxlen=LAST))
     kept: dict[int, bytes] = field(default_factory=dict)  # of each type the last packet that no block is lost of: its header, its bodies
-    slip: Event | None = None  # the last one
+    slip: Event | None = None  # the last slip or relock
     frames: int = 0  # whole frames: the rows between two changes of VSYNC
     vsync: Vsync = field(default_factory=Vsync)
     is_begun: bool = False  # whether VSYNC changed in this epoch
     rows: int = 0  # since it did
+
+    @property
+    def is_aligned(self) -> bool:
+        """Whether the lanes are aligned, as far as openings tell."""
+        return self.is_heard and self.fit.may_fit
 
     @property
     def total(self) -> int:
@@ -55,17 +89,16 @@ class Count:
         return dict(sorted(self.kept.items()))
 
     def take(self, events: Events, ear: Ear | None = None) -> None:
-        """The next events. The ear is told each fault, which takes time."""
+        """The next events. The ear is told the faults."""
         faults, begin = events.faults, 0
         for end in [*events.of(*ENDS).tolist(), len(events)]:
             self.part(events[begin:end])
             if end < len(events):
                 self.restart(events.view(end))
             begin = end + 1
-        for fault in events.views(faults if ear else faults[-LAST:]):
-            self.last.append(fault)
-            if ear:
-                ear(fault)
+        self.last.extend(events.views(faults[-LAST:]))
+        if ear and len(faults):
+            ear(events[faults])
         kinds = events.kind[faults].astype(np.int64)
         lanes = np.where(IS_LANED[kinds], events.value[faults], -1)
         self.times += np.bincount(kinds * WAYS + lanes + 1, minlength=len(self.times))
@@ -75,7 +108,8 @@ class Count:
         """Events of one epoch."""
         if not len(events):
             return
-        self.is_aligned = self.was_aligned = True
+        self.is_heard = self.was_aligned = True
+        self.fit.take(events)
         self.columns = max(self.columns, int(events.end.max()))
         lines, at = events.of(Kind.LINE), 0
         for place, _ in self.vsync.changes(events):
@@ -85,9 +119,9 @@ class Count:
         self.rows += len(lines) - at
 
     def restart(self, slip: Event) -> None:
-        """A slip: the columns are counted anew."""
+        """A slip or a relock: the columns are counted anew."""
         self.slip, self.epoch, self.before = slip, self.epoch + 1, self.before + self.columns
-        self.columns, self.is_aligned, self.vsync, self.is_begun, self.rows = 0, False, Vsync(), False, 0
+        self.columns, self.is_heard, self.fit, self.vsync, self.is_begun, self.rows = 0, False, Fit(), Vsync(), False, 0
 
     def stand(self, events: Events) -> None:
         """Keeps the last packet of each type that no block is lost of."""

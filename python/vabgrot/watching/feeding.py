@@ -7,6 +7,7 @@ import contextlib
 import fcntl
 import os
 import select
+import time
 from collections.abc import Iterator
 
 from vabgrot import capture, program
@@ -16,17 +17,20 @@ from vabgrot.events import Events, joined
 from vabgrot.library import Grammar
 from vabgrot.receiving import Receiver
 from vabgrot.watching.blocks import LANES, Blocks
+from vabgrot.watching.keeping import Kept
+from vabgrot.watching.stuck import Stuck
 
 PAUSE = 100  # milliseconds after which a file that grows is looked at again
 FIRST = 4  # bytes that say how long a header is
+STALLED = 1.0  # seconds without a byte, from which on the source stalls
 EVENTS, BYTES = 1 << 18, 1 << 24  # room for what a room of blocks mostly says
 NOTHING = joined([])
 
 
 class Feed:
     """A receiver over what comes from a file: with `is_raw` blocks without a header, else a capture. If the file `grows`, its end is waited
-    for. `bytes` are those that came, `is_stopped` says that no more are wanted, and `refusal` says why it is no capture. Raises
-    NoLibrary."""
+    for. `bytes` are those that came, `is_stopped` says that no more are wanted, and `refusal` says why it is no capture. `kept` keeps the
+    last bits. Raises NoLibrary."""
 
     def __init__(self, source: int, grammar: Grammar, grows: bool, is_raw: bool) -> None:
         self.receiver = Receiver(grammar, EVENTS, BYTES)
@@ -36,6 +40,8 @@ class Feed:
         self.is_stopped, self.is_waiting, self.is_ended, self.is_aligned, self.is_cut_off = False, False, False, False, False
         self.blocks = Blocks() if is_raw else None  # of a capture they are known by its header
         self.left = [0] * LANES  # of a capture, the bits of each lane that were not fed
+        self.came_at, self.is_silent, self.stuck = time.monotonic(), False, Stuck()
+        self.kept: Kept | None = None
         self.heard: Iterator[Events] = iter(())
         self.next: Events | None = None
         self.wake, self.waker = os.pipe()
@@ -52,6 +58,17 @@ class Feed:
         """Whether a capture is there to its last byte."""
         return self.blocks is not None and self.blocks.is_done
 
+    @property
+    def silence(self) -> float:
+        """The seconds since the last byte, if the source stalls; 0 if it does not."""
+        seconds = time.monotonic() - self.came_at
+        return seconds if self.is_silent and not self.is_ended and seconds >= STALLED else 0.0
+
+    @property
+    def lanes(self) -> list[int]:
+        """The bytes of each lane that came."""
+        return self.blocks.came() if self.blocks else [0] * LANES
+
     def ready(self, seconds: float) -> bool:
         """Waits for bytes, or for the end of what comes, or so long; answers whether there is something to read."""
         self.next = self.next or next(self.heard, None)
@@ -61,7 +78,8 @@ class Feed:
             self.is_waiting = False
             select.select([self.wake], [], [], min(seconds, PAUSE / 1000))
             return True
-        return bool(select.select([self.source, self.wake], [], [], seconds)[0])
+        self.is_silent = not select.select([self.source, self.wake], [], [], seconds)[0]
+        return not self.is_silent
 
     def read(self) -> Events | None:
         """The events that the bytes which are there decide. Their bytes are valid until the next call. At the end None."""
@@ -78,6 +96,7 @@ class Feed:
     def fill(self) -> bool:
         """Takes in what is there, as far as there is room; answers whether something came."""
         came = total = self.came()
+        self.is_silent, self.came_at = not came, time.monotonic() if came else self.came_at
         while came and self.blocks and not self.blocks.is_full and select.select([self.source], [], [], 0)[0]:
             came = self.came()
             total += came
@@ -124,6 +143,9 @@ class Feed:
         if not self.blocks or not count:
             return
         lanes = blue, green, red = self.blocks.lanes(count)
+        self.stuck.take(lanes)
+        if self.kept:
+            self.kept.add(lanes)
         bits = None if self.is_raw else [min(left, 8 * len(lane)) for left, lane in zip(self.left, lanes)]
         yield from self.receiver.feed_views(blue, green, red, bits)
         if bits:

@@ -4,7 +4,7 @@ from __future__ import annotations
 
 import functools
 import time
-from dataclasses import dataclass, field
+from dataclasses import dataclass, field, replace
 
 import numpy as np
 import numpy.typing as npt
@@ -72,7 +72,7 @@ class Look:
         """The next events."""
         self.size += len(events) * RECORD.itemsize + len(events.data)
         self.parts.append(events.without_pixels())
-        for _, frame in self.framer.take(events):
+        for _, frame in self.framer.take(replace(events, data=events.data.copy())):  # those that are there are written over
             if frame.is_whole:
                 self.rows, self.whole = frame.rows, self.whole + 1
 

@@ -11,6 +11,7 @@ from prometheus_client.registry import Collector
 from vabgrot.errors import Refused
 from vabgrot.formats.faults import LANED
 from vabgrot.watching.counting import KINDS
+from vabgrot.watching.notices import KINDS as EVENTS
 from vabgrot.watching.state import State
 
 LOOPBACK = "127.0.0.1"
@@ -37,6 +38,12 @@ class Watched(Collector):
         yield CounterMetricFamily("vabgrot_received_bytes", "Bytes of the capture.", value=state.feed.bytes)
         yield CounterMetricFamily("vabgrot_frames_looked_at", "Whole frames that the view looked at.", value=state.looks.looked)
         yield GaugeMetricFamily("vabgrot_aligned", "1 where the lanes are aligned.", value=int(count.is_aligned))
+        happened = CounterMetricFamily("vabgrot_events", "What happened on the link.", labels=["kind"])
+        for name in (*sorted(EVENTS), *KINDS):
+            happened.add_metric([name], state.happenings.counts[name] if state.happenings else 0)
+        yield happened
+        yield GaugeMetricFamily("vabgrot_dead_lanes", "Lanes whose bits do not change.", value=len(state.feed.stuck.dead))
+        yield GaugeMetricFamily("vabgrot_silent_seconds", "How long nothing comes.", value=state.feed.silence)
         yield GaugeMetricFamily("vabgrot_columns_per_second", "Columns of the last second.", value=state.columns)
         clock = state.clock or 0
         yield GaugeMetricFamily("vabgrot_link_columns_per_second", "Those of the format; 0 where that is not known.", value=clock)

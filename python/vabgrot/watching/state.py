@@ -7,14 +7,16 @@ from collections import Counter, deque
 from dataclasses import dataclass, field, replace
 from typing import NamedTuple
 
-from vabgrot.events import Event, Ints, Kind
+from vabgrot.events import ENDS, Event, Ints
 from vabgrot.formats.characters import LANES, TEN
 from vabgrot.verdict import Link, Word
 from vabgrot.video.matching import counted
 from vabgrot.video.timings import DEPTH
 from vabgrot.watching.counting import Count, Key, counter_of
 from vabgrot.watching.feeding import Feed
+from vabgrot.watching.happenings import Happenings
 from vabgrot.watching.looking import Looks
+from vabgrot.watching.notices import came_of
 
 SECOND, STEP = 1.0, 0.1  # what "the last second" is, and how far its samples are apart
 UNITS = ((1e9, "G"), (1e6, "M"), (1e3, "k"))
@@ -45,8 +47,8 @@ def place_of(fault: Event) -> str:
     """A fault in words: where it is, and its numbers."""
     lane = f", {LANES[fault.lane]}" if fault.lane is not None else ""
     more = f", {' '.join(map(str, fault.more))}" if fault.more else ""
-    if fault.kind == Kind.SLIP:
-        return f"slip: bit {fault.first:,}{lane}"
+    if fault.kind in ENDS:
+        return f"{fault.kind.word}: bit {fault.first:,}{lane}"
     behind = f" behind slip {fault.epoch}" if fault.epoch else ""
     return f"{fault.kind.word}: column {fault.first:,}{behind}{lane}{more}"
 
@@ -58,6 +60,7 @@ class State:
     feed: Feed
     count: Count
     looks: Looks
+    happenings: Happenings | None = None
     began: float = field(default_factory=time.monotonic)
     samples: deque[Sample] = field(default_factory=deque)
     is_ended: bool = False
@@ -76,6 +79,8 @@ class State:
         """No more comes."""
         self.is_ended, self.ended = True, time.monotonic()
         self.looks.keep(is_last=True)
+        if self.happenings:
+            self.happenings.end()
 
     @property
     def seconds(self) -> float:
@@ -110,13 +115,25 @@ class State:
         return clock and clock * timing.raster.bits / DEPTH
 
     def aligned(self) -> str:
+        """Whether the lanes are aligned, and since when; and what does not come."""
+        return "; ".join([self.alignment(), *self.missing()])
+
+    def alignment(self) -> str:
         """Whether the lanes are aligned, and since when."""
         count = self.count
         slip, slips = count.slip, counted(count.epoch, "slip")
-        behind = f" behind the slip at bit {slip.first:,} ({slips})" if slip else ""
+        behind = f" behind the {slip.kind.word} at bit {slip.first:,} ({slips})" if slip else ""
         if count.is_aligned:
             return f"aligned for {count.columns:,} columns{behind}"
+        if count.is_heard:
+            return f"not aligned{behind}: rows and islands open without guard bands"
         return f"not aligned{behind}: {counted(self.bits, 'bit')} a lane came"
+
+    def missing(self) -> list[str]:
+        """That nothing comes, at all or on a lane."""
+        silence = self.feed.silence
+        stalled = [f"nothing comes for {silence:.0f} s after {came_of(self.feed.lanes)}"] if silence else []
+        return stalled + [*map(self.feed.stuck.says, self.feed.stuck.dead)]
 
     def rate(self) -> str:
         """How fast it comes."""
@@ -173,6 +190,7 @@ class State:
         """What is said at the end."""
         lines = [f"watched for {self.seconds:.1f} s: {self.aligned()}", f"{self.rate()}", self.format(), self.frames(), self.judged()]
         lines += [f"{times:,} {kind}{f', {lane_of((kind, lane))}' if lane is not None else ''}" for (kind, lane), times in self.table()]
+        lines += self.happenings.words if self.happenings else []
         return lines + ([] if self.count.total else ["no fault"])
 
     def table(self) -> list[tuple[Key, int]]:
