@@ -149,6 +149,12 @@ def test_wireshark_finds_the_dissector(prefix):
     assert (prefix / "lib/wireshark/plugins/vabgrot.lua").read_bytes() == (TOP / "share/wireshark/vabgrot.lua").read_bytes()
 
 
+def test_the_board_for_grafana(prefix):
+    """It is where the documents name it."""
+    board = "share/grafana/vabgrot.json"
+    assert (prefix / "share/doc/vabgrot" / board).read_bytes() == (TOP / board).read_bytes()
+
+
 def test_the_program_that_is_used(shell, prefix):
     """It is beside the tools, and they do not use the script of the PATH. In packages it has no symbols."""
     program = prefix / "lib/vabgrot/vabgrot"

@@ -19,7 +19,7 @@ from vabgrot.watching.counting import ASTRAY, Count
 from vabgrot.watching.keeping import Kept
 from vabgrot.watching.looking import Look
 from vabgrot.watching.notices import FROZEN, MOST, QUIET, SURE, Notices
-from vabgrot.watching.stuck import Stuck
+from vabgrot.watching.stuck import LIVES, Change, Stuck
 from vabgrot.watching.tables import Table
 
 METRIC = re.compile(r"vabgrot_\w+")
@@ -182,21 +182,23 @@ def test_what_is_kept(tmp_path, monkeypatch):
     assert 3 * 8192 <= bits // 8 <= 4 * 8192
 
 
-def test_lanes_that_die():
-    """A lane that repeats a bit for a block, from which bit on, and one that lives again."""
-    stuck, noise = Stuck(), np.arange(9000, dtype=np.int64).astype(np.uint8)
-    half = noise.copy()
-    half[4321:] = 255
-    stuck.take([noise, noise, noise])
-    assert stuck.dead == []
-    stuck.take([noise, half, noise])
-    assert stuck.dead == [1] and stuck.says(1) == f"nothing comes on lane 1 (green): always 1 from bit {8 * (9000 + 4321):,}"
-    stuck.take([np.zeros(9000, np.uint8), np.full(9000, 255, np.uint8), noise[:100]])
-    assert stuck.dead == [0, 1] and stuck.since[:2] == [8 * 18000, 8 * 13321]
-    stuck.take([noise, half[:4000], noise])
-    assert stuck.dead == [1]
-    stuck.take([noise, noise, noise])
-    assert stuck.dead == []
+def test_lanes_that_die(compare):
+    """A lane that repeats a bit for a block, from which bit on, and one that lives again; however the blocks come."""
+    noise = np.arange(20 * 4096, dtype=np.int64).astype(np.uint8)
+    ones, zeros = noise.copy(), noise.copy()
+    ones[4321 : 13 * 4096 + 1] = 255
+    zeros[:9000], zeros[5 * 4096 + 4000 : 6 * 4096 + 4000] = 0, 0
+    wanted = [Change(1, 1, 8 * 4321), Change(1, LIVES, 8 * 13 * 4096), Change(2, 0, 0), Change(2, LIVES, 8 * 2 * 4096)]
+
+    def cases():
+        for count in (1, 2, 7, 20):
+            stuck = Stuck()
+            for at in range(0, len(noise), count * 4096):
+                stuck.take([lane[at : at + count * 4096] for lane in (noise, ones, zeros)])
+            yield count, sorted(stuck.changes, key=lambda it: (it.lane, it.at)), wanted
+
+    compare(cases())
+    assert str(wanted[0]) == f"nothing comes on lane 1 (green): always 1 from bit {8 * 4321:,} on"
 
 
 def test_nothing_comes():
@@ -205,13 +207,15 @@ def test_nothing_comes():
     assert not [*notices.idle(feed)]
     feed.silence = 1.5
     (row,) = notices.idle(feed)
-    assert (row.kind, row.says) == ("stalled", "nothing comes after 8,192 bytes of lane 0 (blue), 4,196 bytes of lane 1 (green), "
-                                    "4,096 bytes of lane 2 (red)")
+    assert (row.kind, row.says) == (
+        "stalled",
+        "nothing comes after 8,192 bytes of lane 0 (blue), 4,196 bytes of lane 1 (green), " "4,096 bytes of lane 2 (red)",
+    )
     assert not [*notices.idle(feed)]
-    feed.silence, feed.stuck.bits = 0.0, [None, None, 0]
-    assert [(row.kind, row.lane) for row in notices.idle(feed)] == [("resumed", ""), ("dead", 2)]
-    feed.stuck.bits[2] = None
-    assert [(row.kind, row.lane) for row in notices.idle(feed)] == [("alive", 2)]
+    feed.silence = 0.0
+    feed.stuck.changes.extend((Change(2, 0, 80), Change(2, LIVES, 800)))
+    assert [(row.kind, row.lane) for row in notices.idle(feed)] == [("resumed", ""), ("dead", 2), ("alive", 2)]
+    assert not [*notices.idle(feed)]
     assert told.came_of([5] * 3) == "5 bytes of each lane"
 
 

@@ -25,6 +25,7 @@ from vabgrot.video.matching import counted
 from vabgrot.video.signals import Signals
 from vabgrot.watching.counting import Fit
 from vabgrot.watching.feeding import Feed
+from vabgrot.watching.stuck import LIVES
 
 MOST, MOST_ENDS = 20, 1000  # notices of a kind in a second, and of slips; of others only the count is told
 ENDED = frozenset(WORDS[kind] for kind in ENDS)
@@ -223,7 +224,6 @@ class Notices:
     seen: list[Seen] = field(default_factory=list)
     frames: int = 0
     stalled: float | None = None  # when the source stalled
-    dead: list[int] = field(default_factory=list)  # lanes
 
     def __post_init__(self) -> None:
         self.pictures = Pictures(Signals(has_packets=not self.is_dvi))
@@ -319,11 +319,9 @@ class Notices:
         elif not silence and self.stalled is not None:
             seconds, self.stalled = time.monotonic() - self.stalled, None
             yield from self.row(Said("resumed", f"bytes come again after {seconds:.1f} s"))
-        before, self.dead = self.dead, feed.stuck.dead
-        for lane in range(len(LANES)):
-            if (lane in self.dead) != (lane in before):
-                said = Said("dead", feed.stuck.says(lane)) if lane in self.dead else Said("alive", f"bits come on {LANES[lane]} again")
-                yield from self.row(said, lane=lane)
+        while feed.stuck.changes:
+            change = feed.stuck.changes.popleft()
+            yield from self.row(Said("alive" if change.bit == LIVES else "dead", str(change)), lane=change.lane)
 
 
 def came_of(lanes: Sequence[int]) -> str:

@@ -133,7 +133,7 @@ class State:
         """That nothing comes, at all or on a lane."""
         silence = self.feed.silence
         stalled = [f"nothing comes for {silence:.0f} s after {came_of(self.feed.lanes)}"] if silence else []
-        return stalled + [*map(self.feed.stuck.says, self.feed.stuck.dead)]
+        return stalled + [*map(str, self.feed.stuck.dead)]
 
     def rate(self) -> str:
         """How fast it comes."""

@@ -2,45 +2,74 @@
 
 from __future__ import annotations
 
-from collections.abc import Sequence
+from collections import deque
+from collections.abc import Iterator, Sequence
 from dataclasses import dataclass, field
+from typing import NamedTuple
 
 import numpy as np
 
 from vabgrot.capture import BLOCK
-from vabgrot.events import Octets
+from vabgrot.events import Ints, Octets
 from vabgrot.formats.characters import LANES
 
-ALWAYS = {0: 0, 255: 1}  # the bit of a byte whose bits are equal
-BYTE = 8
+BYTE, LIVES = 8, -1
+MOST = 100  # changes that are kept until they are told
+
+
+class Change(NamedTuple):
+    """A lane that repeats a bit from its bit `at` on, or LIVES again from about there on."""
+
+    lane: int
+    bit: int
+    at: int
+
+    def __str__(self) -> str:
+        if self.bit == LIVES:
+            return f"bits come on {LANES[self.lane]} again from about bit {self.at:,} on"
+        return f"nothing comes on {LANES[self.lane]}: always {self.bit} from bit {self.at:,} on"
 
 
 @dataclass
 class Stuck:
-    """Takes the bytes of three lanes as they come. `bits` has the bit that a lane repeats, None if it changes; `since` has the first bit of
-    each lane that it repeats. The last BLOCK bytes of a lane decide: no link has so many equal bits."""
+    """Takes the bytes of three lanes as they come. A lane is dead from a whole block of one value on: no link has so many equal bits."""
 
-    bits: list[int | None] = field(default_factory=lambda: [None] * len(LANES))
-    since: list[int] = field(default_factory=lambda: [0] * len(LANES))
+    states: list[Change] = field(default_factory=lambda: [Change(lane, LIVES, 0) for lane in range(len(LANES))])
+    changes: deque[Change] = field(default_factory=lambda: deque(maxlen=MOST))  # that were not told
     taken: list[int] = field(default_factory=lambda: [0] * len(LANES))  # bytes of each lane
+    ends: list[Octets] = field(default_factory=lambda: [np.zeros(0, np.uint8)] * len(LANES))  # their last blocks
 
     def take(self, lanes: Sequence[Octets]) -> None:
-        """The next bytes of each lane."""
+        """The next bytes of each lane: whole blocks, except at the end."""
         for number, lane in enumerate(lanes):
-            end = lane[-BLOCK:]
-            if len(end) == BLOCK:
-                bit = ALWAYS.get(int(end[-1])) if (end == end[-1]).all() else None
-                if bit is not None and bit != self.bits[number]:
-                    others = np.flatnonzero(lane != lane[-1])
-                    self.since[number] = BYTE * (self.taken[number] + (int(others[-1]) + 1 if len(others) else 0))
-                self.bits[number] = bit
+            for change in self.changed(number, lane):
+                self.states[number] = change
+                self.changes.append(change)
             self.taken[number] += len(lane)
+            self.ends[number] = lane[-BLOCK:].copy()
+
+    def changed(self, number: int, lane: Octets) -> Iterator[Change]:
+        """The changes of a lane within its next bytes."""
+        bits = bits_of(lane)
+        for place in np.flatnonzero(np.diff(bits, prepend=self.states[number].bit)).tolist():
+            bit, begin = int(bits[place]), place * BLOCK
+            if bit != LIVES:
+                others = np.flatnonzero(np.concatenate((self.ends[number], lane[:begin])) != lane[begin])
+                begin = (int(others[-1]) + 1 if len(others) else 0) - len(self.ends[number])
+            yield Change(number, bit, BYTE * (self.taken[number] + begin))
 
     @property
-    def dead(self) -> list[int]:
-        """The lanes on which nothing comes."""
-        return [number for number, bit in enumerate(self.bits) if bit is not None]
+    def dead(self) -> list[Change]:
+        """What is said of the lanes on which nothing comes."""
+        return [state for state in self.states if state.bit != LIVES]
 
-    def says(self, lane: int) -> str:
-        """What is said of a lane."""
-        return f"nothing comes on {LANES[lane]}: always {self.bits[lane]} from bit {self.since[lane]:,}"
+
+def bits_of(lane: Octets) -> Ints:
+    """The bit that each block of a lane repeats."""
+    blocks = lane[: len(lane) // BLOCK * BLOCK].reshape(-1, BLOCK)
+    first, last = blocks[:, 0], blocks[:, -1]
+    found = np.full(len(blocks), LIVES, np.int64)
+    for place in np.flatnonzero((first == last) & ((last == 0) | (last == 255))).tolist():
+        if (blocks[place] == last[place]).all():
+            found[place] = int(last[place]) & 1
+    return found
