@@ -3,6 +3,13 @@
 import pytest
 
 
+@pytest.fixture
+def receives(hearing):
+    """Skips a test of a tool that has no C library."""
+    if hearing:
+        pytest.skip(hearing)
+
+
 @pytest.fixture(scope="module")
 def driver():
     from tests.tools.pages import opened

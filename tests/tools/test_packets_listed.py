@@ -32,12 +32,6 @@ NEEDS_TSHARK = pytest.mark.skipif(not shutil.which("tshark"), reason="Debian's p
 
 
 @pytest.fixture
-def found(library, monkeypatch):
-    """The library that was built for the tests."""
-    monkeypatch.setenv("VABGROT_LIBRARY", str(library / "libvabgrot.so.1"))
-
-
-@pytest.fixture
 def bars(program):
     return program("make", "content", source=(TOP / "examples" / "bars.content").read_bytes())
 
@@ -79,7 +73,7 @@ def records(data):
     return found
 
 
-def test_a_clean_capture(found, program, bars, tmp_path):
+def test_a_clean_capture(receives, program, bars, tmp_path):
     """As the listing has it, from a file, standard input, and raw blocks; the times are those of the columns."""
     wanted, _, _ = listed(program("recover", "link", source=bars))
     (tmp_path / "a.tmc").write_bytes(bars)
@@ -108,7 +102,7 @@ def hurt_of(program, bars):
     return program("damage", *flipped(bars, 2, 20), *flipped(bars, 1, 50, 52), source=bars)
 
 
-def test_mended_and_lost(found, program, bars):
+def test_mended_and_lost(receives, program, bars):
     """One wrong bit of a block, and more; a lost packet says nothing."""
     hurt = hurt_of(program, bars)
     octets, lost, mended = listed(program("recover", "link", source=hurt, status=1))
@@ -121,7 +115,7 @@ def test_mended_and_lost(found, program, bars):
     assert text.count(" [lost]") == len(lost) and text.count("[mended]") == len(mended)
 
 
-def test_a_pcap_file(found, program, bars):
+def test_a_pcap_file(receives, program, bars):
     """Its records are the packets."""
     wanted, _, _ = listed(program("recover", "link", source=bars))
     data, _ = ran(bars, "--pcap", "-")
@@ -132,7 +126,7 @@ def test_a_pcap_file(found, program, bars):
     assert [time for time, _ in its] == pytest.approx([column * 10**9 / 25_200_000 for column in columns], abs=1)
 
 
-def test_a_growing_file(found, bars, tmp_path):
+def test_a_growing_file(receives, bars, tmp_path):
     """--follow waits until the capture is whole."""
     path = tmp_path / "a.tmc"
     path.write_bytes(bars[:9000])
@@ -143,11 +137,12 @@ def test_a_growing_file(found, bars, tmp_path):
     assert process.returncode == 0 and out == ran(bars, "--csv", "-")[0], says
 
 
-def test_what_it_refuses(found, bars):
+def test_what_it_refuses(receives, bars):
     """Two files for one output, no capture, and no packets."""
     assert "only one" in ran(bars, "--csv", "-", "--pcap", "-", status=3)[1]
     assert "not a capture" in ran(b"what", status=3)[1]
-    assert ran(bars, "--csv", "/dev/full", status=3)[1].splitlines()[-1] == "packets: /dev/full: No space left on device"
+    for option in ("--csv", "--pcap"):
+        assert ran(bars, option, "/dev/full", status=3)[1] == "packets: /dev/full: No space left on device\n"
 
 
 def test_the_dissector_is_current():
@@ -208,7 +203,7 @@ def test_the_fields_of_each_layout(compare, tmp_path):
 
 
 @NEEDS_TSHARK
-def test_tshark_counts_as_the_listing(found, program, bars, tmp_path):
+def test_tshark_counts_as_the_listing(receives, program, bars, tmp_path):
     """Each type, and lost and mended packets, of a damaged capture that was sent again and again."""
     hurt = hurt_of(program, bars)
     path = tmp_path / "a.pcap"

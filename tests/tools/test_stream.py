@@ -1,5 +1,6 @@
 """tools/stream: a link as NUT, YUV4MPEG2 and WAV. Expected pixels and samples are those of the listing that was sent."""
 
+import importlib.util
 import io
 import itertools
 import shutil
@@ -26,12 +27,7 @@ WAYS = (
     ["--encoding", "ycbcr444", "--depth", "36"],
 )
 NEEDS_FFMPEG = pytest.mark.skipif(not shutil.which("ffmpeg"), reason="Debian's package ffmpeg is missing")
-
-
-@pytest.fixture(autouse=True)
-def found(library, monkeypatch):
-    """The library that was built for the tests."""
-    monkeypatch.setenv("VABGROT_LIBRARY", str(library / "libvabgrot.so.1"))
+pytestmark = pytest.mark.usefixtures("receives")
 
 
 @pytest.fixture
@@ -95,22 +91,20 @@ def test_a_capture(av, bars, tmp_path):
 
 
 @NEEDS_FFMPEG
-def test_a_live_link_into_ffmpeg(av, bars):
-    """62 frames for 62, with the same pixels and samples."""
-    source = blocks(times(bits_of(bars, WHOLE), 21))
-    out, _ = ran(source, "--raw")
-    words = ["ffmpeg", "-v", "error", "-i", "-", "-fps_mode", "passthrough", "-f", "rawvideo", "-pix_fmt", "rgb24", "-"]
-    came = subprocess.run(words, input=out, capture_output=True, timeout=HANGS)
-    wanted = pixels(BARS, 21)[: 62 * 32 * 8 * 3]
-    assert came.stdout == wanted, (len(came.stdout), len(wanted), came.stderr)
-    sound = [*ffmpeg_samples(out)]
-    assert sound == (samples(BARS) * 21)[: len(sound)] and len(sound) >= 200
-
-
-def ffmpeg_samples(data):
-    """The samples that ffmpeg decodes."""
-    words = ["ffmpeg", "-v", "error", "-i", "-", "-map", "0:a", "-f", "s24le", "-c:a", "pcm_s24le", "-"]
-    return values_of(subprocess.run(words, input=data, capture_output=True, timeout=HANGS).stdout)
+def test_a_live_link_into_ffmpeg(av, bars, tmp_path):
+    """A pipe into ffmpeg: 600 frames for 600, with the same pixels and samples. The first rows of one more frame end the last one."""
+    lanes, many = bits_of(bars, WHOLE), 600 // FRAMES
+    (tmp_path / "link").write_bytes(blocks(after(times(lanes, many), [lane[: 10 * COLUMNS] for lane in lanes])))
+    pictures = ["-map", "0:v", "-fps_mode", "passthrough", "-f", "rawvideo", "-pix_fmt", "rgb24", tmp_path / "pictures"]
+    sound = ["-map", "0:a", "-f", "s24le", "-c:a", "pcm_s24le", tmp_path / "sound"]
+    with open(tmp_path / "link", "rb") as link, subprocess.Popen([*STREAM, "--raw"], stdin=link, stdout=subprocess.PIPE) as process:
+        came = subprocess.run(
+            ["ffmpeg", "-v", "error", "-i", "-", *pictures, *sound], stdin=process.stdout, capture_output=True, timeout=HANGS
+        )
+    assert (process.returncode, came.returncode, came.stderr) == (0, 0, b"")
+    assert (tmp_path / "pictures").read_bytes() == pixels(BARS, many)
+    heard, sent = values_of((tmp_path / "sound").read_bytes()), samples(BARS)
+    assert heard[: many * len(sent)] == sent * many and len(heard) <= (many + 1) * len(sent)
 
 
 def test_plain_files(bars, tmp_path):
@@ -188,13 +182,15 @@ def test_a_broken_pipe_is_quiet(bars, tmp_path):
 
 
 def test_what_it_refuses(bars, program, monkeypatch, capsys, tmp_path):
-    """A missing package, a full disk, no frame, no capture, no file."""
+    """A missing package, a full disk in each format, no frame, no capture, no file."""
     (tmp_path / "a.tmc").write_bytes(bars)
     monkeypatch.setitem(sys.modules, "av", None)
     assert stream.main([str(tmp_path / "a.tmc"), "-o", str(tmp_path / "a.nut")]) == 3
     assert "python3-av" in capsys.readouterr().err
-    _, says = ran(bars, "--y4m", "/dev/full", status=3)
-    assert says.splitlines()[-1] == "stream: /dev/full: No space left on device"
+    for option in ("--y4m", "--wav", "-o"):
+        if option != "-o" or importlib.util.find_spec("av"):
+            _, says = ran(bars, option, "/dev/full", status=3)
+            assert says.splitlines()[-1] == "stream: /dev/full: No space left on device", option
     row = program("make", "link", source=(TOP / "examples" / "red.link").read_bytes())
     assert "no whole frame came" in ran(row, "--y4m", "-", status=3)[1]
     assert "not a capture" in ran(b"what", "--y4m", "-", status=3)[1]

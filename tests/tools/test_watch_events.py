@@ -22,9 +22,7 @@ ENDS = {"slip", "relock"}
 
 
 @pytest.fixture
-def bars(program, hearing):
-    if hearing:
-        pytest.skip(hearing)
+def bars(program, receives):
     return program("make", "content", source=BARS)
 
 

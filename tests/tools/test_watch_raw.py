@@ -26,12 +26,7 @@ WHOLE = 10 * FRAME * FRAMES  # bits of them, which are whole bytes
 CAPTURES = 12
 SOAKED, EARLY, LATE = 16, slice(3, 7), slice(13, 16)  # seconds, and those whose memory is compared: it rises and falls with a batch
 MOST = 16 << 10  # the KiB by which the least of the late ones may be more than the most of the early ones: what the room of a batch takes
-
-
-@pytest.fixture(autouse=True)
-def found(library, monkeypatch):
-    """The library that was built for the tests."""
-    monkeypatch.setenv("VABGROT_LIBRARY", str(library / "libvabgrot.so.1"))
+pytestmark = pytest.mark.usefixtures("receives")
 
 
 @pytest.fixture

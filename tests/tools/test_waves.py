@@ -17,12 +17,7 @@ NAMES = ("period", "packet", "hsync", "vsync", "ctl", "pixels", "fault", "is_fau
 PERIOD = 1_000_000  # picoseconds of a column at 1 MHz
 BARS = (TOP / "examples" / "bars.content").read_bytes()
 WORDS = [f"source_bench.q{lane}" for lane in range(3)]
-
-
-@pytest.fixture(autouse=True)
-def found(library, monkeypatch):
-    """The library that was built for the tests."""
-    monkeypatch.setenv("VABGROT_LIBRARY", str(library / "libvabgrot.so.1"))
+pytestmark = pytest.mark.usefixtures("receives")
 
 
 def ran(*words, status=0):
@@ -170,12 +165,13 @@ def test_fst(program, tmp_path):
 
 
 def test_what_it_refuses(monkeypatch, program, tmp_path):
-    """Words that do not go together, no capture, a pipe, and a missing package."""
+    """Words that do not go together, no capture, a pipe, a full disk, and a missing package."""
     path = tmp_path / "a.tmc"
     path.write_bytes(program("make", "content", source=BARS))
     ran(path, "--dump", "x.vcd", status=2)
     ran(path, "--clock", "fast", status=2)
     assert ran("/dev/null", status=3)[1].startswith("waves: ")
     assert ran(Path("/none"), status=3)[1].startswith("waves: ")
+    assert ran(path, "--clock", PERIOD, "-o", "/dev/full", status=3)[1] == "waves: /dev/full: No space left on device\n"
     monkeypatch.setenv("PATH", "/none")
     assert "gtkwave" in ran(path, "--clock", PERIOD, "-o", tmp_path / "a.fst", status=3)[1]
