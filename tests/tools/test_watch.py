@@ -164,7 +164,7 @@ def test_other_links(captures):
     assert "aligned for 25 columns\n" in said(captures["dvi"], "--dvi")[0]
     out, _ = said(captures["slipped"], status=1)
     assert "behind the slip at bit " in out and "1 slip, lane 2 (red)\n" in out and "verdict: Link faulty" in out
-    assert said(b"", "--raw", "--dvi", status=2)[1].startswith("usage: ")
+    assert said(b"", "--clock", "1", "--rate", "1", status=2)[1].startswith("usage: ")
 
 
 def test_a_file_that_grows(captures, tmp_path):

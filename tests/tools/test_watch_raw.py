@@ -14,10 +14,11 @@ import time
 import pytest
 
 from tests.models import feeding
-from tests.support import HANGS, LISTING, TOP
+from tests.support import HANGS, LISTING, TOP, ran
 from tests.tools.test_watch import WATCH, WORN, Terminal, free_port, said, scraped
 from vabgrot import capture, library
 from vabgrot.capture import BLOCK
+from vabgrot.formats.faults import ANEW, LANED
 from vabgrot.lanes import repeating
 from vabgrot.tools import watch
 
@@ -65,8 +66,19 @@ def heard(source, tmp_path, *words):
     return came.returncode, [aligned, *lines[end + 2 :]], rows
 
 
-def test_raw_blocks_are_as_captures(program, bars, tmp_path, compare):
-    """Counts, faults and their columns, the format and the status: of the examples, of damage, of noise, and of random captures."""
+def faults_in(listing):
+    """The rows of a log by the fault lines of a listing: kind, lane, epoch, column, and other numbers."""
+    found, epoch = [], 0
+    for _, kind, *numbers in (line.split() for line in listing.decode().splitlines() if line.startswith("! ")):
+        lane = numbers.pop(0) if kind in LANED else ""
+        found.append([kind, lane, str(epoch), numbers[0], " ".join(numbers[1:])])
+        epoch += kind in ANEW
+    return found
+
+
+def test_raw_blocks_are_as_captures(program, executable, bars, tmp_path, compare):
+    """Counts, faults and their columns, the format and the status: of the examples, of damage, of noise, and of random captures. Raw blocks
+    are received as `recover relock` does it; its first alignment of noise may be another one."""
     noise = random.Random("noise")
     noisy = bytearray(bars[0])
     for _ in range(2000):
@@ -80,8 +92,10 @@ def test_raw_blocks_are_as_captures(program, bars, tmp_path, compare):
     def cases():
         for name, data in named.items():
             whole, blocks = cut(data)
-            wanted = heard(whole, tmp_path)
-            yield name, heard(blocks, tmp_path, "--raw"), wanted
+            status, lines, rows = heard(blocks, tmp_path, "--raw")
+            yield f"{name} by guard bands", rows[1:], faults_in(ran([executable, "recover", "relock"], whole).stdout)
+            if name != "noisy" and not name.startswith("random"):
+                yield name, (status, lines, rows), heard(whole, tmp_path)
 
     compare(cases())
 
@@ -135,11 +149,11 @@ def test_stop_on_fault(program, bars, tmp_path):
     hurt = program("damage", "2:28450:0ab", "0:40000:2ab", source=bars[0])
     os.mkfifo(tmp_path / "link")
     words = [*WATCH, tmp_path / "link", "--raw", "--stop-on-fault", "--log", tmp_path / "faults.csv"]
-    ran = subprocess.Popen(words, stdout=subprocess.PIPE, stderr=subprocess.PIPE)
+    process = subprocess.Popen(words, stdout=subprocess.PIPE, stderr=subprocess.PIPE)
     with open(tmp_path / "link", "wb", buffering=0) as link:
         link.write(raw(capture.lanes_of(hurt)[0], WHOLE)[: 3 * BLOCK])
-        out, why = ran.communicate(timeout=HANGS)
-    assert (ran.returncode, why) == (1, b"") and b"1 code, lane 2 (red)\n" in out
+        out, why = process.communicate(timeout=HANGS)
+    assert (process.returncode, why) == (1, b"") and b"1 code, lane 2 (red)\n" in out
     with open(tmp_path / "faults.csv", newline="") as file:
         assert [(row["kind"], row["lane"], row["column"]) for row in csv.DictReader(file)] == [("code", "2", "2845")]
 
@@ -151,12 +165,12 @@ def test_metrics(program, tmp_path, bars):
     port = free_port()
     os.mkfifo(tmp_path / "link")
     words = [*WATCH, tmp_path / "link", "--raw", "--metrics", str(port)]
-    ran = subprocess.Popen(words, stdout=subprocess.PIPE, stderr=subprocess.PIPE)
+    process = subprocess.Popen(words, stdout=subprocess.PIPE, stderr=subprocess.PIPE)
     with open(tmp_path / "link", "wb", buffering=0) as link:
         link.write(raw(capture.lanes_of(hurt)[0], WHOLE)[: 3 * BLOCK])
         text = scraped(port, 'vabgrot_faults_total{kind="code",lane="red"} 1.0')
     assert all(line in text for line in ("vabgrot_frames_total 1.0", "vabgrot_aligned 1.0", "vabgrot_received_bytes_total 12288.0")), text
-    assert ran.communicate(timeout=HANGS)[1] == b"" and ran.returncode == 1
+    assert process.communicate(timeout=HANGS)[1] == b"" and process.returncode == 1
 
 
 def test_without_the_library(monkeypatch, capsys, tmp_path):
@@ -171,7 +185,7 @@ def test_without_the_library(monkeypatch, capsys, tmp_path):
     assert watch.main(["--raw", str(tmp_path / "raw")]) == 3
     why = capsys.readouterr().err
     assert why.count("\n") == 1 and "`./vabgrot build library` builds it with the Rattle kit" in why
-    assert said(b"", "--raw", "--dvi", status=2)[1].startswith("usage: ")
+    assert said(b"", "--raw", "--clock", "1", "--rate", "1", status=2)[1].startswith("usage: ")
 
 
 def test_what_lanes_writes(bars, tool, tmp_path):
@@ -192,18 +206,18 @@ def test_past_four_gibibits(program, bars, tmp_path):
     times = BLOCK * ((1 << 32) // WHOLE // BLOCK + 1)  # which makes whole blocks
     hurt = capture.lanes_of(program("damage", "2:28450:0ab", source=bars[0]))[0]
     words = [*WATCH, "--raw", "--stop-on-fault", "--log", tmp_path / "faults.csv"]
-    ran = subprocess.Popen(words, stdin=subprocess.PIPE, stdout=subprocess.PIPE)
+    process = subprocess.Popen(words, stdin=subprocess.PIPE, stdout=subprocess.PIPE)
 
     def pour():
         for piece in itertools.chain(repeating.pieces(bars[1], WHOLE, times), [raw(hurt, WHOLE)]):
-            ran.stdin.write(piece)
-        ran.stdin.close()
+            process.stdin.write(piece)
+        process.stdin.close()
 
     thread = threading.Thread(target=pour)
     thread.start()
-    out = ran.stdout.read().decode()
+    out = process.stdout.read().decode()
     thread.join()
-    assert ran.wait(HANGS) == 1 and "1 code, lane 2 (red)\n" in out and f"{times * FRAMES + 1:,} whole frames" in out
+    assert process.wait(HANGS) == 1 and "1 code, lane 2 (red)\n" in out and f"{times * FRAMES + 1:,} whole frames" in out
     with open(tmp_path / "faults.csv", newline="") as file:
         assert [(row["kind"], row["column"]) for row in csv.DictReader(file)] == [("code", str(WHOLE // 10 * times + 2845))]
     assert WHOLE * times > 1 << 32
@@ -215,15 +229,15 @@ def test_a_soak(bars, tmp_path):
     (tmp_path / "a.tmc").write_bytes(bars[0])
     words = [TOP / "tools" / "lanes", "blocks", tmp_path / "a.tmc", "--bits", str(WHOLE), "--repeat"]
     with subprocess.Popen(words, stdout=subprocess.PIPE) as source:
-        ran = subprocess.Popen([*WATCH, "--raw", "--plain"], stdin=source.stdout, stdout=subprocess.PIPE)
+        process = subprocess.Popen([*WATCH, "--raw", "--plain"], stdin=source.stdout, stdout=subprocess.PIPE)
         source.stdout.close()
         sizes = []
         for _ in range(SOAKED):
             time.sleep(1)
-            sizes.append(resident(ran.pid))
-        ran.send_signal(signal.SIGINT)
-        out = ran.communicate(timeout=HANGS)[0].decode()
-    assert ran.returncode in (0, 1) and out.endswith("no fault\n")
+            sizes.append(resident(process.pid))
+        process.send_signal(signal.SIGINT)
+        out = process.communicate(timeout=HANGS)[0].decode()
+    assert process.returncode in (0, 1) and out.endswith("no fault\n")
     assert min(sizes[LATE]) - max(sizes[EARLY]) < MOST, sizes
 
 

@@ -57,7 +57,8 @@ class Making:
 
     def take(self, events: Events) -> Iterator[Part]:
         """Takes events and yields a part, if one is complete. The caller may overwrite their bytes after this call."""
-        its = joined([self.rest, replace(events, data=events.data.copy())])
+        its = replace(events, data=events.data.copy())
+        its = joined([self.rest, its]) if len(self.rest) else its
         keep = known_up_to(its)
         self.rest = its[keep:].without_pixels()
         yield from self.made(its[:keep])
