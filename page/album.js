@@ -2,7 +2,7 @@
 
 import { coloursOf, isPlain } from "./colours.js";
 
-const ROOM = 400_000_000; // bytes of all pictures
+const ROOM = 100_000_000; // bytes of all pictures: a page is to have at most 300 MB
 const [SMALL_WIDTH, SMALL_HEIGHT] = [192, 144];
 const SCALES = [1, 2, 4, 8, 16];
 

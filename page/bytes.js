@@ -7,6 +7,11 @@ export function hex(bytes) {
   return text;
 }
 
+/** @param {number} rgb a colour of 24 bits @returns {string} its six digits; "" of a negative number */
+export function hexOf(rgb) {
+  return rgb < 0 ? "" : DIGITS[rgb >> 16] + DIGITS[rgb >> 8 & 255] + DIGITS[rgb & 255];
+}
+
 const DIGITS = Array.from({ length: 256 }, (_, byte) => byte.toString(16).padStart(2, "0"));
 
 /** @param {Iterable<number>} bytes @returns {number} what they sum to */

@@ -10,7 +10,7 @@ export const CUT = 5;
 const WORD = 6; // and behind it all other faults
 
 /** The kinds of faults, as listings have them, from WORD on. */
-const FAULT_KINDS = [
+export const FAULT_KINDS = [
   "word", "short", "preamble", "noise", "empty", "code", "longline", "symbols", "mended", "lost", "longisland", "broken", "guard",
 ];
 export const LANED = new Set(["word", "code"]);

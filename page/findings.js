@@ -1,12 +1,12 @@
 // What the events of a link tell, gathered for a page: periods, faults, frames, packets.
 
 import { Album } from "./album.js";
-import { hex } from "./bytes.js";
 import { coloursOf, isPlain, pixelAt, pixelsOf, sentPixels } from "./colours.js";
-import { BLOCKED, CLOSE, CUT, LANED, LINE, NEXT, OF_PACKET, OPEN, PACKET, RUN, UNCOUNTED, faultOf } from "./events.js";
+import { BLOCKED, CLOSE, CUT, FAULT_KINDS, LANED, LINE, NEXT, OF_PACKET, OPEN, PACKET, RUN, UNCOUNTED, faultOf } from "./events.js";
 import { Frame, MOST_LISTED, Vsync } from "./frames.js";
 import { nameOf, numberOf } from "./infoframes.js";
 import { contentOf, isOtherSize, packetOf } from "./packets.js";
+import { Rows } from "./rows.js";
 import { Sound } from "./samples.js";
 import { Signals } from "./signals.js";
 import { Weaver, linesDown } from "./weaving.js";
@@ -73,7 +73,10 @@ class Table {
 }
 
 const PERIOD_FIELDS = ["kind", "at", "columns", "line", "value"];
-const FAULT_FIELDS = ["kind", "lane", "at", "epoch", "column", "line", "more", "frame", "x", "y", "rgb"];
+const FAULT_FIELDS = ["kind", "lane", "at", "line", "one", "other", "x", "y", "rgb"]; // the kind by its number, and two numbers more
+const SETTLED_FIELDS = ["fault", "frame", "x", "rgb"];
+const UNTOLD = -1; // of a number that a fault has not
+export const UNCHANGED = -2; // of a fault that is shown as it was listed
 const PACKET_FIELDS = ["at", "line", "content", "name", "verdicts", "symbols"];
 
 /** Takes the events of a link, each of which is a line of its listing. */
@@ -88,8 +91,8 @@ export class Findings {
     this.signals = new Signals(!isDvi);
     this.weaver = new Weaver();
     this.album = new Album();
-    this.periods = new Table(PERIOD_FIELDS);
-    this.faults = new Table(FAULT_FIELDS);
+    this.periods = new Rows(PERIOD_FIELDS);
+    this.faults = new Rows(FAULT_FIELDS);
     this.packets = new Table(PACKET_FIELDS);
     /** @type {Map<string, number>} */
     this.known = new Map(); // the numbers of contents, by what they are of
@@ -99,8 +102,7 @@ export class Findings {
     this.last = null;
     /** @type {Shot[]} */
     this.frames = []; // since they were taken out
-    /** @type {{fault: number, frame: number, x?: number, rgb?: string}[]} */
-    this.settled = []; // what is known of faults once their frame has ended
+    this.settled = new Rows(SETTLED_FIELDS); // what is known of faults once their frame has ended
     this.lines = 0;
     this.end = 0; // the column behind the last line
     this.opened = 0; // the column behind the last control period
@@ -144,7 +146,7 @@ export class Findings {
   /** @param {keyof typeof PERIODS} kind @param {number} at @param {number} columns @param {number} value */
   period(kind, at, columns, value) {
     this.stretch(at);
-    this.periods.add({ kind: PERIODS[kind], at, columns, line: this.lines, value });
+    this.periods.add([PERIODS[kind], at, columns, this.lines, value]);
     this.end = at + columns;
   }
 
@@ -153,7 +155,7 @@ export class Findings {
   stretch(at) {
     if (!this.unknown) return;
     const { at: first, line } = this.unknown;
-    this.periods.add({ kind: PERIODS.unknown, at: first, columns: Math.max(1, at - first), line, value: 0 });
+    this.periods.add([PERIODS.unknown, first, Math.max(1, at - first), line, 0]);
     this.unknown = null;
   }
 
@@ -209,8 +211,9 @@ export class Findings {
     if (this.frame.count(kind) > MOST_LISTED) this.countOnly(kind, lane, named);
     else {
       const mark = this.frame.mark(kind, this.faults.size, named);
-      const rgb = hex(this.frame.pixelAt(mark));
-      this.faults.add({ kind, lane, at: named, epoch: 0, column: named, line: this.lines, more, frame: -1, ...mark, rgb });
+      const [one, other] = [more[0] ?? UNTOLD, more[1] ?? UNTOLD];
+      const rgb = colourOf(this.frame.pixelAt(mark));
+      this.faults.add([FAULT_KINDS.indexOf(kind), lane, named, this.lines, one, other, mark.x, mark.y, rgb]);
     }
     if (OF_PACKET.has(kind)) this.last?.judge(kind, more);
     else this.leaveOut(kind, named);
@@ -279,8 +282,7 @@ export class Findings {
     const number = this.counts.frames;
     this.counts.frames += 1;
     if (frame.isWhole) this.endWhole(frame, signal, notes);
-    const shownAs = shower(frame, signal);
-    for (const mark of frame.marks) this.settled.push({ fault: mark.fault, frame: number, ...shownAs(mark) });
+    this.settleMarks(frame, number, signal);
     const [width, height] = [pixelsOf(signal, frame.width), frame.rows.length];
     this.weaver.take({ number, width, height, linesDown: linesDown(frame.change, frame.firsts) }, frame.isWhole);
     const left = Math.max(0, Math.round((this.expected - at) * this.counts.frames / Math.max(at, 1)));
@@ -290,6 +292,14 @@ export class Findings {
       says: saysOf(frame, ended, frame.isWhole && isOtherSize(this.vic, sentPixels(signal, frame.width), height) ? this.vic : 0),
       line: frame.lines[0], lines: frame.lines, from: frame.at, to: at, kind: this.album.exact[picture] ? "png" : "smaller",
     });
+  }
+
+  /** Tells where the faults of a frame are that has ended.
+   *  @param {Frame} frame @param {number} number @param {import("./colours.js").Signal} signal */
+  settleMarks(frame, number, signal) {
+    const shownAs = shower(frame, signal);
+    const { fault, x, y } = frame.marks.taken();
+    for (let mark = 0; mark < fault.length; mark++) this.settled.add([fault[mark], number, ...shownAs(x[mark], y[mark])]);
   }
 
   /** @param {Frame} frame @param {import("./colours.js").Signal} signal @param {string[]} notes */
@@ -322,10 +332,10 @@ export class Findings {
 
   /** What came since the last call, and what is known of all. */
   taken() {
-    const [frames, contents, settled] = [this.frames, this.contents, this.settled];
-    [this.frames, this.contents, this.settled] = [[], [], []];
+    const [frames, contents] = [this.frames, this.contents];
+    [this.frames, this.contents] = [[], []];
     return {
-      periods: this.periods.taken(), faults: this.faults.taken(), packets: this.packets.taken(), frames, contents, settled,
+      periods: this.periods.taken(), faults: this.faults.taken(), settled: this.settled.taken(), packets: this.packets.taken(), frames, contents,
       rest: [...this.rest.values()], pictures: this.album.taken(), shown: this.weaver.shown, columns: this.end, isAligned: this.lines > 0, counts: { ...this.counts },
       contentFaults: this.contentFaults, unheard: { ...this.unheard }, notes: [...this.notes], cut: this.cut,
       vic: this.signals.avi?.vic ?? 0, depth: PIXEL_BITS[this.signals.depth || 4] ?? 24, sound: this.sound.taken(),
@@ -338,15 +348,20 @@ function sorted(counts) {
   return Object.fromEntries(Object.entries(counts).sort(([one], [other]) => (one < other ? -1 : 1)));
 }
 
-/** @param {Frame} frame @param {import("./colours.js").Signal} signal @returns {(mark: import("./frames.js").Mark) => {x?: number, rgb?:
- *  string}} what tells the pixel and the colour as which a damaged column is shown, where they are others; each row is converted once */
+/** @param {Uint8Array | Uint8ClampedArray} pixel red, green and blue; none of a fault without a pixel @returns {number} as one number */
+function colourOf(pixel) {
+  return pixel.length ? pixel[0] << 16 | pixel[1] << 8 | pixel[2] : UNTOLD;
+}
+
+/** @param {Frame} frame @param {import("./colours.js").Signal} signal @returns {(x: number, y: number) => [number, number]} what tells the
+ *  pixel and the colour as which a damaged column is shown, if they are others; each row is converted once */
 function shower(frame, signal) {
   let [last, image] = [-1, /** @type {ImageData | null} */ (null)];
-  return ({ x, y }) => {
-    if (isPlain(signal) || x < 0) return {};
+  return (x, y) => {
+    if (isPlain(signal) || x < 0) return [UNCHANGED, UNCHANGED];
     if (y !== last || !image) [last, image] = [y, coloursOf([frame.rows[y]], frame.rows[y].length / 3, signal)];
     const pixel = pixelAt(signal, x);
-    return pixel < image.width ? { x: pixel, rgb: hex(image.data.subarray(4 * pixel, 4 * pixel + 3)) } : { x: -1, rgb: "" };
+    return pixel < image.width ? [pixel, colourOf(image.data.subarray(4 * pixel, 4 * pixel + 3))] : [-1, UNTOLD];
   };
 }
 

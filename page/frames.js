@@ -1,7 +1,10 @@
 // The frames between two changes of VSYNC: their pixels, the columns of their first pixels, and the faults among them.
 
+import { Rows } from "./rows.js";
+
 const VSYNC = 2; // of a control column's value
 const NOWHERE = { x: -1, y: -1 };
+const NOTHING = new Uint8Array(0);
 export const MOST_LISTED = 10_000; // faults of a kind that a frame has listed; those behind them are counted
 const CERTAIN = 3; // neighbouring columns of one value, from which on VSYNC has it
 
@@ -49,8 +52,7 @@ export class Frame {
     this.faults = {};
     /** @type {Record<string, number>} */
     this.times = {}; // how many faults of each kind came since VSYNC changed, among its rows or not
-    /** @type {({fault: number} & Mark)[]} */
-    this.marks = []; // the numbers of the faults among its rows that are listed, and where they are
+    this.marks = new Rows(["fault", "x", "y"]); // the numbers of the faults among its rows that are listed, and where they are
   }
 
   /** @param {Uint8Array} row @param {number} at its first column @param {number} first that of its first pixel @param {number} line */
@@ -74,13 +76,13 @@ export class Frame {
     const last = this.rows.length - 1;
     if (last < 0) return NOWHERE;
     const mark = kind === "code" ? { x: column - this.firsts[last], y: last } : NOWHERE;
-    this.marks.push({ fault, ...mark });
+    this.marks.add([fault, mark.x, mark.y]);
     return mark;
   }
 
   /** @param {Mark} mark @returns {Uint8Array} the bytes there */
   pixelAt({ x, y }) {
-    return x < 0 ? new Uint8Array(0) : this.rows[y].subarray(3 * x, 3 * x + 3);
+    return x < 0 ? NOTHING : this.rows[y].subarray(3 * x, 3 * x + 3);
   }
 
   /** @returns {number} the columns of the first row */

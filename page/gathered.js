@@ -1,33 +1,38 @@
 // What the worker has posted so far, as the sections of the report read it.
 
 import { Bursts } from "./bursts.js";
-import { Findings } from "./findings.js";
+import { hexOf } from "./bytes.js";
+import { FAULT_KINDS } from "./events.js";
+import { Findings, UNCHANGED } from "./findings.js";
 import { Hearing } from "./hearing.js";
-import { shortened } from "./listing.js";
+import { Lines, Listing } from "./listing.js";
 import { Samples } from "./samples.js";
 import { CONTENT_FAULTS, FAULTS, NAMES } from "./words.js";
 
 const BLOCKS = ["body 0", "body 1", "body 2", "body 3", "header"];
+/** @type {number[]} */
+const NONE = [];
 const NOT_READ = "not read, since a block is lost";
 /** What has been posted before anything was.
  *  @type {Post} */
 const NOTHING = {
   at: 0, size: 0, bits: [], found: new Findings(false, 0).taken(), slip: null,
-  listing: { lines: "", count: 0, parts: [], isWhole: true, size: 0 },
+  listing: new Listing().taken(false),
 };
 
-/** @param {any[]} list @param {any[]} more that are put behind it, however many there are */
+/** @param {any[]} list @param {ArrayLike<any>} more that are put behind it, however many there are */
 function append(list, more) {
-  for (const one of more) list.push(one);
+  for (let at = 0; at < more.length; at++) list.push(more[at]);
 }
 
-/** @param {object} table a list a column @param {object} more the same lists, which are put behind those of the table */
+/** @param {object} table a list a column @param {Record<string, ArrayLike<any>>} more the same lists, which are put behind those of the
+ *  table */
 function extend(table, more) {
-  for (const [name, list] of Object.entries(table)) append(list, /** @type {Record<string, any[]>} */ (more)[name]);
+  for (const [name, list] of Object.entries(table)) append(list, more[name]);
 }
 
-/** @param {string} name @returns {Data} of a report in which nothing stands yet */
-function emptyData(name) {
+/** @param {string} name @param {Lines} lines @returns {Data} of a report in which nothing stands yet */
+function emptyData(name, lines) {
   const faults = { kind: [], lane: [], at: [], epoch: [], column: [], line: [], more: [], frame: [], x: [], y: [], rgb: [] };
   return {
     name, columns: 0, epochs: [0], places: [0], hidden: [0], alignments: [0], doubts: [[], []],
@@ -36,7 +41,7 @@ function emptyData(name) {
     limits: Object.keys(CONTENT_FAULTS).filter((kind) => CONTENT_FAULTS[kind].isLimit),
     frames: [], shown: [], thumbs: [],
     packets: { names: [], at: [], words: [], faults: [], verdicts: [], symbols: [], line: [] },
-    packetNames: NAMES, words: [], blocks: BLOCKS, lines: [], sound: null,
+    packetNames: NAMES, words: [], blocks: BLOCKS, lines, sound: null,
   };
 }
 
@@ -50,7 +55,8 @@ export class Gathered {
   /** @param {string[]} names of the files @param {(small: ImageData) => string} urlOf what makes a picture a URL */
   constructor(names, urlOf) {
     this.name = names.join(", ");
-    this.data = emptyData(names.length > 1 ? "capture" : names[0].replace(/\.[^.]*$/, "")); // by this name files are saved
+    this.lines = new Lines();
+    this.data = emptyData(names.length > 1 ? "capture" : names[0].replace(/\.[^.]*$/, ""), this.lines); // by this name files are saved
     this.urlOf = urlOf;
     /** @type {ImageData[]} */
     this.pictures = [];
@@ -71,7 +77,6 @@ export class Gathered {
     this.hearing = null; // the sound, once all of it has come
     /** @type {Blob[]} */
     this.listing = [];
-    this.isShort = false; // whether long rows have only their first pixels
     /** @type {Post} */
     this.last = NOTHING; // what was posted last
   }
@@ -84,12 +89,18 @@ export class Gathered {
     this.takeTables(found);
     this.takePackets(found);
     this.samples.push(found.sound.packets);
-    this.takeLines(listing);
+    append(this.listing, listing.parts);
     const { data } = this;
+    this.lines.take(listing);
     data.columns = found.columns;
     data.doubts[1][0] = found.columns;
     data.alignments[0] = Number(found.isAligned);
     data.shown = found.shown;
+    this.takeBursts();
+  }
+
+  takeBursts() {
+    this.data.bursts = this.bursts.take(this.data.faults, this.data.periods, this.isOver);
   }
 
   /** @param {Found} found */
@@ -104,6 +115,7 @@ export class Gathered {
   /** All has come: what is told of the sound. */
   hear() {
     this.isOver = true;
+    this.takeBursts();
     const { sound: { told }, depth, unheard } = this.last.found;
     if (!told.samples) return;
     this.hearing = new Hearing(new Samples(this.samples, told.samples), told, depth, unheard);
@@ -112,16 +124,34 @@ export class Gathered {
 
   /** @param {Found} found */
   takeTables({ periods, faults, settled, rest }) {
-    const { data, listed } = this;
+    const { data } = this;
     extend(data.periods, periods);
-    extend(data.faults, faults);
     data.rest = rest;
-    faults.kind.forEach((kind, at) => { countIn(listed, kind, faults.lane[at], 1); });
-    for (const { fault, frame, x, rgb } of settled) {
-      data.faults.frame[fault] = frame;
-      if (x !== undefined) data.faults.x[fault] = x;
-      if (rgb !== undefined) data.faults.rgb[fault] = rgb;
+    for (let at = 0; at < faults.kind.length; at++) this.takeFault(faults, at);
+    for (let at = 0; at < settled.fault.length; at++) {
+      const fault = settled.fault[at];
+      data.faults.frame[fault] = settled.frame[at];
+      if (settled.x[at] > UNCHANGED) data.faults.x[fault] = settled.x[at];
+      if (settled.rgb[at] > UNCHANGED) data.faults.rgb[fault] = hexOf(settled.rgb[at]);
     }
+  }
+
+  /** @param {Found["faults"]} faults @param {number} at one of them */
+  takeFault({ kind: kinds, lane, at: columns, line, one, other, x, y, rgb }, at) {
+    const { data: { faults }, listed } = this;
+    const kind = FAULT_KINDS[kinds[at]];
+    faults.kind.push(kind);
+    faults.lane.push(lane[at]);
+    faults.at.push(columns[at]);
+    faults.epoch.push(0);
+    faults.column.push(columns[at]);
+    faults.line.push(line[at]);
+    faults.more.push(one[at] < 0 ? NONE : other[at] < 0 ? [one[at]] : [one[at], other[at]]);
+    faults.frame.push(-1);
+    faults.x.push(x[at]);
+    faults.y.push(y[at]);
+    faults.rgb.push(hexOf(rgb[at]));
+    countIn(listed, kind, lane[at], 1);
   }
 
   /** @returns {Record<string, Record<number, number>>} how many faults there are, by kind and lane */
@@ -131,13 +161,6 @@ export class Gathered {
       for (const [lane, times] of Object.entries(lanes)) countIn(found, kind, Number(lane), times);
     }
     return found;
-  }
-
-  /** @returns {Data} as far as it has come */
-  whole() {
-    const { data } = this;
-    data.bursts = this.bursts.take(data.faults, data.periods, this.isOver);
-    return data;
   }
 
   /** @param {Found} found */
@@ -173,15 +196,6 @@ export class Gathered {
     const info = this.infos.get(key) ?? { name, rows, line, times: 0 };
     info.times += 1;
     this.infos.set(key, info);
-  }
-
-  /** @param {{lines: string, count: number, parts: Blob[], isWhole: boolean}} listing */
-  takeLines({ lines, count, parts, isWhole }) {
-    append(this.listing, parts);
-    if (count) append(this.data.lines, lines.split("\n"));
-    if (isWhole || this.isShort) return;
-    this.isShort = true;
-    this.data.lines.forEach((line, at) => { this.data.lines[at] = shortened(line); });
   }
 
   /** @returns {number} the lines of the listing that tell a fault */

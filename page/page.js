@@ -78,6 +78,7 @@ function read() {
     pause: 0, shown: Promise.resolve(),
   };
   reading = its;
+  data = its.gathered.data;
   by("report").replaceChildren(by("report-sections").content.cloneNode(true));
   by("report").hidden = true;
   showChosen();
@@ -115,6 +116,7 @@ function fail(its, why) {
 function take(its, post) {
   if (reading !== its) return;
   its.gathered.take(post);
+  gatherTime();
   showProgress(post.at, post.size);
   if (post.status === undefined) {
     its.timer ||= window.setTimeout(() => displaySoon(its), its.pause);
@@ -155,7 +157,6 @@ async function displayNow(its) {
 
 /** @param {Reading} its @returns {Promise<unknown>} shows the sections that report.js fills */
 function displayReport(its) {
-  data = its.gathered.whole();
   if (its.isStarted) return growReport();
   its.isStarted = true;
   pictureOf = (number) => its.gathered.pictures[number];

@@ -4,6 +4,7 @@ import { eventsOf } from "./events.js";
 import { Findings } from "./findings.js";
 import { Listing } from "./listing.js";
 import { DVI, NO_CAPTURE, recover } from "./module.js";
+import { memoryOf } from "./rows.js";
 import { sourceOf, whyNone } from "./source.js";
 import { Slips } from "./strays.js";
 
@@ -11,7 +12,7 @@ const EACH = 200; // milliseconds between two posts
 
 /** @typedef {{files: Blob[], kind: number, module: WebAssembly.Module}} Order what is to be read, and by what */
 /** @typedef {{at: number, size: number, bits: number[], found: import("./findings.js").Found, slip: import("./strays.js").Slip | null,
- *  listing: import("./listing.js").Lines, status?: number, why?: string[]}} Post how far the capture was read, and what came since the last
+ *  listing: import("./listing.js").News, status?: number, why?: string[]}} Post how far the capture was read, and what came since the last
  *  post; at the end the status, and of what is no capture why */
 
 /** Tells the page what was found. */
@@ -43,9 +44,11 @@ class Teller {
   /** @param {boolean} isEnd whether this is all @param {object} [more] what else is to be told */
   post(isEnd, more = {}) {
     const found = this.findings.taken();
-    const pixels = new Set(found.pictures.flatMap(({ image, small }) => [image.data.buffer, small.data.buffer]));
+    const listing = this.listing.taken(isEnd);
     const { at, source: { size, bits }, slips: { slip } } = this;
-    postMessage({ at, size, bits, found, slip, listing: this.listing.taken(isEnd), ...more }, { transfer: [...pixels] });
+    const pixels = found.pictures.flatMap(({ image, small }) => [image.data.buffer, small.data.buffer]);
+    const tables = memoryOf(found.periods, found.faults, found.settled, /** @type {any} */ (listing.chunk));
+    postMessage({ at, size, bits, found, slip, listing, ...more }, { transfer: [...new Set([...pixels, ...tables])] });
     this.told = performance.now();
   }
 }

@@ -1,6 +1,26 @@
-"""What the tests of the tools share as fixtures: a browser, and the page of a capture in it."""
+"""What the tests of the tools share as fixtures: a browser, the page of a capture in it, and the page that reads by itself."""
+
+import subprocess
 
 import pytest
+
+from tests.support import TOP
+from vabgrot.report import whole
+
+
+@pytest.fixture(scope="session")
+def receiver():
+    """Without the module that page/build makes the tests are skipped."""
+    if not (whole.FOLDER / whole.MODULE).is_file():
+        pytest.skip(f"there is no page/{whole.MODULE}: page/build makes it")
+
+
+@pytest.fixture(scope="module")
+def served(receiver):
+    """The URL of the page as tools/page serves it."""
+    with subprocess.Popen([TOP / "tools" / "page"], stdout=subprocess.PIPE, text=True) as process:
+        yield process.stdout.readline().strip()
+        process.terminate()
 
 
 @pytest.fixture

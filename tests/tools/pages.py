@@ -3,6 +3,7 @@
 import os
 import re
 from base64 import b64encode
+from pathlib import Path
 
 import pytest
 from PIL import Image
@@ -29,6 +30,33 @@ def opened():
     found = webdriver.Chrome(options=options, service=Service(DRIVER))
     found.set_page_load_timeout(HANGS)
     found.set_script_timeout(HANGS)
+    return found
+
+
+def children(process):
+    """The numbers of all processes below one."""
+    found = []
+    for path in Path("/proc").glob("[0-9]*/stat"):
+        try:
+            parent = int(path.read_text().rpartition(")")[2].split()[1])
+        except OSError:  # it has ended
+            continue
+        if parent == process:
+            found += [int(path.parent.name), *children(int(path.parent.name))]
+    return found
+
+
+def memory(driver):
+    """How many MB each process of the browser that shows a page has by itself, with its threads; 0 if none does."""
+    found = [0.0]
+    for process in children(driver.service.process.pid):
+        try:
+            is_page = "--type=renderer" in Path(f"/proc/{process}/cmdline").read_text()
+            status = Path(f"/proc/{process}/status").read_text()
+        except OSError:
+            continue
+        if is_page:
+            found.append(int(re.search(r"RssAnon:\s*(\d+)", status)[1]) * 1024 / 1e6)
     return found
 
 

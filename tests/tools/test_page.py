@@ -6,7 +6,6 @@ import random
 import shutil
 import subprocess
 
-import numpy as np
 import pytest
 
 from tests.models import feeding, model, timed
@@ -22,21 +21,6 @@ from selenium.webdriver.support.ui import WebDriverWait  # noqa: E402
 WIDTH, HEIGHT, ACROSS, DOWN, FIRST_PIXEL, FIRST_ROW = 32, 24, 120, 30, 80, 4
 MODE = "32 8 16 64 24 2 2 2 1"
 FRAME = 10 * ACROSS * DOWN // 8  # bytes of a lane
-
-
-@pytest.fixture(scope="module")
-def receiver():
-    """Without the module that page/build makes the tests are skipped."""
-    if not (whole.FOLDER / whole.MODULE).is_file():
-        pytest.skip(f"there is no page/{whole.MODULE}: page/build makes it")
-
-
-@pytest.fixture(scope="module")
-def served(receiver):
-    """The URL of the page as tools/page serves it."""
-    with subprocess.Popen([TOP / "tools" / "page"], stdout=subprocess.PIPE, text=True) as process:
-        yield process.stdout.readline().strip()
-        process.terminate()
 
 
 @pytest.fixture(scope="module")
@@ -83,8 +67,8 @@ def data_of(page):
     """What a page has of a capture: all but the characters at faults, the sound, the files of pictures, and the doubtful columns, which
     only the page that reads by itself has."""
     return page.run(
-        "const {thumbs, sound, rest, name, doubts, faults: {characters, ...faults}, frames, ...others} = data;"
-        "return {...others, faults, frames: frames.map(({picture, kind, ...one}) => one)}"
+        "const {thumbs, sound, rest, name, doubts, lines, faults: {characters, ...faults}, frames, ...others} = data;"
+        "return {...others, lines: [...lines], faults, frames: frames.map(({picture, kind, ...one}) => one)}"
     )
 
 
@@ -444,46 +428,3 @@ def test_only_the_page_is_served(served):
 def test_refused_ports(tool):
     for word in ("65536", "1,2", "x"):
         assert b"--port" in tool("page", "--port", word, status=2).stderr
-
-
-def many_faults(program, counts):
-    """A capture of frames, each with so many control columns that have one wrong character, on lanes 0, 1 and 2 in turn."""
-    rows = ["c 00 20", "c 04 8", "v " + "336699" * WIDTH] * 4
-    frames = [["c 02 60", "c 00 60", *rows, f"c 00 {count + 60}"] for count in counts]
-    listing = ["c 00 60", *(line for frame in frames for line in frame), "c 02 60", "c 00 60", "end", ""]
-    made = program("make", "link", source="\n".join(listing).encode())
-    lanes, bits = capture.lanes_of(made)
-    words = [np.unpackbits(np.frombuffer(lane, np.uint8), bitorder="little")[: bits[0]].reshape(-1, 10) for lane in lanes]
-    at = 60
-    for count in counts:
-        at += 60 + 60 + 4 * (28 + 2 + WIDTH) + 30
-        for lane in range(3):
-            words[lane][at + lane : at + count : 3] = [1, 1, 1, 1, 1, 0, 0, 0, 0, 0]  # no control character, and no guard band
-        at += count + 30
-    out = io.BytesIO()
-    capture.write(out, [io.BytesIO(np.packbits(lane.reshape(-1), bitorder="little").tobytes()) for lane in words], [bits[0]])
-    return out.getvalue()
-
-
-ANSWER = """const [text, done] = arguments; const table = document.querySelector('#fault-table');
-    const [field, says] = [table.querySelector('input[type=search]'), table.querySelector('.bar > span')];
-    const began = performance.now(); field.value = text; field.dispatchEvent(new Event('input'));
-    const look = () => (says.textContent.endsWith('looking on') ? setTimeout(look) : done([performance.now() - began, says.textContent]));
-    setTimeout(look);"""
-
-
-def test_many_faults(page, program, tmp_path):
-    """Of each kind a frame has 10,000 faults listed, and the others are counted; a text is soon found among those that are listed."""
-    wrong = [10_000] * 7 + [300_000]
-    made = many_faults(program, wrong)
-    wanted = program("recover", "link", source=made, status=1)
-    (tmp_path / "a.tmc").write_bytes(made)
-    page.read(tmp_path / "a.tmc")
-    assert wanted.count(b"\n! word") == sum(wrong) == page.count("faults") and page.saved(tmp_path) == wanted
-    assert page.run("return [data.faults.kind.length, data.rest.length]") == [80_000, 1]
-    assert sum(int(times.replace(",", "")) for _, _, times in counts(page)) == sum(wrong)
-    assert "Of each kind the first 10,000 faults of a frame are listed; the others are counted (290,000 word)" in page.text("notes")
-    answers = [page.driver.execute_async_script(ANSWER, f"lane {number % 3}") for number in range(6)]
-    assert [says.rpartition(" ")[2] for _, says in answers] == ["26,672", "26,664", "26,664"] * 2  # of 10,000 lane 0 has one more
-    assert min(milliseconds for milliseconds, _ in answers) < 200
-    page.check()

@@ -2,14 +2,12 @@
 `recover link`, or without guard bands of `recover dvi`, to the byte. One page reads them all, by its own worker."""
 
 import random
-import subprocess
 from base64 import b64encode
 
 import pytest
 
 from tests.models import feeding
 from tests.support import TOP, run
-from vabgrot.report import whole
 
 pages = pytest.importorskip("tests.tools.pages")
 from tests.tools.firefox import Firefox  # noqa: E402
@@ -40,16 +38,6 @@ const read = (worker, files, kind, module) => new Promise((then, fail) => {
     worker.terminate();
     return found;
 })().then(done, (why) => done(String(why)))"""
-
-
-@pytest.fixture(scope="module")
-def served():
-    """The URL of the page as tools/page serves it."""
-    if not (whole.FOLDER / whole.MODULE).is_file():
-        pytest.skip(f"there is no page/{whole.MODULE}: page/build makes it")
-    with subprocess.Popen([TOP / "tools" / "page"], stdout=subprocess.PIPE, text=True) as process:
-        yield process.stdout.readline().strip()
-        process.terminate()
 
 
 @pytest.fixture(scope="module", params=("chromium", "firefox"))

@@ -20,10 +20,12 @@
 /** @typedef {{kind: string, lanes: Record<number, number>, from: number, to: number}} Rest faults of a kind that are counted and not listed */
 /** @typedef {{fault: number[], at: number[]}} Ordered faults in the order of their columns, and these */
 /** @typedef {{frames: number[], isField: boolean}} Shown what is shown as one picture */
+/** @typedef {{length: number, at: (number: number) => string | undefined, [Symbol.iterator]: () => Iterator<string>}} Lines of a listing,
+ *  counted from 0 */
 /** @typedef {{name: string, columns: number, epochs: number[], places: number[], hidden: number[], alignments: number[], doubts: number[][],
  *  periods: Periods, faults: Faults, bursts: Burst[], rest?: Rest[], kinds: Record<string, [string, string]>, limits: string[], frames:
  *  Shot[], shown: Shown[], thumbs: string[], packets: Packets, packetNames: Record<number, string>, words: string[], blocks: string[],
- *  lines: string[], sound: {choices: {name: string, gains: number[][]}[], order: number[]} | null}} Data what a page shows of a capture, as
+ *  lines: Lines, sound: {choices: {name: string, gains: number[][]}[], order: number[]} | null}} Data what a page shows of a capture, as
  *  vabgrot.tools.report writes it */
 
 /** @type {<Id extends string>(id: Id) => ElementBy<Id>} */
@@ -63,9 +65,9 @@ function penOf(canvas) {
 /** @param {number} number a whole number @returns {string} with a comma between thousands; Intl takes five times as long, and texts of
  *  all faults are looked through */
 function count(number) {
-  let [left, text] = [number, ""];
-  for (; left >= 1000; left = Math.floor(left / 1000)) text = `,${String(left % 1000).padStart(3, "0")}${text}`;
-  return `${left}${text}`;
+  if (number < 1000) return String(number);
+  const rest = number % 1000;
+  return `${count((number - rest) / 1000)},${rest < 10 ? "00" : rest < 100 ? "0" : ""}${rest}`;
 }
 
 const SLICE = 60; // milliseconds of work after which a page lets others run
@@ -432,7 +434,7 @@ function drawStrip() {
 /* The picture that is shown first: the first damaged one, or the first whole one. */
 function firstPicture() {
   const damaged = viewer.pictures.findIndex((picture, number) => picture.whole && viewer.marks[number].length);
-  const sides = Math.max(...viewer.pictures.map((picture) => picture.fields.length));
+  const sides = viewer.pictures.reduce((most, picture) => Math.max(most, picture.fields.length), 0);
   const first = damaged >= 0 ? damaged : viewer.pictures.findIndex((picture) => picture.whole && picture.fields.length === sides);
   return Math.max(0, first);
 }
@@ -494,16 +496,20 @@ function startPictures() {
 /* ---- the timeline ---- */
 
 const SHARES = ["control", "video", "island", "unknown"];
+const SHARE_OF = PERIODS.map((name) => SHARES.indexOf(name)); // by the kind of a period
 const unmoved = () => ({
   first: 0, last: 0, all: 0, cursor: 0, drag: /** @type {{x: number, first: number, moved: boolean} | null} */ (null),
   sums: SHARES.map(() => [0]), // of each kind of period the columns before each period, so that a stretch's shares are two look-ups
   order: /** @type {Ordered} */ ({ fault: [], at: [] }),
+  rows: ROWS.map(() => /** @type {number[]} */ ([])), // of each row the columns of its faults, in order
 });
-const time = unmoved();
 const ROWS = ["frames", "periods", "lane 0", "lane 1", "lane 2", "packets", "structure", "slips"];
+const SLIPS = 7; // the row of slips
 const [ROW, HEAD, LABEL] = [28, 22, 76];
+const APART = 0.7; // pixels between two faults that are drawn
+const time = unmoved();
 
-const ROW_OF = { lane: 2, packet: 5, structure: 6, slip: 7 };
+const ROW_OF = { lane: 2, packet: 5, structure: 6, slip: SLIPS };
 
 /** @param {string} kind of a fault @param {number} lane @returns {number} its row */
 function faultRow(kind, lane) {
@@ -514,28 +520,46 @@ function faultRow(kind, lane) {
 /** Adds the periods that have come. */
 function sumPeriods() {
   const { kind, columns } = data.periods;
-  for (let number = time.sums[0].length - 1; number < kind.length; number++) {
-    const place = SHARES.indexOf(PERIODS[kind[number]]);
-    time.sums.forEach((sum, other) => { sum.push(sum[number] + (other === place ? columns[number] : 0)); });
-  }
+  time.sums.forEach((sum, share) => {
+    let total = sum[sum.length - 1];
+    for (let number = sum.length - 1; number < kind.length; number++) {
+      if (SHARE_OF[kind[number]] === share) total += columns[number];
+      sum.push(total);
+    }
+  });
 }
 
-/** Puts the faults that have come where their columns are: most behind all others.
+/** Puts a number where it is in order: most are behind all others.
+ *  @param {number[]} list @param {number} value @returns {number} its place */
+function putIn(list, value) {
+  let place = list.length;
+  list.push(value);
+  for (; place > 0 && list[place - 1] > value; place--) [list[place], list[place - 1]] = [list[place - 1], value];
+  return place;
+}
+
+/** Puts the faults that have come where their columns are.
  *  @param {Ordered} ordered @param {Faults} faults */
 function orderFaults({ fault: order, at: columns }, faults) {
   for (let fault = order.length; fault < faults.at.length; fault++) {
-    const at = faults.at[fault];
-    let place = order.length;
-    for (; place > 0 && columns[place - 1] > at; place--) [order[place], columns[place]] = [order[place - 1], columns[place - 1]];
-    [order[place], columns[place]] = [fault, at];
+    const place = putIn(columns, faults.at[fault]);
+    order.push(fault);
+    if (place < fault) order.copyWithin(place + 1, place, fault);
+    order[place] = fault;
   }
+}
+
+/** Puts the faults that have come into their rows. */
+function rowFaults() {
+  const { kind, lane, at } = data.faults;
+  for (let fault = time.order.fault.length; fault < at.length; fault++) putIn(time.rows[faultRow(kind[fault], lane[fault])], at[fault]);
 }
 
 /** @param {number} at @returns {number[]} the columns of each kind of period before this one */
 function sharesBefore(at) {
   const number = placeOf(data.periods.at, at);
   if (number < 0) return time.sums.map(() => 0);
-  const kind = SHARES.indexOf(PERIODS[data.periods.kind[number]]);
+  const kind = SHARE_OF[data.periods.kind[number]];
   const inside = Math.min(at - data.periods.at[number], data.periods.columns[number]);
   return time.sums.map((sum, other) => sum[number] + (other === kind ? inside : 0));
 }
@@ -621,23 +645,20 @@ function drawPeriods(pen, scale, width) {
 /** @param {CanvasRenderingContext2D} pen @param {(at: number) => number} across @param {number} width @param {number} height */
 function drawFaults(pen, across, width, height) {
   const [fault, slip] = [colour("fault"), colour("slip")];
-  const drawn = ROWS.map(() => -9); // where the last fault of each row was drawn
-  const { order } = time;
   for (const { kind, lanes, from, to } of data.rest ?? []) {
     for (const lane of Object.keys(lanes)) drawRest(pen, faultRow(kind, Number(lane)), across(from), across(to + 1), width);
   }
-  for (let place = placeOf(order.at, time.first - 1) + 1; place < order.at.length; place++) {
-    const [at, number] = [order.at[place], order.fault[place]];
-    if (at > time.last) break;
-    const row = faultRow(data.faults.kind[number], data.faults.lane[number]);
-    const x = across(at);
-    const wide = Math.max(2, across(at + 1) - x);
-    if (x - drawn[row] < 0.7) continue;
-    drawn[row] = x;
-    pen.fillStyle = row === 7 ? slip : fault;
-    pen.fillRect(x, HEAD + ROW * row + 4, wide, ROW - 8);
-    if (row === 7) pen.fillRect(x, HEAD - 2, 1.5, height - HEAD - 4);
-  }
+  const near = APART / (across(1) - across(0)); // columns between two faults that are drawn
+  time.rows.forEach((columns, row) => {
+    pen.fillStyle = row === SLIPS ? slip : fault;
+    for (let place = placeOf(columns, time.first - 1) + 1; place < columns.length && columns[place] <= time.last;) {
+      const at = columns[place];
+      const x = across(at);
+      pen.fillRect(x, HEAD + ROW * row + 4, Math.max(2, across(at + 1) - x), ROW - 8);
+      if (row === SLIPS) pen.fillRect(x, HEAD - 2, 1.5, height - HEAD - 4);
+      place = columns[place + 1] > at + near ? place + 1 : placeOf(columns, at + near) + 1;
+    }
+  });
 }
 
 /** Faults that are counted and not listed, as a bar where the first and the last one are.
@@ -750,10 +771,16 @@ function stepTimeFault(step) {
   pointTo(order.at[place]);
 }
 
-/* Columns have come: where all were in view all are. */
-function growTime() {
+/* Adds what has come to what the timeline is drawn from. A page that reads does so each time that something comes, which is little. */
+function gatherTime() {
+  rowFaults();
   orderFaults(time.order, data.faults);
   sumPeriods();
+}
+
+/* Columns have come: where all were in view all are. */
+function growTime() {
+  gatherTime();
   if (time.first === 0 && time.last === time.all) time.last = data.columns;
   time.all = data.columns;
   by("time").setAttribute("aria-valuemax", String(data.columns - 1));
@@ -815,12 +842,27 @@ function startTime() {
 
 const LINES = 100;
 
+/** @param {string} text @returns {Promise<number[]>} the lines that have it, counted from 1 on; none of "" */
+async function linesWith(text) {
+  /** @type {number[]} */
+  const found = [];
+  let [number, began] = [0, performance.now()];
+  for (const line of text ? data.lines : []) {
+    number += 1;
+    if (line.includes(text)) found.push(number);
+    if (number % 1024 || performance.now() - began < SLICE) continue;
+    await breath();
+    began = performance.now();
+  }
+  return found;
+}
+
 function startListing() {
   /** @type {Paged<number>} */
   const paged = new Paged(by("lines"), "the listing", LINES, (shown) => {
     const list = made("ol", { className: "lines" });
     for (const number of shown) {
-      const line = data.lines[number];
+      const line = data.lines.at(number) ?? "";
       const item = made("li", { id: `L${number + 1}` }, made("a", { href: `#L${number + 1}`, "aria-label": `line ${number + 1}` }, String(number + 1)), line);
       item.classList.toggle("is-fault", line.startsWith("!"));
       list.append(item);
@@ -839,12 +881,14 @@ function startListing() {
   const text = made("input", { type: "search" });
   const says = made("span");
   says.setAttribute("aria-live", "polite");
-  const find = (/** @type {number} */ step) => {
-    if (text.value !== search.text) {
+  const find = async (/** @type {number} */ step) => {
+    const wanted = text.value;
+    if (wanted !== search.text) {
       const first = paged.page * LINES;
-      const found = data.lines.flatMap((line, number) => (text.value && line.includes(text.value) ? [number + 1] : []));
+      const found = await linesWith(wanted);
+      if (text.value !== wanted) return;
       const next = placeOf(found, first);
-      Object.assign(search, { text: text.value, found, place: step > 0 ? next : next + 1 });
+      Object.assign(search, { text: wanted, found, place: step > 0 ? next : next + 1 });
     }
     const all = search.found.length;
     search.place = all ? (search.place + step + all) % all : -1;

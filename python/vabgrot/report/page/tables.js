@@ -153,7 +153,9 @@ function csvOf(rows) {
 
 /** @param {number} fault @returns {string} */
 function faultText(fault) {
-  const [kind, lane, more] = [data.faults.kind[fault], data.faults.lane[fault], data.faults.more[fault]];
+  const kind = data.faults.kind[fault];
+  const lane = data.faults.lane[fault];
+  const more = data.faults.more[fault];
   if (kind === "slip" || kind === "relock") {
     const isAligned = data.alignments[data.faults.epoch[fault] + 1];
     const what = kind === "slip" ? `slip of ${LANES[lane]}, found` : "alignment let go, and searched anew";
@@ -167,8 +169,8 @@ function faultText(fault) {
 
 /** @param {number} fault @returns {string} */
 function placeText(fault) {
+  if (data.faults.kind[fault] !== "code" || data.faults.frame[fault] < 0) return "";
   const [frame, x] = [data.faults.frame[fault], data.faults.x[fault]];
-  if (data.faults.kind[fault] !== "code" || frame < 0) return "";
   const name = viewer.pictures[viewer.pictureOf[frame]].name;
   return x < 0 ? `${name}, row ${rowOf(fault)}` : `${name}, row ${rowOf(fault)}, pixel ${x}`;
 }
@@ -274,12 +276,12 @@ function startFaults() {
   const wanted = { kind: "", lane: "", text: "" };
   /** @type {Paged<number | Burst>} */
   const paged = new Paged(place, "faults", 20, (rows) => faultTable("The faults in the order of the listing", rows));
-  /** @type {string[]} */
-  const texts = []; // of the faults that were looked through, as long as nothing changes them
-  const textOf = (/** @type {number} */ fault) => `${faultText(fault)} ${columnText(data.faults.at[fault], true)} ${placeText(fault)} line ${data.faults.line[fault]}`.toLowerCase();
+  /* No text is kept: to keep those of many faults takes longer than to make them again. */
+  const hasText = (/** @type {number} */ fault) =>
+    `${faultText(fault)} ${columnText(data.faults.at[fault], true)} ${placeText(fault).toLowerCase()} line ${data.faults.line[fault]}`.includes(wanted.text);
   const isWanted = (/** @type {number} */ fault) =>
     (!wanted.kind || data.faults.kind[fault] === wanted.kind) && (wanted.lane === "" || data.faults.lane[fault] === Number(wanted.lane))
-    && (!wanted.text || (texts[fault] ??= textOf(fault)).includes(wanted.text));
+    && (!wanted.text || hasText(fault));
   const isAll = () => !wanted.kind && wanted.lane === "" && !wanted.text;
   const fill = () => (isAll() ? paged.set(foldedFaults()) : paged.find(data.faults.kind.length, isWanted, false));
   paged.addSearch((text) => { wanted.text = text; fill(); });
@@ -298,19 +300,18 @@ function startFaults() {
   });
   const grow = () => {
     setChoices(kind, [...new Set(data.faults.kind)]);
-    texts.length = 0;
     if (isAll()) paged.grow(foldedFaults());
     else paged.find(data.faults.kind.length, isWanted, true);
   };
   grow();
   growing.push(grow);
-  viewer.changed.push(() => { texts.length = 0; paged.go(paged.page); });
+  viewer.changed.push(() => paged.go(paged.page));
 }
 
 /** The header and the four bodies of a packet, hexadecimal digits, from its line of the listing.
  *  @param {number} number @returns {string[]} */
 function packetBytes(number) {
-  return data.lines[data.packets.line[number] - 1].split(" ").slice(1, 6);
+  return (data.lines.at(data.packets.line[number] - 1) ?? "").split(" ").slice(1, 6);
 }
 
 const PACKET_HEADS = () => [
