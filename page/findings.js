@@ -115,7 +115,7 @@ export class Findings {
     this.sound = new Sound();
     /** @type {Record<string, number>} */
     this.wrong = {}; // faults of contents, by kind
-    this.content = { isCounting: false, width: 0, rows: 0 }; // of the frame, as `recover content` counts it
+    this.content = { isCounting: false, width: 0, rows: 0, ragged: 0, isTorn: false }; // of the frame, as `recover content` counts it
     this.vic = 0; // of the last AVI InfoFrame
     this.otherSizes = 0; // frames of another size than it says, by their pixels
     this.raggedByFrames = 0; // the same of rows of another width
@@ -171,8 +171,9 @@ export class Findings {
    *  @param {number} at the first column of the period in which it did @param {number} change */
   change(at, change) {
     const content = this.content;
-    if (content.rows && isOtherSize(this.vic, content.width, content.rows)) this.blame("vic");
-    Object.assign(content, { isCounting: true, rows: 0 });
+    if (!content.isTorn) this.blame("ragged", content.ragged);
+    if (!content.isTorn && content.rows && isOtherSize(this.vic, content.width, content.rows)) this.blame("vic");
+    Object.assign(content, { isCounting: true, rows: 0, ragged: 0, isTorn: false });
     const ended = this.frame;
     this.frame = new Frame(true, change);
     if (ended.rows.length) this.endFrame(ended, at, "vsync");
@@ -185,7 +186,7 @@ export class Findings {
     const content = this.content;
     if (content.isCounting) {
       if (!content.rows) content.width = pixels;
-      else if (content.width !== pixels) this.blame("ragged");
+      else if (content.width !== pixels) content.ragged += 1;
       content.rows += 1;
     }
     this.counts.rows += 1;
@@ -234,13 +235,14 @@ export class Findings {
     const columns = kind === "empty" && this.isClosing ? 0 : ALONE[kind] ?? 0;
     if (columns || NEXT.has(kind)) this.end = at + columns;
     if (!columns && !UNCOUNTED.has(kind)) return;
+    this.content.isTorn = true;
     this.stretch(at);
     this.unknown = { at, line: this.lines };
   }
 
-  /** @param {string} kind of a fault of what the link carries */
-  blame(kind) {
-    this.wrong[kind] = (this.wrong[kind] ?? 0) + 1;
+  /** @param {string} kind of a fault of what the link carries @param {number} times */
+  blame(kind, times = 1) {
+    if (times) this.wrong[kind] = (this.wrong[kind] ?? 0) + times;
   }
 
   /** Reads the last packet, now that all is said of it. */
@@ -252,14 +254,16 @@ export class Findings {
     const content = verdicts.includes("lost") ? null : contentOf(packet);
     const name = nameOf(packet.header[0]);
     this.packets.add({ at, line, name, verdicts, symbols, content: content ? this.numberOf({ ...content, name }) : -1 });
-    if (content) this.heed(packet, content);
-    else if (packet.header[0] === TYPES.SAMPLES) this.sound.lose();
+    if (content) this.heed(packet, content, !symbols && verdicts === CLEAN);
+    else this.content.isTorn = true;
+    if (!content && packet.header[0] === TYPES.SAMPLES) this.sound.lose();
   }
 
-  /** @param {import("./packets.js").Packet} packet one without a lost block @param {import("./packets.js").Content} content */
-  heed(packet, { faults }) {
+  /** @param {import("./packets.js").Packet} packet one without a lost block @param {import("./packets.js").Content} content @param
+   *  {boolean} isIntact whether no bit of it was wrong: the source is blamed of no other one */
+  heed(packet, { faults }, isIntact) {
     const [kind, version] = packet.header;
-    for (const fault of faults) this.blame(fault.split(" ")[0]);
+    for (const fault of isIntact ? faults : []) this.blame(fault.split(" ")[0]);
     this.signals.take(packet);
     if (kind === TYPES.AVI && version === READ_AVI && !faults.length) this.vic = numberOf(packet, "VIC");
     this.sound.take(packet, faults);

@@ -2,6 +2,7 @@
 
 import { Bursts } from "./bursts.js";
 import { hexOf } from "./bytes.js";
+import { encryptionOf } from "./encryption.js";
 import { FAULT_KINDS } from "./events.js";
 import { Findings, UNCHANGED } from "./findings.js";
 import { Hearing } from "./hearing.js";
@@ -71,6 +72,7 @@ export class Gathered {
     this.bursts = new Bursts();
     this.isOver = false;
     this.hurt = 0; // packets that are damaged
+    this.encryption = ""; // how the link says that it is encrypted, once all has come
     /** @type {Uint8Array[]} */
     this.samples = []; // packets of samples
     /** @type {Hearing | null} */
@@ -116,6 +118,7 @@ export class Gathered {
   hear() {
     this.isOver = true;
     this.takeBursts();
+    this.encryption = encryptionOf(this.data.periods);
     const { sound: { told }, depth, unheard } = this.last.found;
     if (!told.samples) return;
     this.hearing = new Hearing(new Samples(this.samples, told.samples), told, depth, unheard);

@@ -1,79 +1,18 @@
-// What the report's template writes of a capture, from what has been gathered: verdict, counts, notes, tables.
+// What the report's template writes of a capture, from what has been gathered: counts, notes, tables.
 
 import { counted, megabytes, thousands } from "./bytes.js";
 import { MOST_LISTED } from "./frames.js";
-import { FAULTY, NO_ALIGNMENT, NO_CAPTURE } from "./module.js";
-import { ADVICE, ALONE, CONTENT_FAULTS, FAULTS, INTERLACED, NOT_EXACT, NO_CAPTURES, UNKNOWN, WOVEN } from "./words.js";
+import { NO_ALIGNMENT } from "./module.js";
+import { isEmpty } from "./verdict.js";
+import { ADVICE, ALONE, CONTENT_FAULTS, FAULTS, INTERLACED, NOT_EXACT, UNKNOWN, WOVEN } from "./words.js";
 
 /** @typedef {import("./gathered.js").Gathered} Gathered */
-/** @typedef {{word: string, sign: string, kind: string, says: string}} Verdict */
 /** @typedef {{isDvi: boolean, isStopped: boolean, status: number | null, why: string[]}} State of a reading: its status, null as long as it
  *  has none, and of what is no capture why */
 
-const PLACES = [...LANES.map((lane) => `on ${lane}`), "of no lane"];
 const LEFT_OUT = "Video timing, the rules of the standards and the characters at faults are told by tools/report alone, which also " +
   "follows lanes that lose bits and reads anew where the first alignment was wrong; this page reads as “recover link” does.";
 const LEFT_OUT_DVI = "Video timing and the characters at faults are told by tools/report --dvi alone.";
-
-/** @param {Gathered} gathered @returns {string[]} how many faults each lane has, and how many are of none */
-function placesOf({ matrix }) {
-  const counts = [0, 0, 0, 0];
-  for (const row of Object.values(matrix)) {
-    for (const [lane, times] of Object.entries(row)) counts[Number(lane) < 0 ? 3 : Number(lane)] += times;
-  }
-  return counts.flatMap((times, place) => (times ? [`${thousands(times)} ${PLACES[place]}`] : []));
-}
-
-/** @param {Gathered} gathered @param {boolean} areLimits @returns {string[]} how many faults of each kind the contents have: those of what
- *  the program does not read, or the others */
-function contentsInWords({ last }, areLimits) {
-  const counts = last.found.contentFaults;
-  return Object.keys(CONTENT_FAULTS).filter((kind) => counts[kind] && CONTENT_FAULTS[kind].isLimit === areLimits)
-    .map((kind) => `${thousands(counts[kind])} ${kind}`);
-}
-
-/** @param {string[]} why the kind of what is no capture, and a number @returns {string} */
-function whyInWords([kind, number]) {
-  if (kind === "short" && number === "0") return "empty";
-  return (NO_CAPTURES[kind] ?? "no capture").replace("{}", number);
-}
-
-/** @param {Gathered} gathered @returns {boolean} whether no lane has bits */
-function isEmpty({ last: { bits } }) {
-  return bits.every((count) => !count);
-}
-
-/** @param {Gathered} gathered @param {State} state @returns {Verdict} the word at the top, and a sentence on it */
-export function verdictOf(gathered, state) {
-  const faults = counted(gathered.faults, "fault line");
-  if (state.isStopped) return { word: "Stopped", sign: "■", kind: "faulty", says: `What was read until then is shown: ${faults}.` };
-  if (state.status === null) return { word: "Reading", sign: "…", kind: "reading", says: `${faults} so far.` };
-  if (state.status === NO_ALIGNMENT) {
-    const why = isEmpty(gathered) ? "no bits" : "no place at which a control period ends on all of them";
-    return { word: "No alignment", sign: "?", kind: "faulty", says: `The capture is well formed, but its three lanes have ${why}.` };
-  }
-  if (state.status === NO_CAPTURE) {
-    const before = gathered.data.columns ? ` What it has before that place is shown: ${faults}.` : "";
-    return { word: "Broken file", sign: "✗", kind: "faulty", says: `The file is ${whyInWords(state.why)}.${before}` };
-  }
-  return judged(gathered, state.status, faults);
-}
-
-/** @param {Gathered} gathered @param {number} status @param {string} faults in words @returns {Verdict} of a capture that was read whole */
-function judged(gathered, status, faults) {
-  if (status === FAULTY) {
-    return { word: "Faulty", sign: "✗", kind: "faulty", says: `The listing tells ${faults}: ${placesOf(gathered).join(", ")}.` };
-  }
-  if (status) return { word: "Not read", sign: "✗", kind: "faulty", says: `The receiver ended with status ${status}.` };
-  const [wrong, limits] = [contentsInWords(gathered, false), contentsInWords(gathered, true)];
-  const more = limits.length ? ` The program does not read, and the page does: ${limits.join(", ")}.` : "";
-  if (wrong.length) {
-    const says = `The link is clean, its contents are not: ${wrong.join(", ")}.${more}`;
-    return { word: "Contents wrong", sign: "!", kind: "contents", says };
-  }
-  const says = `No fault was found: a conforming source could have sent what was received.${more}`;
-  return { word: "Clean", sign: "✓", kind: "clean", says };
-}
 
 /** @param {Gathered} gathered @param {State} state @returns {[string, string, string][]} the numbers at the top: title, value, note */
 export function countsOf({ data, hurt, faults, hearing, last: { bits, size, found } }, { isDvi }) {

@@ -2,7 +2,8 @@
 
 import { megabytes, thousands } from "./bytes.js";
 import { showSound } from "./listening.js";
-import { adviceOf, contentFaultsOf, countsOf, listingInWords, matrixOf, notesOf, verdictOf } from "./sections.js";
+import { adviceOf, contentFaultsOf, countsOf, listingInWords, matrixOf, notesOf } from "./sections.js";
+import { verdictOf } from "./verdict.js";
 
 /** @typedef {import("./gathered.js").Gathered} Gathered */
 /** @typedef {import("./sections.js").State} State */

@@ -9,7 +9,9 @@ Every tool takes its word, its headline, its status and its JSON from here.
 | Link faulty    | the link lost or damaged something, or was aligned again        | yes    |
 | Nothing judged | the lanes are aligned, and neither a row nor a packet came      | yes    |
 | Source wrong   | the link is clean; a rule is broken, or a content is wrong      | yes    |
-| Clean          | everything that was judged passed                               | no     |"""
+| Clean          | everything that was judged passed                               | no     |
+
+The browser page has its words, its signs and its headline from here, too. It judges no rules, so it says `Link clean` and never `Clean`."""
 
 from __future__ import annotations
 
@@ -43,6 +45,11 @@ from vabgrot.video.timings import DEPTH
 READ_AVI = LAYOUTS["avi"].header[1]  # the version of AVI InfoFrames that `recover content` reads
 MOST_WORDS = 100  # the most letters of a cause in the headline
 FIRST = ("format", "AVI InfoFrame", "AVI format")  # broken rules that say most about a source come first
+NO_PLACE = "the three lanes have no place at which a control period ends on all of them"
+NOTHING_CAME = "neither a row nor a packet came"
+LINK_CLEAN = "Link clean"
+CONTENTS_WRONG = "contents wrong"
+CUT_OFF = "the capture is cut off"
 STRUCTURE = frozenset(("opening", "preamble", "guard band", "whole periods", "video coding", "control characters", "packet parity"))
 
 
@@ -55,6 +62,16 @@ class Word(enum.StrEnum):
     NOTHING = "Nothing judged"
     SOURCE = "Source wrong"
     CLEAN = "Clean"
+
+    @property
+    def sign(self) -> str:
+        """The sign beside it on a page."""
+        return {Word.CLEAN: "✓", Word.SOURCE: "!"}.get(self, "✗")
+
+    @property
+    def style(self) -> str:
+        """The style of the head of a page."""
+        return {Word.CLEAN: "clean", Word.SOURCE: "contents"}.get(self, "faulty")
 
 
 @dataclass(frozen=True)
@@ -89,7 +106,7 @@ class Link:
     def words(self) -> str:
         """The faults in words, slips first."""
         if not self.is_aligned:
-            return "the three lanes have no place at which a control period ends on all of them"
+            return NO_PLACE
         more = f" (and {len(self.notes) - 1:,} more)" if len(self.notes) > 1 else ""
         found = ", ".join(f"{times:,} {kind}" for kind, times in self.kinds.most_common() if kind not in ANEW)
         return "; ".join([f"{one}{more}" for one in self.notes[:1]] + ([found] if found else [])) or "no fault"
@@ -116,7 +133,7 @@ class Coverage:
         if self.ends_at is not None:
             parts.append(f"nothing aligns from bit {self.ends_at:,} on")
         if self.is_cut_off:
-            parts.append("the capture is cut off")
+            parts.append(CUT_OFF)
         return ", ".join(parts)
 
 
@@ -195,15 +212,15 @@ class Verdict:
             return f"{self.word}: {link}"
         if self.encryption:
             return str(self.encryption)
-        says = ["Link clean" if self.link.is_clean else f"Link faulty: {link}"]
+        says = [LINK_CLEAN if self.link.is_clean else f"{Word.LINK}: {link}"]
         if self.broken:
             causes = list(dict.fromkeys(self.cause(one) for one in self.broken))
             more = [f"and {len(causes) - 2} more"] if len(causes) > 2 else []
             says += [f"{counted(len(self.broken), 'rule')} broken: {causes[0]}", *causes[1:2], *more]
         elif self.wrong_contents:
-            says.append(f"contents wrong: {', '.join(f'{times:,} {kind}' for kind, times in self.wrong_contents.items())}")
+            says.append(f"{CONTENTS_WRONG}: {', '.join(f'{times:,} {kind}' for kind, times in self.wrong_contents.items())}")
         elif self.word == Word.NOTHING:
-            says.append("neither a row nor a packet came")
+            says.append(NOTHING_CAME)
         return "; ".join(says) + (f" ({self.coverage.words})" if self.coverage.words else "")
 
     def cause(self, one: Ruling) -> str:

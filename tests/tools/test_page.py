@@ -86,7 +86,7 @@ def test_a_clean_capture(form, request, driver, report, program, sent, tmp_path)
     frames, heard = [it.tobytes() for it in shown.frames()], sound_of(shown)
     page = pages.Reader(driver, request.getfixturevalue(form))
     page.read(tmp_path / "a.tmc")
-    assert "Clean" in page.text("verdict") and page.text("no-faults") == "No fault was found."
+    assert "Link clean" in page.text("verdict") and page.text("no-faults") == "No fault was found."
     assert page.saved(tmp_path) == wanted and page.lines() == wanted.decode().splitlines()
     assert {name for name, value in data_of(page).items() if value != kept[name]} == set()
     assert [it.tobytes() for it in page.frames()] == frames and len(frames) == 4
@@ -103,7 +103,7 @@ def test_a_damaged_capture(driver, served, report, program, sent, tmp_path):
     faults = [row[:4] for row in shown.rows("fault-table")]
     page = pages.Reader(driver, served)
     page.read(tmp_path / "a.tmc")
-    assert "Faulty" in page.text("verdict")
+    assert "Link faulty" in page.text("verdict")
     assert page.saved(tmp_path) == wanted and page.lines() == wanted.decode().splitlines()
     assert {name for name, value in data_of(page).items() if value != kept[name]} == set()
     assert page.rows("packet-table") == table and counts(page) == cells
@@ -150,9 +150,9 @@ def test_dvi(page, program, tmp_path):
     wanted = program("recover", "dvi", source=made)
     (tmp_path / "a.tmc").write_bytes(made)
     page.read(tmp_path / "a.tmc")
-    assert "Faulty" in page.text("verdict")
+    assert "Link faulty" in page.text("verdict")
     page.click("dvi")
-    WebDriverWait(page.driver, HANGS).until(lambda _: "Clean" in page.text("verdict") and page.state() == "done")
+    WebDriverWait(page.driver, HANGS).until(lambda _: "Link clean" in page.text("verdict") and page.state() == "done")
     assert page.saved(tmp_path) == wanted and page.lines() == wanted.decode().splitlines()
     assert page.count("rows") == 24 and page.text("what") == "DVI link report"
     page.check()
@@ -161,8 +161,8 @@ def test_dvi(page, program, tmp_path):
 @pytest.mark.parametrize(
     ("data", "word", "says"),
     (
-        (b"TMC1\0\0\0\0", "No alignment", "its three lanes have no bits"),
-        (b"TMC1\0\0\0\x08\0\0\0", "No alignment", "no place at which a control period ends"),
+        (b"TMC1\0\0\0\0", "Not aligned", "the three lanes have no bits"),
+        (b"TMC1\0\0\0\x08\0\0\0", "Not aligned", "no place at which a control period ends"),
         (b"hello", "Broken file", "which begins with TMC"),
         (b"", "Broken file", "The file is empty."),
         (b"TMC3\0\0\0\0", "Broken file", "its fourth byte is 51"),

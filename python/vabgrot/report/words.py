@@ -6,11 +6,11 @@ from __future__ import annotations
 import json
 from typing import Any
 
-from vabgrot import infoframes, packets, program
-from vabgrot.verdict import READ_AVI
+from vabgrot import infoframes, packets, program, verdict
 from vabgrot.formats import audio, layouts, modes, names, speakers
-from vabgrot.formats.faults import BY_ROW, CONTENT
+from vabgrot.formats.faults import ANEW, BY_ROW, CONTENT
 from vabgrot.hearing import NAMED
+from vabgrot.lanes import encryption
 from vabgrot.report import fields, said, sound
 from vabgrot.video.colours import BT601, BT709, BT2020, DEPTHS
 from vabgrot.video.signals import BY_EXTENDED
@@ -65,7 +65,7 @@ def tables() -> dict[str, Any]:
         "LAYOUTS": _layouts(),
         "TABLES": {name: it._asdict() for name, it in infoframes.TABLES.items()},
         "SHORT": sorted(packets.SHORT),
-        "READ_AVI": READ_AVI,
+        "READ_AVI": verdict.READ_AVI,
         "FREQUENCIES": names.FREQUENCIES,
         "MODE_SIZES": {code: timing.mode.size for code, timing in modes.VICS.items()},
         "MODE_WIDTHS": _widths(),
@@ -89,6 +89,12 @@ def tables() -> dict[str, Any]:
         "MATRICES": matrices,
         "MATRIX_OF": {code: matrix.name for code, matrix in BY_EXTENDED.items()},
         "NO_CAPTURES": program.NO_CAPTURES,
+        "VERDICTS": {it.name: {"word": str(it), "sign": it.sign, "kind": it.style} for it in verdict.Word},
+        **{name: getattr(verdict, name) for name in ("NO_PLACE", "NOTHING_CAME", "LINK_CLEAN", "CONTENTS_WRONG", "CUT_OFF")},
+        "ANEW": sorted(ANEW),
+        "MARKS": {kind: [mark, encryption.LEAST[kind]] for kind, mark in encryption.MARKS.items()},
+        "ENCRYPTED": encryption.SAYS,
+        **{name: getattr(encryption, name) for name in ("WITHIN", "TORN", "MOST_OUTSIDE")},
         **{name: " ".join(getattr(fields, name).split()) for name in ("WOVEN", "ALONE", "UNKNOWN")},
         "NOT_EXACT": said.NOT_EXACT,
         "ADVICE": said.ADVICE,

@@ -39,7 +39,7 @@ from vabgrot.report.album import Album
 from vabgrot.report.findings import Faults, Findings, Page
 from vabgrot.report.said import ADVICE, NOT_EXACT
 from vabgrot.report.sound import Told
-from vabgrot.verdict import Verdict, Word, verdict_of
+from vabgrot.verdict import Verdict, verdict_of
 from vabgrot.video.colours import Signal
 from vabgrot.video.matching import SIZES, Rate, Timing, change_note
 from vabgrot.video.timings import PARTS
@@ -261,13 +261,10 @@ def slips_of(it: Report) -> Slips | None:
     return Slips(len(epochs) - let_go, let_go, ", ".join(aligned), f"{' and '.join(hidden)} are" if hidden else "")
 
 
-SIGNS = {Word.CLEAN: ("✓", "clean"), Word.SOURCE: ("!", "contents")}
-
-
 def headline_of(verdict: Verdict) -> dict[str, str]:
     """The word at the top, and a sentence on it."""
-    sign, kind = SIGNS.get(verdict.word, ("✗", "faulty"))
-    return {"word": str(verdict.word), "sign": sign, "kind": kind, "says": verdict.headline}
+    word = verdict.word
+    return {"word": str(word), "sign": word.sign, "kind": word.style, "says": verdict.headline}
 
 
 def matrix_of(verdict: Verdict) -> list[dict[str, object]]:

@@ -1,7 +1,7 @@
 "use strict";
 
 /** @typedef {"picture" | "marks" | "loupe" | "time"} Canvas
- *  @typedef {"show-fields" | "show-marks" | "files" | "dvi"} Input
+ *  @typedef {"show-fields" | "show-marks" | "files" | "dvi" | "hold"} Input
  *  @typedef {"frame-back" | "frame-on" | "pixel-back" | "pixel-on" | "listing-save"} Button */
 /** The element with an id.
  *  @template {string} Id @typedef {Id extends Canvas ? HTMLCanvasElement : Id extends Input ? HTMLInputElement : Id extends Button ?
