@@ -1,1 +1,1 @@
-"""What a page on a capture is made of."""
+"""The parts of the page about a capture (`tools/report`)."""

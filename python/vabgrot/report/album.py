@@ -1,5 +1,4 @@
-"""Frames as files within a page: each whole and exact where there is room, else as a photograph, and a small one of
-each."""
+"""Embeds frames in a page: complete and exact if there is room, otherwise as a lossy picture; and a small picture of each."""
 
 import io
 import struct
@@ -17,18 +16,18 @@ from vabgrot.video.colours import Signal
 from vabgrot.video.images import colours_of, shallow
 
 SMALL = (192, 144)
-ROOM = 24_000_000  # bytes for all pictures, of which base64 makes a third more
+ROOM = 24_000_000  # bytes for all pictures; base64 adds a third
 QUALITIES = (90, 75, 55, 35, 20)
 SCALES = (1, 2, 4, 8, 16)
-LEVEL = 4  # of the compression of exact files
-QUICK = 4  # of a part of the room an exact file is made quickly where it takes no more
+LEVEL = 4  # the compression level of exact files
+QUICK = 4  # an exact file is made quickly if it fits this fraction of the room
 PART = 1 << 16  # bytes that are compressed at a time
-SIGN, UP = b"\x89PNG\r\n\x1a\n", 2  # what a PNG file begins with, and the filter of a row that is told by the one above it
+SIGN, UP = b"\x89PNG\r\n\x1a\n", 2  # the first bytes of a PNG file, and the filter that predicts a row from the one above
 
 
 @dataclass
 class Picture:
-    """A frame's file; `scale` is how many of its pixels one of the file's stands for across and down."""
+    """The file of a frame. Each of its pixels replaces `scale` by `scale` pixels of the frame."""
 
     data: bytes
     kind: str
@@ -41,14 +40,14 @@ class Picture:
 
 
 def encoded(image: Image.Image, kind: str, **words: int) -> bytes:
-    """The file of an image of a kind, with PIL's words for it."""
+    """Returns an image as a file of this kind. `words` are PIL's options."""
     out = io.BytesIO()
     image.save(out, kind, **words)
     return out.getvalue()
 
 
 def url(image: Image.Image) -> str:
-    """A picture as a URL of its own; the image is made small for it."""
+    """Returns a picture as a data URL. The image is reduced for it."""
     image.thumbnail(SMALL, Image.Resampling.BOX)
     photograph, exact = encoded(image, "JPEG", quality=75), encoded(image, "PNG")
     kind, data = ("png", exact) if len(exact) <= len(photograph) else ("jpeg", photograph)
@@ -56,7 +55,7 @@ def url(image: Image.Image) -> str:
 
 
 def rows_of(frame: Frame) -> list[bytes]:
-    """The rows of a frame, each cut or filled with zeros to the width of the first."""
+    """Returns the rows of a frame. Each is cut or padded with zeros to the width of the first."""
     size = len(frame.rows[0])
     if {*map(len, frame.rows)} == {size}:
         return frame.rows
@@ -64,17 +63,18 @@ def rows_of(frame: Frame) -> list[bytes]:
 
 
 class Album:
-    """The pictures of a page. Frames that are alike have one file."""
+    """The pictures of a page. Equal frames share one file."""
 
     def __init__(self, room: int = ROOM) -> None:
         self.room = room
         self.pictures: list[Picture] = []
-        self.small: list[str] = []  # of each picture a small one
+        self.small: list[str] = []  # a small version of each picture
         self.alike = Alike()
         self.exact = 0  # the size of the last frame's exact file
 
     def add(self, frame: Frame, left: int, signal: Signal = Signal()) -> int:
-        """The number of a frame's picture in the colours of a signal; `left` frames are still to come, as far as is known."""
+        """Adds a frame, with the colours of a signal. Returns the number of its picture. `left` is the expected number of frames after
+        it."""
         rows = rows_of(frame)
         number, is_new = self.alike.number((frame.width, signal), rows)
         if is_new:
@@ -89,7 +89,7 @@ class Album:
         return number
 
     def picture(self, image: Image.Image, room: int) -> Picture:
-        """A frame's file of so many bytes at most, as far as that can be."""
+        """Returns a frame's file with at most `room` bytes, if that is possible."""
         if self.exact < 2 * room or not self.exact:
             data = quick_file(image, room // QUICK) or exact_file(image, 2 * room)
             self.exact = len(data)
@@ -103,11 +103,11 @@ class Album:
 
 
 class Over(Exception):
-    """A file is longer than it may be."""
+    """A file is longer than allowed."""
 
 
 class Limited(io.BytesIO):
-    """A file that takes so many bytes at most, and then raises Over."""
+    """A file with a limited size. It raises Over when more is written."""
 
     def __init__(self, most: int) -> None:
         super().__init__()
@@ -121,7 +121,7 @@ class Limited(io.BytesIO):
 
 
 def exact_file(image: Image.Image, most: int) -> bytes:
-    """The PNG file of an image, or more of it than so many bytes."""
+    """Returns the PNG file of an image. If it needs more than `most` bytes, the result is longer than that and incomplete."""
     out = Limited(most)
     try:
         image.save(out, "PNG", compress_level=LEVEL)
@@ -131,7 +131,7 @@ def exact_file(image: Image.Image, most: int) -> bytes:
 
 
 def quick_file(image: Image.Image, most: int) -> bytes:
-    """The PNG file of an image each row of which is told by the row above it; nothing where it takes more bytes than so many."""
+    """Returns the PNG file of an image, with each row predicted from the row above. Returns nothing if it needs more than `most` bytes."""
     rows = np.asarray(image).reshape(image.height, -1)
     told = np.empty((image.height, 1 + rows.shape[1]), np.uint8)
     told[:, 0] = UP
@@ -149,12 +149,12 @@ def quick_file(image: Image.Image, most: int) -> bytes:
 
 
 def chunk(name: bytes, data: bytes) -> bytes:
-    """A chunk of a PNG file."""
+    """Returns a chunk of a PNG file."""
     return struct.pack(">I", len(data)) + name + data + struct.pack(">I", zlib.crc32(name + data))
 
 
 def photograph(image: Image.Image, room: int) -> bytes:
-    """An image in the best quality that takes so many bytes at most, and else in the worst. A better one takes more."""
+    """Returns an image with the best quality that fits `room` bytes, or with the lowest quality. A higher quality takes more bytes."""
 
     def of(quality: int) -> bytes:
         return encoded(image, "JPEG", quality=quality, subsampling=0)

@@ -1,31 +1,31 @@
-"""Which frames are alike: they have the same rows."""
+"""Finds equal frames: those with the same rows."""
 
 import hashlib
 from collections import deque
 from collections.abc import Hashable, Sequence
 from dataclasses import dataclass
 
-MOST_KEPT = 8  # unlike frames whose rows are kept to be compared with; of older ones a sum is
-SAMPLES = 16  # rows by which frames that may be alike are found
+MOST_KEPT = 8  # different frames whose rows are kept for comparison; for older ones only a checksum is kept
+SAMPLES = 16  # rows that are compared first, to find frames that may be equal
 
 Rows = Sequence[bytes]
 
 
 @dataclass
 class Known:
-    """A frame's number, and its rows or their sum."""
+    """A frame's number, and its rows or their checksum."""
 
     number: int
     rows: Rows
     summed: bytes = b""
 
     def let_go(self) -> None:
-        """Keeps the sum alone."""
+        """Replaces the rows by their checksum."""
         self.summed, self.rows = sum_of(self.rows), ()
 
 
 def sum_of(rows: Rows) -> bytes:
-    """What no two unlike frames of one size have in common."""
+    """Returns a checksum. It distinguishes different frames of one size."""
     found = hashlib.blake2b()
     for row in rows:
         found.update(row)
@@ -33,7 +33,7 @@ def sum_of(rows: Rows) -> bytes:
 
 
 class Alike:
-    """Numbers unlike frames from 0 on."""
+    """Numbers the different frames from 0."""
 
     def __init__(self) -> None:
         self.count = 0
@@ -41,7 +41,8 @@ class Alike:
         self.kept: deque[Known] = deque()
 
     def number(self, key: Hashable, rows: Rows) -> tuple[int, bool]:
-        """The number of a frame, all of whose rows have one width, and whether it is a new one; frames of other keys are unlike it."""
+        """Returns the number of a frame, and whether it is new. All rows of the frame have one width. Frames with different keys are
+        different."""
         sampled = hash(tuple(rows[:: max(1, len(rows) // SAMPLES)]))
         those = self.known.setdefault((key, len(rows), sampled), [])
         summed = sum_of(rows) if any(one.summed for one in those) else b""

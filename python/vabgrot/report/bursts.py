@@ -1,4 +1,4 @@
-"""Bursts: many faults within a short stretch of columns, which a page shows as one."""
+"""Finds bursts: many faults in a short stretch of columns. A page shows a burst as one item."""
 
 from bisect import bisect_left
 from collections.abc import Iterator
@@ -9,12 +9,12 @@ from vabgrot.formats.faults import ANEW, DENSE
 from vabgrot.report.findings import PERIODS, Faults, Periods
 
 CONTROL, VIDEO, PACKET, OPEN, CLOSE = map(PERIODS.index, ("control", "video", "packet", "open", "close"))
-NEAR = 64  # columns between two neighbouring faults of a burst at most
-LEAST, PLACES = 6, 3  # the fault lines that a burst has at least, and the columns at which they are
+NEAR = 64  # the greatest distance of neighbouring faults of a burst, in columns
+LEAST, PLACES = 6, 3  # a burst has at least this many fault lines, at this many columns
 
 
 class Burst(NamedTuple):
-    """The first column, how many there are up to the last fault's, and the numbers of the faults in the order of the listing."""
+    """A burst: its first column, the number of columns up to its last fault, and the numbers of its faults in the order of the listing."""
 
     at: int
     columns: int
@@ -22,8 +22,8 @@ class Burst(NamedTuple):
 
 
 def bursts_of(faults: Faults, periods: Periods) -> list[Burst]:
-    """The bursts among the faults of a listing, in the order of their columns. No row and no island that stands alone lies in
-    one; nor does a slip or a relock."""
+    """Returns the bursts among the faults of a listing, in the order of their columns. A burst contains no complete row or island, and no
+    slip or relock."""
     order = sorted(range(len(faults["at"])), key=faults["at"].__getitem__)
     if not order:
         return []
@@ -41,7 +41,7 @@ def bursts_of(faults: Faults, periods: Periods) -> list[Burst]:
 
 
 def burst_of(faults: Faults, group: list[int]) -> Burst | None:
-    """The burst that faults near one another are, given by their numbers; None where they are too few."""
+    """Returns the burst of a group of faults, or None if there are too few."""
     places = {faults["at"][number] for number in group}
     shows = any(faults["kind"][number] in DENSE for number in group)
     if len(group) < LEAST or len(places) < PLACES or not shows:
@@ -50,7 +50,7 @@ def burst_of(faults: Faults, group: list[int]) -> Burst | None:
 
 
 def standing_alone(periods: Periods, faulty: list[int]) -> Iterator[int]:
-    """The first columns of the rows and islands without a fault that stand after twelve control columns and before one."""
+    """Yields the first columns of complete rows and islands: they have no fault, twelve control columns before them, and one after them."""
     quiet, first = 0, None
     for kind, at, columns in zip(periods["kind"].tolist(), periods["at"].tolist(), periods["columns"].tolist()):
         if kind == CONTROL:

@@ -1,4 +1,4 @@
-"""Which frames of a page are the two fields of one picture, and what is said of it."""
+"""Finds the frames of a page that are the two fields of one picture, and the notes about them."""
 
 from collections.abc import Iterator
 from dataclasses import dataclass, field
@@ -16,7 +16,7 @@ a line between them from VSYNC to their first rows: each field is shown as a fra
 
 
 class Shot(NamedTuple):
-    """A frame of a listing, which may be a field: its number, its size in pixels, and the lines from VSYNC down to its first row."""
+    """A frame that may be a field: its number, its size in pixels, and the lines from VSYNC to its first row."""
 
     number: int
     size: tuple[int, int]
@@ -24,26 +24,26 @@ class Shot(NamedTuple):
 
 
 class Shown(TypedDict):
-    """What a page shows as one picture: the numbers of its frames, of two the upper field first; whether it is a field alone."""
+    """A picture of the page: the numbers of its frames (of two, the upper field is first), and whether it is a single field."""
 
     frames: list[int]
     isField: bool
 
 
 def counted(number: int, name: str) -> str:
-    """A number with what it counts."""
+    """Formats a number of things."""
     return f"{number:,} {name}{'s' * (number != 1)}"
 
 
 @dataclass
 class Fields:
-    """Takes the frames of a listing in order, and pairs those that are fields of one picture, as `tools/pictures` does."""
+    """Takes frames in order, and pairs those that are fields of one picture, like `tools/pictures`."""
 
     weaver: Weaver[Shot] = field(default_factory=Weaver)
     pairs: list[Pair[Shot]] = field(default_factory=list)
 
     def take(self, number: int, frame: Frame, width: int) -> None:
-        """The next frame, of so many pixels a row; one that is not whole is paired with none."""
+        """Takes the next frame, `width` pixels wide. An incomplete frame has no partner."""
         if not frame.is_whole:
             self.end()
             self.pairs.append(Pair(Shot(number, (width, len(frame.rows)), None)))
@@ -52,21 +52,21 @@ class Fields:
         self.pairs.extend(self.weaver.take(Shot(number, (width, len(frame.rows)), down)))
 
     def end(self) -> None:
-        """What comes next is no field of the last frame's picture, as behind a slip."""
+        """Makes sure that the next frame is not paired with the last one, for example after a slip."""
         self.pairs.extend(self.weaver.end())
 
     @property
     def woven(self) -> int:
-        """How many pictures are two fields."""
+        """The number of pictures with two fields."""
         return sum(pair.lower is not None for pair in self.pairs)
 
     def shown(self) -> list[Shown]:
-        """What a page shows as its pictures."""
+        """Returns the pictures of the page."""
         numbers = ([one.number for one in (pair.upper, pair.lower) if one] for pair in self.pairs)
         return [{"frames": frames, "isField": pair.is_field} for frames, pair in zip(numbers, self.pairs)]
 
     def notes(self, says_interlaced: str) -> Iterator[str]:
-        """What was done, and what was assumed for it; `says_interlaced` is who says that the video is interlaced, "" where none does."""
+        """Yields notes about what was done and assumed. `says_interlaced` names the source that says "interlaced"; "" if none does."""
         if self.woven:
             text = WOVEN.format(fields=2 * self.woven, frames=counted(self.woven, "frame"))
             alone = sum(pair.is_field for pair in self.pairs)

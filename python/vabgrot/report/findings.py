@@ -1,4 +1,4 @@
-"""What a capture carried, gathered for a page: frames and lines while it is read, then periods, faults and packets."""
+"""Gathers the contents of a capture for a page: frames and lines while it is read, then periods, faults and packets."""
 
 from __future__ import annotations
 
@@ -26,14 +26,14 @@ from vabgrot.video.signals import Signals
 PERIODS = ("control", "video", "packet", "open", "close", "unknown", "unaligned")
 OF_KIND = np.array([PERIODS.index(name) for name in ("control", "video", "open", "packet", "close")], np.int64)  # by Kind
 UNKNOWN, UNALIGNED = map(PERIODS.index, ("unknown", "unaligned"))
-MOST_KNOWN = 4096  # unlike packets whose content is kept
-CLEAN = ["clean"] * (BODIES + 1)  # of the blocks of a packet
+MOST_KNOWN = 4096  # the most different packets whose content is kept
+CLEAN = ["clean"] * (BODIES + 1)  # for the blocks of a packet
 
 
 @dataclass
 class Received:
-    """A packet with its place, what it carries (None if a block is lost), what was found of its five blocks, and how many of its characters
-    are none of TERC4."""
+    """A packet with its place, its content (None if a block is lost), the state of its five blocks, and the number of its characters that
+    are not in TERC4."""
 
     line: int
     at: int
@@ -44,14 +44,14 @@ class Received:
 
     @property
     def words(self) -> str:
-        """What it carries, in words."""
+        """Its content in words."""
         return self.content.words if self.content else "not read, since a block is lost"
 
 
 @dataclass(frozen=True)
 class Stretch:
-    """An epoch as a page shows it: its first column, its place in the capture, whether its lanes were aligned, and if they were not, how
-    many bits of each lane it has: they have no line of the listing."""
+    """An epoch as a page shows it: its first column, its place in the capture, and whether its lanes were aligned. If not, it has no line
+    in the listing, and `hidden` is the number of bits of each lane."""
 
     at: int
     place: int
@@ -60,13 +60,13 @@ class Stretch:
 
     @property
     def hidden_columns(self) -> int:
-        """The columns that have no line."""
+        """The columns without a line."""
         return -(-self.hidden // TEN)
 
 
 class Periods(TypedDict):
-    """A table of periods, column by column: its kind as a number of PERIODS, its first column, how many it has, its line of the
-    listing, and what it has: the value of control columns, the pixels of a row, the first byte of a packet."""
+    """A table of periods, column by column: the kind as a number in PERIODS, the first column, the number of columns, the line of the
+    listing, and a value: of control columns, the pixels of a row, or the first byte of a packet."""
 
     kind: Ints
     at: Ints
@@ -76,8 +76,8 @@ class Periods(TypedDict):
 
 
 class Faults(TypedDict):
-    """A table of faults, column by column: the lane (-1 if it has none), the column of the capture, the epoch and the column in
-    it, the line of the listing, its other numbers, and the frame, the pixel and the colour there (-1 if they are not known)."""
+    """A table of faults, column by column: the lane (-1 if it has none), the column of the capture, the epoch and the column in it, the
+    line of the listing, the other numbers, and the frame, the pixel and its colour (-1 if not known)."""
 
     kind: list[str]
     lane: list[int]
@@ -97,15 +97,16 @@ Shows = TypeVar("Shows", covariant=True)
 
 
 class Show(Protocol[Shows]):
-    """Turns a frame into what is kept of it. `part` is how much of the capture was read at its end, `vic` the code of its InfoFrame if
-    that says another size, and `signal` how its pixels are sent."""
+    """Turns a frame into what is kept of it. `part` is how much of the capture was read at its end. `vic` is the code of its InfoFrame if
+    that gives another size. `signal` is how its pixels are sent."""
 
     def __call__(self, frame: Frame, part: float, vic: int | None, signal: Signal) -> Shows: ...
 
 
 @dataclass
 class Findings(Generic[Shown]):
-    """Takes the events of a capture while it is read, and gives each frame to `show` when it ends. `columns` is how many come, about."""
+    """Takes the events of a capture while it is read, and passes each complete frame to `show`. `columns` is the expected number of
+    columns."""
 
     show: Show[Shown]
     is_dvi: bool = False
@@ -114,9 +115,9 @@ class Findings(Generic[Shown]):
     text: Text = field(default_factory=Text)
     fields: Fields = field(default_factory=Fields)
     frames: list[Shown] = field(default_factory=list)
-    notes: dict[str, None] = field(default_factory=dict)  # what is assumed of whole frames, once each
-    marks: list[tuple[Ints, int]] = field(default_factory=list)  # the numbers of the faults of each frame, and its number
-    pixels: dict[int, tuple[int, int, str]] = field(default_factory=dict)  # of faults, by their numbers: pixel, row and colour
+    notes: dict[str, None] = field(default_factory=dict)  # what was assumed for whole frames, without repetitions
+    marks: list[tuple[Ints, int]] = field(default_factory=list)  # for each frame, the numbers of its faults, and its number
+    pixels: dict[int, tuple[int, int, str]] = field(default_factory=dict)  # pixel, row and colour of faults, by number
     vic: int = 0
     covered: int = 0
 
@@ -124,7 +125,7 @@ class Findings(Generic[Shown]):
         self.signals = Signals(has_packets=not self.is_dvi)
 
     def take(self, events: Events) -> None:
-        """The next events."""
+        """Takes the next events."""
         self.text.take(events)
         self.keep(self.flow.take(events))
         self.covered += int(events.width.sum())
@@ -132,13 +133,13 @@ class Findings(Generic[Shown]):
             self.fields.end()
 
     def finish(self) -> None:
-        """No more events come."""
+        """Takes the end of the capture."""
         self.text.end()
         self.keep(self.flow.finish())
         self.fields.end()
 
     def keep(self, known: Iterable[Packets | Frame]) -> None:
-        """What is known now."""
+        """Takes packets and frames."""
         for it in known:
             if isinstance(it, Frame):
                 self.end_frame(it)
@@ -149,7 +150,7 @@ class Findings(Generic[Shown]):
                     self.vic = packet.number("VIC")
 
     def end_frame(self, frame: Frame) -> None:
-        """Shows a frame that ended."""
+        """Shows a complete frame."""
         number, it = len(self.frames), self.signals.reading(frame.width)
         if frame.is_whole:
             self.notes.update(dict.fromkeys(it.notes))
@@ -163,7 +164,7 @@ class Findings(Generic[Shown]):
 
 
 def coloured(frame: Frame, row: int, pixel: int, signal: Signal) -> tuple[int, int, str]:
-    """The pixel, the row and the colour that a fault of a frame is shown as."""
+    """Returns the pixel, the row and the colour with which a fault of a frame is shown."""
     if pixel == UNTOLD:
         return -1, row, ""
     if signal.is_plain:
@@ -174,13 +175,13 @@ def coloured(frame: Frame, row: int, pixel: int, signal: Signal) -> tuple[int, i
 
 
 class Contents:
-    """What packets carry, each once."""
+    """The contents of packets. Equal packets share one."""
 
     def __init__(self) -> None:
         self.known: dict[bytes, Carried] = {}
 
     def of(self, packet: Packet, is_even: bool) -> Carried:
-        """What a packet carries; of samples without a wrong parity in words alone."""
+        """Returns the content of a packet. For samples with correct parity it has only words."""
         key = packet.header if packet.kind == Type.SAMPLES and is_even else packet.header + packet.bytes
         found = self.known.get(key)
         if found is None:
@@ -192,7 +193,7 @@ class Contents:
 
 @dataclass(frozen=True, eq=False)
 class Page:
-    """What a page shows of a reading. Its columns count over all epochs, with those of epochs that were not aligned: they have no line."""
+    """What a page shows of a reading. Its columns count over all epochs, also over those that were not aligned, which have no line."""
 
     reading: Reading
     content: Content
@@ -210,7 +211,7 @@ class Page:
 
     @property
     def columns(self) -> int:
-        """How many there are."""
+        """The number of columns."""
         return self.stretches[-1].at + self.reading.epochs[-1].columns + self.stretches[-1].hidden_columns
 
     @cached_property
@@ -220,14 +221,14 @@ class Page:
         return self.reading.at + more[self.reading.events.epoch]
 
     def place(self, column: int) -> int:
-        """A column of the reading as one of the page."""
+        """Converts a column of the reading to one of the page."""
         epochs = self.reading.epochs
         number = max((one.number for one in epochs if one.before <= column), default=0)
         return column + self.stretches[number].at - epochs[number].before
 
     @cached_property
     def periods(self) -> Periods:
-        """The periods, also those that nothing is known of."""
+        """The periods, including those with unknown content."""
         events = self.reading.events
         places = events.covering
         kinds = OF_KIND[events.kind[places]]
@@ -245,7 +246,7 @@ class Page:
         return {"kind": kind, "at": at, "columns": columns, "line": line, "value": value}
 
     def faults(self, found: Findings[Shown]) -> Faults:
-        """The faults, with the pixels that were found."""
+        """Returns the faults, with the pixels that were found."""
         events = self.reading.events
         places = events.faults
         views = [*events.views(places)]
@@ -289,6 +290,6 @@ class Page:
 
     @property
     def cut(self) -> Event | None:
-        """Where the capture ends within a row, an island or an opening."""
+        """The place at which the capture ends within a row, an island or an opening."""
         cuts = self.reading.events.of(Kind.CUT)
         return self.reading.events.view(int(cuts[-1])) if len(cuts) else None

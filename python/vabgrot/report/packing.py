@@ -1,4 +1,4 @@
-"""The table of periods as a page has it: a page unpacks it (`page/start.js`)."""
+"""Packs the table of periods for a page. The page unpacks it (`page/start.js`)."""
 
 from __future__ import annotations
 
@@ -9,12 +9,12 @@ import numpy as np
 from vabgrot.events import Ints
 from vabgrot.report.findings import Periods
 
-KIND, VALUE = 3, 16  # bits of a key that are the kind, and with these the value
+KIND, VALUE = 3, 16  # bits of a key for the kind, and for kind and value
 
 
 class Packed(TypedDict):
-    """Periods: the unlike ones with their kind, columns and value; of each its number among them; and of some the first column and the
-    line of the listing, by their numbers: where they do not follow from the period before."""
+    """Packed periods: the different ones (kind, columns and value), and for each period the number of its entry. First columns and lines
+    of the listing are stored only if they do not follow from the period before."""
 
     unlike: list[list[int]]
     of: list[int]
@@ -23,7 +23,7 @@ class Packed(TypedDict):
 
 
 def packed(periods: Periods) -> Packed:
-    """The table."""
+    """Packs the table."""
     kinds, at, columns, lines = periods["kind"], periods["at"], periods["columns"], periods["line"]
     keys, of = np.unique(columns << VALUE | periods["value"] << KIND | kinds, return_inverse=True)
     unlike = np.column_stack([keys & (1 << KIND) - 1, keys >> VALUE, (keys & (1 << VALUE) - 1) >> KIND])
@@ -31,7 +31,7 @@ def packed(periods: Periods) -> Packed:
 
 
 def steps(numbers: Ints, behind: Ints) -> list[list[int]]:
-    """The numbers that are not so much more than the one before them as is told, and their places."""
+    """Returns the numbers that differ from the number before them by another step than `behind` gives, and their places."""
     wanted = np.concatenate((np.full(min(1, len(numbers)), -1), (numbers + behind)[:-1]))
     places = np.flatnonzero(numbers != wanted)
     found: list[list[int]] = np.column_stack([places, numbers[places]]).tolist()

@@ -1,4 +1,4 @@
-"""What both the report and the page that reads a capture by itself say."""
+"""Texts that both the report and the page share."""
 
 ADVICE = (
     "Are the three files the three data lanes, and none of them the clock? A lane without control characters has no lock.",

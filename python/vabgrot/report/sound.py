@@ -1,4 +1,4 @@
-"""The sound of a capture, as a page has it: all channels that were sent, their speakers, their levels, and a file to play and to save."""
+"""The sound of a capture for a page: all sent channels, their speakers and levels, and a file to play and save."""
 
 from __future__ import annotations
 
@@ -18,16 +18,16 @@ from vabgrot.hearing import Heard
 from vabgrot.judging.of_sound import statuses
 
 VALUE = SAMPLE["left"].bits
-MOST_PEAKS, WAVE, TALL = 1200, 1200, 100  # the steps of a waveform, and the size of one channel's
-FULL = 1 << VALUE - 1  # of full scale
+MOST_PEAKS, WAVE, TALL = 1200, 1200, 100  # the steps of a waveform, and the width and height of a channel's
+FULL = 1 << VALUE - 1  # full scale
 FLOOR = -60  # dB, where the bars of levels begin
-MOST_STATUS = 4  # unlike blocks of channel status that are shown
+MOST_STATUS = 4  # different blocks of channel status that are shown
 SUPPOSED = 48000
 
 
 @dataclass(frozen=True)
 class Channel:
-    """A channel: its number from 1 on, its speaker (NONE where it has none), and its level in dB of full scale, None of silence."""
+    """A channel: its number from 1, its speaker (NONE if it has none), and its level in dB of full scale (None if silent)."""
 
     number: int
     speaker: str
@@ -36,48 +36,48 @@ class Channel:
 
     @property
     def name(self) -> str:
-        """What it is called, in short."""
+        """A short name."""
         return f"channel {self.number}" if self.speaker == speakers.NONE else self.speaker
 
     @property
     def words(self) -> str:
-        """Its speaker."""
+        """The speaker in words."""
         return speakers.WORDS.get(self.speaker, "no speaker is told")
 
     @property
     def levels(self) -> tuple[tuple[str, int], tuple[str, int]]:
-        """The greatest value and the root of the mean square: in words, and as a part of a hundred of a bar."""
+        """The peak and the root mean square: in words, and as a percentage for a bar."""
         one, other = (("silent", 0) if it is None else (words_of(it), bar_of(it)) for it in (self.peak, self.mean))
         return one, other
 
     def plain(self) -> dict[str, Any]:
-        """The same for machines."""
+        """Returns the same as a value for JSON."""
         return {"channel": self.number, "speaker": self.speaker, "peak": self.peak, "rms": self.mean}
 
 
 def words_of(level: float) -> str:
-    """A level in words."""
+    """Returns a level in words."""
     return f"{level:.1f} dB".replace("-", "" if level > -0.05 else "−")
 
 
 def bar_of(level: float) -> int:
-    """A level as a part of a hundred of a bar."""
+    """Returns a level as a percentage for a bar."""
     return max(0, round(100 * (1 - level / FLOOR)))
 
 
 def decibels(value: float) -> float | None:
-    """A value in dB of full scale; None of 0."""
+    """Converts a value to dB of full scale. Returns None for 0."""
     return round(20 * float(np.log10(value / FULL)), 2) + 0.0 if value else None
 
 
 def level_of(values: npt.NDArray[np.int32]) -> tuple[float | None, float | None]:
-    """The greatest value and the root of the mean square of a channel, in dB of full scale."""
+    """Returns the peak and the root mean square of a channel, in dB of full scale."""
     found = values.astype(np.float64)
     return decibels(float(np.abs(found).max(initial=0))), decibels(float(np.sqrt(np.mean(found * found))) if len(found) else 0)
 
 
 def paths_of(values: npt.NDArray[np.int32], middle: int) -> str:
-    """The outline of a channel's samples, as an SVG path: the greatest of each step, and back the least."""
+    """Returns the outline of a channel's samples as an SVG path: the maximum of each step, and back along the minimum."""
     size = len(values)
     steps = min(MOST_PEAKS, size)
     firsts = np.arange(steps) * size // steps
@@ -91,7 +91,7 @@ def paths_of(values: npt.NDArray[np.int32], middle: int) -> str:
 
 @dataclass
 class Told:
-    """A capture's sound with what is told of it. `lost` is how many packets of samples were lost."""
+    """The sound of a capture, with its properties. `lost` is the number of lost packets of samples."""
 
     heard: Heard
     samples: Samples
@@ -101,16 +101,16 @@ class Told:
 
     @classmethod
     def of(cls, heard: Heard, samples: Samples, clock: int | None = None, lost: int = 0) -> Told:
-        """The sound, where the pixel clock is known."""
+        """Makes the sound, if the pixel clock is known."""
         return cls(heard, samples, heard.values(), clock, lost)
 
     def rates(self) -> dict[str, int]:
-        """What tells a sampling rate, and which; the clock packets first. A mode without a code tells no pixel clock."""
+        """The sampling rates by source; clock regeneration comes first. A mode without a code gives no pixel clock."""
         return replace(self.heard, vic=self.heard.vic or None).rates(self.clock)
 
     @property
     def names(self) -> list[str]:
-        """The speakers of the channels, NONE of those that have none; the usual ones where no known allocation is told."""
+        """The speakers of the channels, NONE for those without one. Without a known allocation they are the usual ones."""
         count = self.values.shape[1]
         allocation = self.heard.allocation if self.samples.is_wide else 0
         told = speakers.speakers(allocation) if allocation is not None else ()
@@ -121,29 +121,29 @@ class Told:
         return [at for at, name in enumerate(self.names) if name != speakers.NONE or self.values[:, at].any()]
 
     def channels(self) -> list[Channel]:
-        """These channels, with their levels."""
+        """The shown channels with their levels."""
         names = self.names
         return [Channel(at + 1, names[at], *level_of(self.values[:, at])) for at in self.shown()]
 
     @property
     def bits(self) -> int:
-        """The bits of a sample: 16 where all others are 0, and else 24."""
+        """The bits of a sample: 16 if all lower ones are 0, otherwise 24."""
         return 24 if (self.values & 255).any() else 16
 
     @property
     def rate(self) -> int:
-        """The sampling rate, by the first that tells one."""
+        """The sampling rate from the first source that gives one."""
         return next(iter(self.rates().values()), SUPPOSED)
 
     def file(self) -> bytes:
-        """The sound as a WAV file, as `tools/sound` writes it; a channel without a speaker stands behind all others."""
+        """Returns the sound as a WAV file, like `tools/sound`. Channels without a speaker come last."""
         if not self.samples.is_wide:
             return pcm.wav(pcm.Sound(self.rate, self.bits, *map(bytes, self.heard.sides[:2])))
         names = tuple(one.name for one in self.channels())
         return channels.write(Wide(self.rate, self.bits, self.values[:, self.shown()], names))
 
     def says(self) -> str:
-        """What it is, in words."""
+        """A description in words."""
         rates = self.rates()
         by = f"by {next(iter(rates))}" if rates else "which is supposed, since nothing that was received tells it"
         shown = self.channels()
@@ -159,7 +159,7 @@ class Told:
         return text + "".join(f" {count:,} packets of {name} are not played." for name, count in sorted(self.heard.others.items()))
 
     def says_speakers(self) -> str:
-        """Who tells the speakers."""
+        """Names the source of the speakers."""
         allocation, usual = self.heard.allocation, speakers.SENT[self.values.shape[1]]
         if allocation is not None and speakers.speakers(allocation):
             return f"The speakers are those of the audio InfoFrame (CA {allocation:02x})."
@@ -167,7 +167,7 @@ class Told:
         return f"{why}: those of CA {usual:02x} are supposed."
 
     def status(self) -> list[dict[str, object]]:
-        """The channel status of each pair, the most frequent first."""
+        """The channel status of each pair, the most frequent one first."""
         found: list[dict[str, object]] = []
         for pair in range(len(self.samples.bodies)):
             sides = [f"channel {2 * pair + side}" for side in (1, 2)] if self.samples.is_wide else ["left", "right"]
@@ -178,7 +178,7 @@ class Told:
         return found
 
     def choices(self) -> list[dict[str, object]]:
-        """What the page's player can be given, where there are more than two channels: of each side how much of each channel."""
+        """The choices of the page's player if there are more than two channels: the weight of each channel on both sides."""
         shown = self.channels()
         if not self.samples.is_wide:
             return []

@@ -117,11 +117,11 @@ class Handler(BaseHTTPRequestHandler):
             live.readers -= 1
 
     def log_message(self, *_: object) -> None:
-        """Says nothing of requests."""
+        """Logs no requests."""
 
 
 def port(text: str) -> int:
-    """The value of --port."""
+    """Reads the value of --port."""
     numbers = command.numbers(text, MOST_PORT)
     if len(numbers) != 1:
         raise argparse.ArgumentTypeError(f"{text}: write one port from 0 to {MOST_PORT}")
@@ -129,7 +129,7 @@ def port(text: str) -> int:
 
 
 def serve(number: int) -> int:
-    """Serves the page until the keyboard ends it."""
+    """Serves the page until Ctrl-C."""
     whole.read(whole.MODULE)
     with Server(number) as server:
         print(server.url, flush=True)
@@ -208,5 +208,5 @@ def work(argv: Sequence[str] | None) -> int:
 
 
 def main(argv: Sequence[str] | None = None) -> int:
-    """Runs the tool over its words, those of the command line if none are given; answers its status."""
+    """Runs the tool with `argv`, or with the arguments of the command line. Returns the exit status."""
     return command.run("page", lambda: work(argv))

@@ -73,7 +73,7 @@ lines, and is not shown."""
 CUT = "“tools/lanes cut {name} --from {cut} > cut.tmc” begins where they fit; make the report of that."
 
 
-# What the page has of a frame.
+# A frame as the page shows it.
 Shown = TypedDict(
     "Shown",
     {
@@ -95,7 +95,7 @@ Found = Findings[Shown]
 
 
 class Info(TypedDict):
-    """What the page has of an InfoFrame, a clock or a general control packet that came so many times."""
+    """An InfoFrame, clock regeneration or General Control packet as the page shows it, with the number of times it was sent."""
 
     name: str
     rows: tuple[Row, ...]
@@ -104,7 +104,7 @@ class Info(TypedDict):
 
 
 class Show:
-    """Turns each frame that ends into what the page has of it."""
+    """Turns each complete frame into what the page shows of it."""
 
     def __init__(self) -> None:
         self.album, self.whole, self.frames = Album(), 0, list[Frame]()
@@ -138,7 +138,7 @@ class Show:
 
 @dataclass(frozen=True, eq=False)
 class Report:
-    """All that a page says."""
+    """Everything that a page says."""
 
     path: Path
     found: Found
@@ -169,7 +169,7 @@ class Report:
 
     @cached_property
     def told(self) -> Told | None:
-        """The sound with what is told of it; None if no samples came."""
+        """The sound with its properties, or None if there are no samples."""
         content = self.page.content
         lost = int((content.packets.lost & (content.packets.kind == Type.SAMPLES)).sum())
         samples = content.samples
@@ -182,12 +182,12 @@ class Report:
 
     @cached_property
     def slips(self) -> Slips | None:
-        """What became of the slips and the alignments that were let go."""
+        """The slips and dropped alignments in words."""
         return slips_of(self)
 
 
 def gather(path: Path, is_dvi: bool, clock: int | None) -> Report:
-    """What is read of a capture."""
+    """Reads a capture."""
     taken: list[tuple[Found, Show]] = []
     bits = max(bits_of(path).read)
 
@@ -210,7 +210,7 @@ def gather(path: Path, is_dvi: bool, clock: int | None) -> Report:
 
 @contextmanager
 def keeping() -> Iterator[None]:
-    """No search for garbage: what is gathered stays, and to look through it again and again as it grows takes time."""
+    """Turns the garbage collector off: everything gathered is kept, and searching it again and again as it grows would take time."""
     was_on = gc.isenabled()
     gc.disable()
     try:
@@ -221,13 +221,13 @@ def keeping() -> Iterator[None]:
 
 
 def bits_in_words(bits: Sequence[int]) -> str:
-    """How many bits the lanes have, in words."""
+    """Formats the number of bits of the lanes."""
     return f"{bits[0]:,} bits a lane" if len(set(bits)) == 1 else "{:,}, {:,} and {:,} bits of the lanes".format(*bits)
 
 
 class Slips(NamedTuple):
-    """What became of the slips and the alignments that were let go, in words: how many times the lanes were aligned anew, and from which
-    place on not; and what is not shown."""
+    """The slips and dropped alignments in words: how often the lanes were aligned again, from which place on they were not, and what is
+    not shown."""
 
     number: int
     let_go: int
@@ -242,7 +242,7 @@ class Slips(NamedTuple):
 
 
 def slips_of(it: Report) -> Slips | None:
-    """What became of the slips and of the alignments that were let go; None if there are none."""
+    """Returns the slips and dropped alignments, or None if there are none."""
     epochs, bits = it.page.stretches[1:], it.reading.bits.read
     if not epochs:
         return None
@@ -268,7 +268,7 @@ def headline_of(verdict: Verdict) -> dict[str, str]:
 
 
 def matrix_of(verdict: Verdict) -> list[dict[str, object]]:
-    """The fault counts, by kind and lane."""
+    """Returns the fault counts, by kind and lane."""
     rows: list[dict[str, object]] = []
     for fault in BY_ROW:
         kind = fault.kind
@@ -279,7 +279,7 @@ def matrix_of(verdict: Verdict) -> list[dict[str, object]]:
 
 
 def infos_of(page: Page) -> list[Info]:
-    """Each unlike InfoFrame, clock and general control packet, how often it came, and where first."""
+    """Returns the different InfoFrames, clock regeneration and General Control packets, with the number and the first place of each."""
     infos: dict[tuple[str, tuple[Row, ...]], Info] = {}
     for one in page.packets:
         if one.content and one.content.rows:
@@ -293,7 +293,7 @@ def infos_of(page: Page) -> list[Info]:
 
 
 def data_of(it: Report, sound: dict[str, Any] | None) -> str:
-    """What the page's script reads: lists by column, packed."""
+    """Returns the data for the page's script: lists by column, packed."""
     words: dict[str, int] = {}
     page, found, packed = it.page, it.found, it.page.packets
     table = {
@@ -333,7 +333,7 @@ def data_of(it: Report, sound: dict[str, Any] | None) -> str:
 
 
 def counts_of(it: Report, channels: int) -> list[tuple[str, str, str]]:
-    """The numbers at the top; the sound has so many channels."""
+    """Returns the numbers at the top. The sound has `channels` channels."""
     found, page, reading = it.found, it.page, it.reading
     whole = sum(frame["whole"] for frame in found.frames)
     parts, size = len(found.frames) - whole, it.path.stat().st_size
@@ -356,14 +356,14 @@ def counts_of(it: Report, channels: int) -> list[tuple[str, str, str]]:
 
 
 def frames_in_words(found: Found, parts: int) -> str:
-    """What the frames are, of which so many are not whole."""
+    """Describes the frames. `parts` of them are incomplete."""
     woven = found.fields.woven
     is_whole = f"and {parts} not whole" if parts else "whole"
     return f"{is_whole}: {2 * woven:,} fields in {woven:,} pictures" if woven else is_whole
 
 
 def interlaced_by(found: Found, measured: list[Timing]) -> str:
-    """Who says that the video is interlaced; "" where none does."""
+    """Names the source that says "interlaced"; "" if none does."""
     known = found.signals.avi and of_vic(found.signals.avi["VIC"])
     if known and known.interlaced:
         return f"The AVI InfoFrame says ({known.name})"
@@ -371,7 +371,7 @@ def interlaced_by(found: Found, measured: list[Timing]) -> str:
 
 
 def notes_of(it: Report) -> list[str]:
-    """What is to be known of the page: what is not shown, or otherwise than it was."""
+    """Returns notes about the page: what is not shown, or shown differently."""
     notes, cut, others = [], it.page.cut, it.heard.others
     if cut:
         notes.append(f"The capture ends within a row, an island or an opening, at column {cut.first:,} (“cut”).")
@@ -387,8 +387,8 @@ def notes_of(it: Report) -> list[str]:
 
 
 def fits_of(it: Report) -> openings.Fits | None:
-    """At which skews openings of HDMI fit, behind the last slip if there is one; None if nothing speaks against the one that was
-    found, or a lane has no control period among the bits that are looked at."""
+    """Returns the skews at which openings of HDMI fit, after the last slip. Returns None if nothing contradicts the alignment, or if a
+    lane has no control period in the searched bits."""
     last, read = it.page.stretches[-1], it.reading
     is_right = read.grammar == "relock" or not any(kind in OF_SKEW for kind in it.verdict.link.kinds)
     if read.is_dvi or last.is_aligned and is_right:
@@ -397,7 +397,7 @@ def fits_of(it: Report) -> openings.Fits | None:
 
 
 def opening_advice(it: Report, fits: openings.Fits) -> str | None:
-    """What to do where openings fit at another skew than that of the first alignment; None where they do not."""
+    """Returns advice if openings fit at another skew than that of the first alignment, otherwise None."""
     best, fit, epoch = fits.best, fits.best if fits.is_wrong else fits.later, it.page.stretches[-1]
     if fit is None:
         return None
@@ -419,8 +419,8 @@ def opening_advice(it: Report, fits: openings.Fits) -> str | None:
 
 
 def advice_of(it: Report) -> tuple[str, ...]:
-    """What to look at: that alone if the lanes were likely aligned at a wrong skew, and were not read anew; else whether the source is
-    one of DVI, and why faults are alike."""
+    """Returns advice. If the lanes were probably aligned at a wrong skew and not read again, there is only one item. Otherwise it says
+    whether the source is DVI, and gives the common causes of faults."""
     fits = fits_of(it)
     wrong = opening_advice(it, fits) if fits else None
     if wrong:
@@ -433,7 +433,7 @@ def advice_of(it: Report) -> tuple[str, ...]:
 
 
 def page_of(it: Report) -> str:
-    """The page's text."""
+    """Returns the page."""
     template = jinja2.Environment(loader=jinja2.FileSystemLoader(PAGE), autoescape=True).get_template("report.html")
     sound = it.told.page() if it.told else None
     return template.render(
@@ -459,7 +459,7 @@ def page_of(it: Report) -> str:
 
 
 def plain_of(it: Report) -> dict[str, Any]:
-    """What the page says, for machines: no pictures, no sound and no listing."""
+    """Returns the content of the page as a value for JSON, without pictures, sound and listing."""
     faults, verdict, read = it.faults, it.verdict, it.reading
     return {
         "capture": str(it.path),
@@ -494,7 +494,7 @@ def plain_of(it: Report) -> dict[str, Any]:
 
 
 def sections_of(it: Report, sound: dict[str, Any] | None) -> dict[str, Any]:
-    """What the template has of the sections, and their names and titles."""
+    """Returns the sections for the template, with their names and titles."""
     advice, text, has_rows = advice_of(it), it.found.text, bool(len(it.reading.events.of(Kind.LINE)))
     sections = [("timing", "Timing")] * has_rows
     sections += [("pictures", "Pictures"), ("timeline", "Timeline"), ("faults", "Faults")]
@@ -517,7 +517,7 @@ def sections_of(it: Report, sound: dict[str, Any] | None) -> dict[str, Any]:
 
 
 def parser() -> argparse.ArgumentParser:
-    """The parser of the tool's words."""
+    """Returns the tool's argument parser."""
     found = command.parser("report", TEXT, "done, and the page shows a fault", EXAMPLES)
     command.add_capture(found)
     text = "the page (default: report.html; none with --json)"
@@ -546,5 +546,5 @@ def work(argv: Sequence[str] | None) -> int:
 
 
 def main(argv: Sequence[str] | None = None) -> int:
-    """Runs the tool over its words, those of the command line if none are given; answers its status."""
+    """Runs the tool with `argv`, or with the arguments of the command line. Returns the exit status."""
     return command.run("report", lambda: work(argv))
