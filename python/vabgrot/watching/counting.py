@@ -25,28 +25,33 @@ Ear = Callable[[Events], None]
 
 @dataclass
 class Fit:
-    """Whether rows and islands open as they should: how many, one after another up to now, have no whole guard band."""
+    """Whether rows and islands open as they should in an epoch: how many, one after another up to now, have no whole guard band."""
 
-    missing: int = 0
+    missing: int = ASTRAY
     is_known: bool = False  # whether anything opened
 
     @property
-    def may_fit(self) -> bool:
-        """Whether they do, or nothing opened yet."""
+    def fits(self) -> bool:
+        """Whether one of the last openings has a whole guard band."""
         return self.missing < ASTRAY
 
     @property
-    def fits(self) -> bool:
-        """Whether something opened, and they do."""
-        return self.is_known and self.may_fit
+    def may_fit(self) -> bool:
+        """The same, or nothing opened yet."""
+        return self.fits or not self.is_known
 
-    def take(self, events: Events) -> None:
-        """The next events of an epoch."""
-        _, whole = openings_of(events)
-        if len(whole):
-            right = np.flatnonzero(whole)
-            self.missing = len(whole) - 1 - int(right[-1]) if len(right) else self.missing + len(whole)
-            self.is_known = True
+    def take(self, events: Events) -> list[tuple[int, bool]]:
+        """The next events: the places at which they begin or cease to fit, and whether they do."""
+        places, whole = openings_of(events)
+        if not len(whole):
+            return []
+        numbers = np.arange(len(whole))
+        last = np.maximum.accumulate(np.where(whole, numbers, -1))
+        missing = np.where(last < 0, self.missing + numbers + 1, numbers - last)
+        fits = missing < ASTRAY
+        changes = np.flatnonzero(np.diff(fits, prepend=self.fits))
+        self.missing, self.is_known = int(missing[-1]), True
+        return [*zip(places[changes].tolist(), fits[changes].tolist())]
 
 
 @dataclass

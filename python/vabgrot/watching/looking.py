@@ -4,6 +4,7 @@ from __future__ import annotations
 
 import functools
 import time
+from concurrent.futures import Future, ThreadPoolExecutor
 from dataclasses import dataclass, field, replace
 
 import numpy as np
@@ -90,34 +91,58 @@ class Looks:
     channels: list[Channel] = field(default_factory=list)
     looked: int = 0  # whole frames
     is_behind: bool = False  # events were not looked at
+    thread: ThreadPoolExecutor = field(default_factory=lambda: ThreadPoolExecutor(1))
+    judging: Future[None] | None = None
     drawn: tuple[list[bytes], Signal, tuple[int, int], Colours] | None = None  # the last small picture, and what it is of
 
     def take(self, events: Events) -> None:
         """The next events; if there is no time they are let go."""
-        if self.look is None and not self.budget.is_left:
+        if self.look is None and (not self.budget.is_left or self.is_judging):
             self.is_behind = True
             return
         with self.budget:
             self.look = self.look or Look()
             self.look.take(events)
         if self.look.whole >= FRAMES or self.look.is_enough and not self.budget.is_left:
-            with self.budget:
-                self.keep()
+            self.keep()
             self.look = None
 
     def keep(self, is_last: bool = False) -> None:
-        """Keeps what the look saw until now, if a frame ended since, or nothing more comes."""
+        """Keeps what the look saw until now, if a frame ended since, or nothing more comes. If the last look is still judged, this one is
+        let go, unless it is the last."""
         look = self.look
+        if self.is_judging and not is_last:
+            return
+        self.wait()
         if look is None or look.whole == look.kept and not is_last:
             return
         self.looked += look.whole - look.kept
         look.kept = look.whole
         self.frame = look.rows or self.frame
         if look.rows or self.verdict is None:
-            content = Content(part_of(joined(look.parts), self.grammar))
-            self.verdict = verdict_of(content.reading, self.rate)
-            if content.samples.total:
-                self.channels = Told.of(heard_of(content.packets, content.samples), content.samples).channels()
+            self.judging = self.thread.submit(self.judged, [*look.parts])
+        if is_last:
+            self.wait()
+
+    @property
+    def is_judging(self) -> bool:
+        """Whether the last look is still judged."""
+        return self.judging is not None and not self.judging.done()
+
+    def wait(self) -> None:
+        """Waits until the last look is judged. Raises what that raised."""
+        if self.judging:
+            self.judging.result()
+            self.judging = None
+
+    def judged(self, parts: list[Events]) -> None:
+        """Judges some events, beside the receiver."""
+        begun = time.thread_time()
+        content = Content(part_of(joined(parts), self.grammar))
+        self.verdict = verdict_of(content.reading, self.rate)
+        if content.samples.total:
+            self.channels = Told.of(heard_of(content.packets, content.samples), content.samples).channels()
+        self.budget.spent += time.thread_time() - begun
 
     @property
     def timing(self) -> Timing | None:

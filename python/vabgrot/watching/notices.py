@@ -220,7 +220,6 @@ class Notices:
     contents: Contents = field(default_factory=Contents)
     limit: Limit = field(default_factory=Limit)
     fit: Fit = field(default_factory=Fit)
-    was_fit: bool = False
     seen: list[Seen] = field(default_factory=list)
     frames: int = 0
     stalled: float | None = None  # when the source stalled
@@ -259,15 +258,12 @@ class Notices:
                 yield from self.frame(stretch.frame, int(part.events.epoch[stretch.stop - 1]))
 
     def aligned(self, part: Part, begin: int, stop: int) -> Iterator[Notice]:
-        """Whether openings of an epoch fit. Its end, which is a row of its own, ends that."""
-        is_ended = part.events.kind[stop - 1] in ENDS
-        self.fit.take(part.events[begin : stop - is_ended])
-        if self.fit.fits != self.was_fit:
-            self.was_fit = self.fit.fits
-            kind = "aligned" if self.was_fit else "unaligned"
-            yield from self.at(Said(kind, SAYS[kind]), part, max(begin, stop - 1 - is_ended))
-        if is_ended:
-            self.fit, self.was_fit = Fit(), False
+        """Whether openings of an epoch fit. Its end is a row of its own."""
+        for place, fits in self.fit.take(part.events[begin:stop]):
+            kind = "aligned" if fits else "unaligned"
+            yield from self.at(Said(kind, SAYS[kind]), part, begin + place)
+        if part.events.kind[stop - 1] in ENDS:
+            self.fit = Fit()
 
     def faults(self, events: Events) -> Iterator[Notice]:
         """The faults of an epoch."""
