@@ -117,7 +117,8 @@ class Framer:
             frame.firsts = [*frame.firsts, *(ends - pixels).tolist()][:2]
         from_row = begin if frame.rows else int(lines[0]) if len(lines) else stop
         frame.faults += int(HURTS[its.kind[from_row:stop]].sum())
-        frame.rows += [its.row(place).reshape(-1) for place in lines.tolist()]
+        places = zip(its.offset[lines].tolist(), its.size[lines].tolist())
+        frame.rows += [its.data[at : at + size] for at, size in places]
         if len(frame.rows) > MOST_ROWS:
             self.left += len(frame.rows)
             self.frame = None

@@ -22,6 +22,7 @@ from vabgrot.watching.stuck import Stuck
 
 PAUSE = 100  # milliseconds after which a file that grows is looked at again
 FIRST = 4  # bytes that say how long a header is
+SOON = 0.03  # seconds within which more is waited for: many small batches take longer than some large ones
 STALLED = 1.0  # seconds without a byte, from which on the source stalls
 EVENTS, BYTES = 1 << 18, 1 << 24  # room for what a room of blocks mostly says
 NOTHING = joined([])
@@ -94,13 +95,19 @@ class Feed:
         return found or NOTHING
 
     def fill(self) -> bool:
-        """Takes in what is there, as far as there is room; answers whether something came."""
+        """Takes in what is there, as far as there is room, and what comes soon after; answers whether something came."""
         came = total = self.came()
-        self.is_silent, self.came_at = not came, time.monotonic() if came else self.came_at
-        while came and self.blocks and not self.blocks.is_full and select.select([self.source], [], [], 0)[0]:
+        now = time.monotonic()
+        self.is_silent, self.came_at, until = not came, now if came else self.came_at, now + SOON
+        while came and self.blocks and not self.blocks.is_full and self.waits(until - time.monotonic()):
             came = self.came()
             total += came
         return total > 0
+
+    def waits(self, seconds: float) -> bool:
+        """Waits so long for bytes or for the end of what comes; answers whether that is there. A stop ends the wait."""
+        ready = select.select([self.source, self.wake], [], [], max(0.0, seconds))[0]
+        return self.source in ready and not self.is_stopped
 
     def came(self) -> int:
         """Takes in bytes that are there: answers how many."""

@@ -35,6 +35,7 @@ DARK = 16  # of 255: the most of each component of a black picture
 QUIET = 1_000_000  # columns without a sample, from which on sound has a gap
 TOLD = (Type.AVI, Type.AUDIO, Type.VENDOR, Type.PRODUCT, Type.DYNAMIC, Type.CONTROL)  # packets whose contents are followed
 SOUND = (Type.SAMPLES, Type.ONE_BIT, Type.DST, Type.HIGH_RATE)
+IS_TOLD, IS_SOUND = (np.isin(np.arange(1 << 8), kinds) for kinds in (TOLD, SOUND))  # by the type of a packet
 HEADS = ("time", "seconds", "kind", "lane", "epoch", "column", "says")
 FRAME_HEADS = ("time", "seconds", "frame", "column", "width", "rows", "crc", "faults")
 SAYS = {
@@ -91,7 +92,7 @@ def crc_of(frame: Frame) -> int:
     """CRC-32 of the bytes of a frame."""
     crc = 0
     for octets in frame.rows:
-        crc = zlib.crc32(octets.data, crc)
+        crc = zlib.crc32(octets, crc)
     return crc
 
 
@@ -154,7 +155,7 @@ class Contents:
 
     def changes(self, its: Packets) -> Iterator[tuple[int, Said]]:
         """The places of packets that say something else than the one of their type before, and what they say."""
-        its = its[np.isin(its.kind, TOLD)]
+        its = its[IS_TOLD[its.kind]]
         for place, octets in zip(its.place.tolist(), its.octets[:, :CARRIED]):
             data = octets.tobytes()
             before = self.standing.get(data[0])
@@ -170,7 +171,7 @@ class Contents:
 
     def gaps(self, its: Packets, end: int) -> Iterator[Said]:
         """Where no sound comes for long, among packets up to a column."""
-        at = its.at[~its.lost & np.isin(its.kind, SOUND)]
+        at = its.at[~its.lost & IS_SOUND[its.kind]]
         if len(at):
             before = np.append(at[0] if self.last is None else self.last, at[:-1])
             for place in np.flatnonzero(at - before > QUIET).tolist():
