@@ -5,6 +5,7 @@ from __future__ import annotations
 
 import argparse
 import select
+import signal
 import sys
 import threading
 from collections.abc import Iterator, Sequence
@@ -35,7 +36,7 @@ The page is served on 127.0.0.1 only, and a capture is sent nowhere. With -o, th
 browser opens from disk."""
 FAULTY = "done, and the link that --raw follows had a fault, or its lanes were not aligned"
 EXAMPLES = """tools/page -o page.html
-tools/lanes blocks --repeat bars.tmc | tools/page --raw"""
+tools/lanes blocks bars.tmc --repeat | tools/page --raw"""
 LIVE = "live.html"  # the page of a live link
 HOST = "127.0.0.1"
 MOST_PORT = 65535
@@ -55,10 +56,12 @@ HEADERS = {
 
 
 class Server(ThreadingHTTPServer):
-    """Serves the page on the loopback, and what there is of a live link if it follows one."""
+    """Serves the page on the loopback, and what there is of a live link if it follows one. A reader that goes away ends its own answer
+    alone."""
 
     def __init__(self, number: int, live: Live | None = None) -> None:
         self.live = live
+        signal.signal(signal.SIGPIPE, signal.SIG_IGN)
         try:
             super().__init__((HOST, number), Handler)
         except OSError as why:
@@ -99,22 +102,18 @@ class Handler(BaseHTTPRequestHandler):
 
     def answer(self, data: bytes, kind: str) -> None:
         """Answers with some bytes."""
-        self.begin({"Content-Type": kind, "Content-Length": str(len(data))})
-        self.wfile.write(data)
+        with suppress(ConnectionError):
+            self.begin({"Content-Type": kind, "Content-Length": str(len(data))})
+            self.wfile.write(data)
 
     def follow(self, live: Live) -> None:
         """Sends what is new of the link again and again, until the reader is gone."""
-        self.begin({"Content-Type": "text/event-stream; charset=utf-8"})
         after = -1
-        live.readers += 1
-        try:
+        with suppress(ConnectionError), live.reading():
+            self.begin({"Content-Type": "text/event-stream; charset=utf-8"})
             while True:
                 after, data = live.message(after)
                 self.wfile.write(data)
-        except OSError:
-            pass
-        finally:
-            live.readers -= 1
 
     def log_message(self, *_: object) -> None:
         """Logs no requests."""
@@ -166,7 +165,7 @@ def follow(path: str, is_dvi: bool, number: int) -> int:
             stop_on_signals(feed)
             state = State(feed, Count(), Looks(feed.grammar))
             live = Live(state)
-            with serving(number, live), suppress(KeyboardInterrupt):
+            with serving(number, live):
                 Watch(state, None, stops=False).run(live)
                 state.end()
                 live.show()

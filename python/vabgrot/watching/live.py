@@ -5,6 +5,8 @@ from __future__ import annotations
 import json
 import threading
 from collections import deque
+from collections.abc import Iterator
+from contextlib import contextmanager
 from dataclasses import dataclass, field
 from io import BytesIO
 from typing import Any
@@ -16,7 +18,7 @@ from vabgrot.events import Ints, Kind
 from vabgrot.formats.characters import LANES
 from vabgrot.formats.faults import LINK
 from vabgrot.watching.counting import WAYS
-from vabgrot.watching.looking import Colours, words_of
+from vabgrot.watching.looking import Budget, Colours, words_of
 from vabgrot.watching.state import State, lane_of, place_of
 
 EACH = 0.2  # seconds between two messages, and of a step of the timeline
@@ -67,6 +69,7 @@ class Live:
     pictures: int = 0  # how many there were
     shown: Colours | None = None  # of which the last one was made
     readers: int = 0
+    budget: Budget = field(default_factory=Budget)  # for pictures: what is looked at must not wait for them
     news: threading.Condition = field(default_factory=threading.Condition)
     times: Ints = field(default_factory=lambda: np.zeros(len(ROW_OF_TIMES), np.int64))
     columns: int = 0
@@ -77,6 +80,8 @@ class Live:
         if self.state.looks.budget.is_left:
             with self.state.looks.budget:
                 self.state.looks.keep()
+        if self.readers and self.budget.is_left:
+            with self.budget:
                 self.draw()
         step, told = self.step(), self.plain()
         with self.news:
@@ -95,8 +100,8 @@ class Live:
         return found
 
     def draw(self) -> None:
-        """Makes a picture of the last whole frame, if somebody looks and it is another one."""
-        colours = self.state.looks.picture(self.state.count.standing, LARGE) if self.readers else None
+        """Makes a picture of the last whole frame, if it is another one."""
+        colours = self.state.looks.picture(self.state.count.standing, LARGE)
         if colours is None or colours is self.shown:
             return
         file = BytesIO()
@@ -123,6 +128,17 @@ class Live:
             "last": [place_of(fault) for fault in state.count.last],
             "picture": self.pictures,
         }
+
+    @contextmanager
+    def reading(self) -> Iterator[None]:
+        """Somebody looks: a picture is made only then."""
+        with self.news:
+            self.readers += 1
+        try:
+            yield
+        finally:
+            with self.news:
+                self.readers -= 1
 
     def message(self, after: int, seconds: float = HEARTBEAT) -> tuple[int, bytes]:
         """Waits for a step behind one, at most so long. Answers the number of the last step, and all that came as an event of a stream."""
