@@ -163,11 +163,11 @@ def test_dvi(page, program, tmp_path):
     (
         (b"TMC1\0\0\0\0", "Not aligned", "the three lanes have no bits"),
         (b"TMC1\0\0\0\x08\0\0\0", "Not aligned", "no place at which a control period ends"),
-        (b"hello", "Broken file", "which begins with TMC"),
+        (b"hello", "Broken file", "it does not begin with TMC"),
         (b"", "Broken file", "The file is empty."),
         (b"TMC3\0\0\0\0", "Broken file", "its fourth byte is 51"),
         (b"TMC1\0\0\0\x08\0\0", "Broken file", "it ends after 10 bytes"),
-        (b"TMC1\0\0\0\x08\0\0\0\0", "Broken file", "byte 11 and what follows"),
+        (b"TMC1\0\0\0\x08\0\0\0\0", "Broken file", "byte 11 and the following ones"),
         (b"TMC1\0\0\0\x07\0\x80\0", "Broken file", "byte 9, the last one of a lane"),
     ),
 )
