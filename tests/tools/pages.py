@@ -2,6 +2,7 @@
 
 import os
 import re
+import threading
 from base64 import b64encode
 from pathlib import Path
 
@@ -58,6 +59,35 @@ def memory(driver):
         if is_page:
             found.append(int(re.search(r"RssAnon:\s*(\d+)", status)[1]) * 1024 / 1e6)
     return found
+
+
+class Watched:
+    """Watches the page of a browser: the greatest memory that it has in MB (`most`), the seconds for which its main thread works
+    (`worked`), and how many times as long as that its tasks take (`slowness`), since the machine has other work."""
+
+    def __init__(self, driver):
+        self.driver, self.most, self.is_over = driver, 0.0, threading.Event()
+        self.thread = threading.Thread(target=self.look)
+        driver.execute_cdp_cmd("Performance.enable", {})
+
+    def look(self):
+        while not self.is_over.wait(0.05):
+            self.most = max(self.most, *memory(self.driver))
+
+    def times(self):
+        found = {one["name"]: one["value"] for one in self.driver.execute_cdp_cmd("Performance.getMetrics", {})["metrics"]}
+        return found["ThreadTime"], found["TaskDuration"]
+
+    def __enter__(self):
+        self.begun = self.times()
+        self.thread.start()
+        return self
+
+    def __exit__(self, *_):
+        self.is_over.set()
+        self.thread.join()
+        self.worked, took = (after - before for before, after in zip(self.begun, self.times()))
+        self.slowness = max(1.0, took / max(self.worked, 0.001))
 
 
 class Page:

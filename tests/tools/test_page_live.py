@@ -17,7 +17,7 @@ from vabgrot.watching.live import ROW_OF_TIMES, ROWS, rows_of_times
 
 FRAMES, TIMES = 20, 180  # a minute of 60 frames a second
 MOST_GROWTH = 1_000_000  # bytes by which the page may be larger at the end of a minute than at its first seconds
-MOST_PAUSE = 300  # milliseconds
+MOST_PAUSE = 300  # milliseconds on a machine that has no other work
 PAUSES = """window.pauses = [0]; new PerformanceObserver((list) => { for (const one of list.getEntries()) pauses.push(one.duration); })
     .observe({type: 'longtask'});"""
 
@@ -162,7 +162,9 @@ class Follower:
 
 
 def minute(driver, data):
-    """What a page shows at the end of a link, how much larger it became, and its longest pause."""
+    """What a page shows at the end of a link, how much larger it became, and its longest pause in milliseconds of work."""
+    from tests.tools.pages import Watched
+
     with following() as (process, url):
         shown = Follower(driver, url)
         page = shown.page
@@ -179,9 +181,10 @@ def minute(driver, data):
         before = sizes(page)
         writer = threading.Thread(target=write)
         writer.start()
-        shown.wait("document.getElementById('name').textContent === 'The link has ended'")
+        with Watched(driver) as watched:
+            shown.wait("document.getElementById('name').textContent === 'The link has ended'")
         writer.join()
-        after, pause = sizes(page), max(page.run("return pauses"))
+        after, pause = sizes(page), max(page.run("return pauses")) / watched.slowness
         lines = page.run("return [...document.querySelectorAll('#lines div')].map((one) => one.lastChild.textContent)")
         word = page.text("word")
         page.check()
@@ -193,14 +196,8 @@ def test_a_minute(driver, lanes):
     """A minute of a link at full speed: all frames are counted, and the page is as small as before."""
     pytest.importorskip("tests.tools.pages")
     data = live.blocks(live.times(lanes, TIMES))
-    pauses = []
-    for _ in range(3):  # on a machine that has other work
-        lines, word, out, (grown, nodes), pause = minute(driver, data)
-        assert lines[3].startswith(f"{TIMES * FRAMES:,} whole frames") and lines[4].startswith("0 faults")
-        assert f"verdict: {word}" in out
-        assert grown < MOST_GROWTH and nodes < 200, (grown, nodes)
-        pauses.append(pause)
-        if pause < MOST_PAUSE:
-            break
-    print(f"pauses of {pauses} ms")
-    assert min(pauses) < MOST_PAUSE
+    lines, word, out, (grown, nodes), pause = minute(driver, data)
+    assert lines[3].startswith(f"{TIMES * FRAMES:,} whole frames") and lines[4].startswith("0 faults")
+    assert f"verdict: {word}" in out
+    assert grown < MOST_GROWTH and nodes < 200, (grown, nodes)
+    assert pause < MOST_PAUSE
