@@ -106,7 +106,7 @@ class Viewed:
     piece = LONGEST
 
     def __init__(self, counts):
-        self.receiver, self.counts = Receiver("link", feeding.EVENTS, feeding.BYTES), counts
+        self.receiver, self.counts = Receiver(kind="link", events=feeding.EVENTS, size=feeding.BYTES), counts
 
     def feed(self, lanes):
         count = Count()

@@ -16,9 +16,12 @@ cocotb bench, give a Link the characters of the core's lanes:
 Exit status: 0; 1 if there was a fault or the lanes never aligned; 2 for wrong arguments.
 """
 
-import sys
+from __future__ import annotations
 
-from vabgrot import Receiver
+import sys
+from collections.abc import Iterable, Sequence
+
+from vabgrot import Event, Receiver
 
 TEN = 10  # bits of a character
 
@@ -31,17 +34,18 @@ class Link:
     """Takes one ten-bit character of each lane per clock, and collects what they carry in `events`. Bit 0 of a character is sent first. It
     feeds the receiver every `clocks` clocks. That is a multiple of four, so that the bits are whole bytes."""
 
-    def __init__(self, clocks=320):
+    def __init__(self, clocks: int = 320) -> None:
         self.receiver, self.clocks, self.count = Receiver(), clocks, 0
-        self.words, self.events = ([], [], []), []
+        self.words: tuple[list[int], ...] = ([], [], [])
+        self.events: list[Event] = []
 
-    def __enter__(self):
+    def __enter__(self) -> Link:
         return self
 
-    def __exit__(self, *_):
+    def __exit__(self, *_: object) -> None:
         self.receiver.close()
 
-    def tick(self, blue, green, red):
+    def tick(self, blue: int, green: int, red: int) -> None:
         """Takes the characters of one clock. Raises LinkFault at the first fault among the characters so far."""
         for words, word in zip(self.words, (blue, green, red)):
             words.append(word)
@@ -49,21 +53,21 @@ class Link:
         if self.count % self.clocks == 0:
             self.feed()
 
-    def feed(self):
+    def feed(self) -> None:
         """Feeds the receiver the characters that it has not seen yet."""
         count = TEN * len(self.words[0])
-        lanes = [sum(word << TEN * at for at, word in enumerate(words)).to_bytes((count + 7) // 8, "little") for words in self.words]
+        blue, green, red = (bytes_of(words) for words in self.words)
         self.words = ([], [], [])
-        self.hear(self.receiver.feed(*lanes, bits=[count] * 3))
+        self.hear(self.receiver.feed(blue, green, red, bits=[count] * 3))
 
-    def hear(self, events):
+    def hear(self, events: Iterable[Event]) -> None:
         """Collects events up to the first fault, and raises LinkFault there."""
         for event in events:
             if event.is_fault:
                 raise LinkFault(f"{event} (of {self.count} clocks)")
             self.events.append(event)
 
-    def finish(self):
+    def finish(self) -> int:
         """Ends the lanes and returns the number of columns. Raises LinkFault if the lanes never aligned."""
         self.feed()
         rest, end = self.receiver.finish()
@@ -73,7 +77,13 @@ class Link:
         return end.columns
 
 
-def main(paths):
+def bytes_of(words: Sequence[int]) -> bytes:
+    """The bytes of characters, which follow one another bit by bit."""
+    bits = sum(word << TEN * at for at, word in enumerate(words))
+    return bits.to_bytes((TEN * len(words) + 7) // 8, "little")
+
+
+def main(paths: Sequence[str]) -> int:
     if len(paths) != 3:
         print("usage: bench.py BLUE GREEN RED", file=sys.stderr)
         return 2

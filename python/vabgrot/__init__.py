@@ -3,46 +3,67 @@ proved C library (docs/guide/LIBRARY.md).
 
 Nothing here is proved. The names below are loaded on first use."""
 
-import importlib
-from typing import TYPE_CHECKING, Any
+from typing import TYPE_CHECKING
 
 if TYPE_CHECKING:
     from vabgrot.encoding import Control, Island, Video, encode
-    from vabgrot.errors import Refused
+    from vabgrot.errors import Error, KindWarning, Misuse, NoLibrary, Refused, Unaligned
     from vabgrot.events import End, Event, Events, Kind
-    from vabgrot.library import Misuse, NoLibrary
     from vabgrot.receiving import Receiver, receive
-    from vabgrot.recovered import Recovered, recover
+    from vabgrot.recovered import Epoch, Packet, Recovered, recover
     from vabgrot.sending import BadListing, make
     from vabgrot.texts import Text, text_of
+    from vabgrot.verdict import Verdict, judge
 
+__version__ = "1.0.0"  # the only place that has it
 __all__ = [
     "BadListing",
     "Control",
     "End",
+    "Epoch",
+    "Error",
     "Event",
     "Events",
     "Island",
     "Kind",
+    "KindWarning",
     "Misuse",
     "NoLibrary",
+    "Packet",
     "Receiver",
     "Recovered",
     "Refused",
     "Text",
+    "Unaligned",
+    "Verdict",
     "Video",
     "encode",
+    "judge",
     "make",
     "receive",
     "recover",
     "text_of",
 ]
-_HOMES = {"Misuse": "library", "NoLibrary": "library", "Refused": "errors", "Recovered": "recovered", "recover": "recovered"}
-_HOMES |= dict.fromkeys(("Receiver", "receive"), "receiving") | dict.fromkeys(("Text", "text_of"), "texts")
-_HOMES |= dict.fromkeys(("BadListing", "make"), "sending") | dict.fromkeys(("Control", "Island", "Video", "encode"), "encoding")
 
+if not TYPE_CHECKING:  # type checkers know the names from above, and refuse others
+    import importlib
 
-def __getattr__(name: str) -> Any:
-    if name not in __all__:
-        raise AttributeError(f"module 'vabgrot' has no attribute {name!r}")
-    return getattr(importlib.import_module(f"vabgrot.{_HOMES.get(name, 'events')}"), name)
+    _HOMES = {
+        "encoding": ("Control", "Island", "Video", "encode"),
+        "errors": ("Error", "KindWarning", "Misuse", "NoLibrary", "Refused", "Unaligned"),
+        "events": ("End", "Event", "Events", "Kind"),
+        "receiving": ("Receiver", "receive"),
+        "recovered": ("Epoch", "Packet", "Recovered", "recover"),
+        "sending": ("BadListing", "make"),
+        "texts": ("Text", "text_of"),
+        "verdict": ("Verdict", "judge"),
+    }
+
+    def __getattr__(name):
+        home = next((home for home, names in _HOMES.items() if name in names), None)
+        if home is None:
+            raise AttributeError(f"module 'vabgrot' has no attribute {name!r}")
+        return getattr(importlib.import_module(f"vabgrot.{home}"), name)
+
+    def __dir__():
+        return [*__all__, *(name for name in globals() if name.startswith("__"))]

@@ -1,14 +1,18 @@
 """Reads and writes captures (docs/guide/FORMATS.md): the header, and three lanes in alternating blocks of 4,096 bytes."""
 
+import io
+import os
 import shutil
 import tempfile
 from collections.abc import Iterator, Sequence
 from contextlib import contextmanager
-from io import BufferedReader
+from dataclasses import dataclass
+from io import BufferedIOBase, BufferedReader
 from pathlib import Path
-from typing import IO, BinaryIO, cast
+from typing import IO, BinaryIO, TypeAlias, cast
 
 from vabgrot import place
+from vabgrot.buffers import Buffer, view_of
 from vabgrot.errors import Refused
 
 BLOCK = 4096
@@ -19,6 +23,38 @@ HEADER = 16  # the greatest size of a header in bytes
 def head_of(counts: Sequence[int]) -> bytes:
     """The header of a capture: the bits of each lane, or one number for all."""
     return (b"TMC2" if len(counts) > 1 else b"TMC1") + b"".join(count.to_bytes(4, "big") for count in counts)
+
+
+@dataclass(frozen=True, eq=False)
+class Memory:
+    """A capture in memory, which stands for its file."""
+
+    data: bytes
+
+    def __str__(self) -> str:
+        return "the capture in memory"
+
+
+Source = str | Path | Memory
+Given: TypeAlias = "str | os.PathLike[str] | Buffer | IO[bytes]"
+
+
+def source_of(given: Given) -> Path | Memory:
+    """The capture that a path, bytes or an open binary file has. Raises TypeError if it is none of them, and OSError."""
+    if isinstance(given, (str, os.PathLike)):
+        return Path(given)
+    read = getattr(given, "read", None)
+    data = given if isinstance(given, bytes) else read() if read else view_of(cast(Buffer, given), "a capture is").tobytes()
+    if not isinstance(data, bytes):
+        raise TypeError('a capture is bytes: open its file with the mode "rb"')
+    return Memory(data)
+
+
+def opened(source: Source) -> BufferedIOBase:
+    """An open file of a capture. Raises OSError."""
+    if isinstance(source, Memory):
+        return io.BytesIO(source.data)
+    return open(source, "rb")
 
 
 def write(out: IO[bytes], lanes: Sequence[IO[bytes]], counts: Sequence[int]) -> None:

@@ -8,9 +8,12 @@ import operator
 from collections.abc import Iterable, Iterator, Sequence
 from ctypes import POINTER, addressof, byref, c_bool, c_char_p, c_int, c_size_t, c_uint16, c_uint32, c_void_p
 from dataclasses import dataclass
-from typing import Any
+from typing import Any, cast
 
 from vabgrot import library
+from vabgrot.buffers import Buffer, Words, view_of
+from vabgrot.errors import NoLibrary
+from vabgrot.formats.characters import MOST_PACKETS
 
 LANES = 3
 MOST = 0xFFFFFFFF
@@ -22,9 +25,7 @@ TYPES: dict[str, tuple[Any, ...]] = {
     "island_guard": (c_uint32,),
     "packet": (c_char_p, c_size_t, c_bool),
 }
-
-Octets = Any  # bytes, a memoryview or an array of bytes: any buffer of them
-Words = Any  # an array of columns by three words; without NumPy a list of lists
+COLOURS = 3  # of a pixel
 
 
 @dataclass(frozen=True, slots=True)
@@ -40,7 +41,7 @@ class Video:
     """A line of 1 to 4,096 pixels: bytes (red, green and blue of each pixel) or an array of the shape (pixels, 3). Two guard columns
     precede them, unless `guard` is False, for a link without guard bands."""
 
-    pixels: Octets
+    pixels: Buffer
     guard: bool = True
 
 
@@ -51,22 +52,27 @@ class Island:
     A packet has 63 bytes: three of the header, four bodies of seven, and one for each of 32 columns (HSYNC plus twice VSYNC). `opening`
     and `closing` are this sync value for the two guard columns before and after the packets."""
 
-    packets: Sequence[Octets]
+    packets: Sequence[Buffer]
     opening: tuple[int, int] = (0, 0)
     closing: tuple[int, int] = (0, 0)
+
+    def __post_init__(self) -> None:
+        if not 1 <= len(self.packets) <= MOST_PACKETS:
+            raise ValueError(f"an island has 1 to {MOST_PACKETS} packets, and not {len(self.packets)}")
 
 
 Part = Control | Video | Island
 Step = tuple[str, tuple[Any, ...]]  # a call of the library, and its arguments before the rows
 
 
-def octets(given: Octets) -> tuple[bytes, int]:
-    """Returns bytes and their number. Raises TypeError if this is not a buffer of bytes."""
-    view = memoryview(given)
-    if view.format not in ("B", "b", "c"):
-        raise TypeError(f"pixels and packets are bytes, and not items of the format {view.format!r}")
-    data = view.tobytes()
-    return data, len(data)
+def pixels(given: Buffer) -> tuple[bytes, int]:
+    """The bytes of pixels. Raises ValueError if they are an array of another shape than pixels by three."""
+    view = view_of(given, "pixels are")
+    colours = (view.shape or ())[1:]
+    if colours and colours != (COLOURS,):
+        alpha = ". Leave out their alpha: `pixels[:, :3]`" if colours == (COLOURS + 1,) else ""
+        raise ValueError(f"a line is an array of pixels by three (red, green, blue), and not of the shape {view.shape}{alpha}")
+    return view.tobytes(), view.nbytes
 
 
 def number(given: int) -> int:
@@ -84,14 +90,15 @@ def steps_of(part: Part) -> Iterator[Step]:
     elif isinstance(part, Video):
         if part.guard:
             yield "video_guard", ()
-        yield "pixels", octets(part.pixels)
+        yield "pixels", pixels(part.pixels)
     elif isinstance(part, Island):
         first, second = part.opening
         third, fourth = part.closing
         yield "island_guard", (number(first),)
         yield "island_guard", (number(second),)
         for at, packet in enumerate(part.packets):
-            yield "packet", (*octets(packet), at == 0)
+            view = view_of(packet, "packets are")
+            yield "packet", (view.tobytes(), view.nbytes, at == 0)
         yield "island_guard", (number(third),)
         yield "island_guard", (number(fourth),)
     else:
@@ -107,7 +114,7 @@ def calls() -> ctypes.CDLL:
             call = getattr(found, f"vabgrot_encode_{name}")
             call.argtypes, call.restype = (*words, *ROWS), c_int
     except AttributeError as why:
-        raise library.NoLibrary(f"the C library {library.find()} lays no columns ({why}). Install a later version") from None
+        raise NoLibrary(f"the C library {library.find()} lays no columns ({why}). Install a later version") from None
     return found
 
 
@@ -144,7 +151,7 @@ def encode(parts: Iterable[Part]) -> Words:
     for step, size in steps:
         status, _ = laid(step, place + 2 * at, 2 * total, size)
         if status != library.OK:
-            raise library.NoLibrary(f"the C library answers the status {status}, which is not known: it is of another version")
+            raise NoLibrary(f"the C library answers the status {status}, which is not known: it is of another version")
         at += size
     return columns_of(rows, total)
 
@@ -154,5 +161,5 @@ def columns_of(rows: ctypes.Array[c_uint16], total: int) -> Words:
     try:
         import numpy as np
     except ImportError:
-        return [list(column) for column in zip(*(rows[lane * total : (lane + 1) * total] for lane in range(LANES)))]
+        return cast(Words, [list(column) for column in zip(*(rows[lane * total : (lane + 1) * total] for lane in range(LANES)))])
     return np.frombuffer(memoryview(rows), np.uint16, LANES * total).reshape(LANES, total).T.copy()

@@ -22,12 +22,28 @@ PACKAGES = {
 }
 
 
-class Refused(Exception):
-    """The input cannot be used. The text gives the reason in one line."""
+class Error(Exception):
+    """Anything that the package raises of its own. Wrong arguments are a TypeError or a ValueError."""
+
+
+class Refused(Error):
+    """What was given cannot be used; the text says why, in one line."""
 
 
 class Unaligned(Refused):
     """The lanes of a capture align nowhere: it was read and has no contents."""
+
+
+class Misuse(Error):
+    """A call that does not fit the calls before it, or whose bits do not fit those before them. It did nothing."""
+
+
+class NoLibrary(Refused):
+    """The shared library is not there, or is none."""
+
+
+class KindWarning(UserWarning):
+    """A capture was perhaps read as the wrong kind of link."""
 
 
 def missing(why: ImportError) -> str | None:

@@ -6,6 +6,7 @@ view (`Event`) is an object for one event: use it for faults and for printing, n
 from __future__ import annotations
 
 import enum
+import reprlib
 from collections.abc import Iterator, Sequence
 from dataclasses import dataclass, fields, replace
 from typing import Any, overload
@@ -24,7 +25,8 @@ Records = npt.NDArray[np.void]
 
 UNTOLD = -1  # a column that a listing does not give
 WHOLE = CARRIED + PACKET  # bytes of a packet in `data`: header, bodies, and a sync value for each of its columns
-GUARDS = 2  # guard columns before the pixels of a line, and on either side of an island
+SHOWN = 3  # events at each end that a `repr` of many has
+GUARDS = 2  # columns before the pixels of a line, and of what opens or closes an island
 # A record of vabgrot.h; its columns are below 2^60.
 RECORD = np.dtype(
     [(name, "<i8") for name in ("column", "named", "count", "offset")] + [(name, "<u4") for name in ("size", "kind", "value", "second")]
@@ -74,7 +76,7 @@ IS_LANED = np.isin(np.arange(len(Kind)), LANED)
 IS_OF_PACKET = np.isin(np.arange(len(Kind)), OF_PACKET)
 
 
-@dataclass(frozen=True, slots=True)
+@dataclass(frozen=True, slots=True, repr=False)
 class Event:
     """A view of one event. `first` is the first of the `width` columns that it covers. For a fault, `first` is the column that it
     names; for the end of an epoch, `first` is a bit of each lane. `column` is where the receiver reports the event."""
@@ -133,6 +135,11 @@ class Event:
         """HSYNC plus twice VSYNC in each of the 32 columns of a packet, a byte each."""
         return self.data[CARRIED:]
 
+    def __repr__(self) -> str:
+        shown = [f"{name}={getattr(self, name)}" for name in ("epoch", "column", "first", "width", "value", "second")]
+        data = [f"data={reprlib.repr(self.data)} of {len(self.data):,} bytes"] if self.data else []
+        return f"{type(self).__name__}({', '.join([self.kind.name, *shown, *data])})"
+
     def __str__(self) -> str:
         if not self.is_fault:
             return f"column {self.first}: {self.kind.word}, {self.width} columns"
@@ -164,7 +171,7 @@ def numbers_of(kind: int, first: int, value: int, second: int) -> tuple[int, ...
     return (first, value) if kind in (Kind.LOST, Kind.SYMBOLS) else (first,)
 
 
-@dataclass(frozen=True, eq=False)
+@dataclass(frozen=True, eq=False, repr=False)
 class Events:
     """Events in the order in which they were reported, an array for each field.
 
@@ -199,6 +206,15 @@ class Events:
 
     def __iter__(self) -> Iterator[Event]:
         return map(self.view, range(len(self)))
+
+    def __repr__(self) -> str:
+        kinds, counts = np.unique(self.kind, return_counts=True)
+        parts = ", ".join(f"{times:,} {Kind(kind).name}" for kind, times in zip(kinds.tolist(), counts.tolist()))
+        head = f"Events({len(self):,}: {parts}; {len(self.data):,} bytes)" if len(self) else "Events(0)"
+        gap = ["    .."] if len(self) > 2 * SHOWN else []
+        ends = range(min(SHOWN, len(self))), range(max(SHOWN, len(self) - SHOWN), len(self))
+        before, after = ([f"    {self.view(place)}" for place in its] for its in ends)
+        return "\n".join([head, *before, *gap, *after])
 
     @property
     def end(self) -> Ints:

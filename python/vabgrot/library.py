@@ -9,7 +9,7 @@ from pathlib import Path
 from typing import Literal
 
 from vabgrot import building, place
-from vabgrot.errors import Refused
+from vabgrot.errors import NoLibrary
 
 NAME = "libvabgrot.so.1"
 FOLDERS = ("", sysconfig.get_config_var("MULTIARCH") or "")  # folders in PREFIX/lib; Debian has one for each architecture
@@ -25,14 +25,6 @@ LEAST_EVENTS, LEAST_BYTES = 104, 12327  # the least room for a feed to take bits
 LEAST_TRACK_EVENTS, LEAST_TRACK_BYTES = 400, 12622  # the same for lanes that may lose bits
 QUICK_EVENTS, QUICK_BYTES = 26312, 22155  # the least room for full speed
 QUICK_TRACK_EVENTS, QUICK_TRACK_BYTES = 33160, 45382
-
-
-class NoLibrary(Refused):
-    """The shared library is missing or unusable."""
-
-
-class Misuse(Exception):
-    """A call does not fit the calls before it, or its bits do not fit the bits before them. It did nothing."""
 
 
 class Handle(Structure):

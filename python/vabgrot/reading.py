@@ -6,11 +6,12 @@ alignment, so no statistic mixes two alignments."""
 
 from __future__ import annotations
 
+import logging
 import os
 from collections.abc import Callable, Iterator
 from dataclasses import dataclass, replace
 from functools import cached_property
-from io import BufferedReader
+from io import BufferedIOBase
 from pathlib import Path
 from typing import Any, Protocol, cast
 
@@ -19,8 +20,9 @@ import numpy.typing as npt
 from tqdm import tqdm
 
 from vabgrot import capture, place
+from vabgrot.capture import Memory
 from vabgrot.errors import Refused, Unaligned
-from vabgrot.events import ENDS, Events, Ints, Kind, Mask, joined
+from vabgrot.events import ENDS, End, Events, Ints, Kind, Mask, joined
 from vabgrot.lanes.columns import Columns, alignment_of
 from vabgrot.library import Grammar
 from vabgrot.receiving import Receiver
@@ -28,7 +30,8 @@ from vabgrot.receiving import Receiver
 ROOM, BYTES = 1 << 17, 1 << 22  # events and bytes that the receiver has room for
 BLOCKS = 240  # blocks of each lane that are read at a time: a multiple of 80 bytes
 SIZE = BLOCKS * capture.BLOCK
-IN_A_ROW = 3  # so many successive openings without a whole guard band are rare unless the alignment is wrong
+IN_A_ROW = 3  # openings without a whole guard band, one after another, are rare unless the alignment is wrong
+log = logging.getLogger(__name__)
 UNALIGNED = place.named("not aligned: `tools/lanes look` says what the lanes have")
 Octets = npt.NDArray[np.uint8]
 Piece = tuple[Octets, Octets, Octets, list[int]]
@@ -63,29 +66,29 @@ class Bits:
         return f"the capture is cut off: {min(self.read):,} of {min(self.told):,} bits a lane are there, to the last whole block"
 
 
-def bits_of(path: Path) -> Bits:
-    """Returns the bits of a capture's lanes. Raises Refused if the file is not a capture, or if data follow its last bit."""
-    with open(path, "rb") as file:
+def bits_of(source: Path | Memory) -> Bits:
+    """The bits of a capture's lanes. Raises Refused if the file is no capture, or if something follows its last bit."""
+    with capture.opened(source) as file:
         try:
             counts, start = capture.header_of(file.read(capture.HEADER))
         except Refused as why:
-            raise Refused(f"{path}: {why}") from None
+            raise Refused(f"{source}: {why}") from None
         lengths = [(count + 7) // 8 for count in counts]
-        have = os.fstat(file.fileno()).st_size - start
+        have = file.seek(0, os.SEEK_END) - start
         if have > sum(lengths):
-            raise Refused(f"{path}: not a capture: {have - sum(lengths):,} bytes follow its last bit")
+            raise Refused(f"{source}: not a capture: {have - sum(lengths):,} bytes follow its last bit")
         if have < sum(lengths):
             turns = min(have // (3 * capture.BLOCK), min(lengths) // capture.BLOCK)
             return Bits(tuple(counts), (8 * capture.BLOCK * turns,) * 3, start)
         for lane, (count, length) in enumerate(zip(counts, lengths)):
             file.seek(capture.place_of(start, lengths, lane, length - 1) if count % 8 else 0)
             if count % 8 and file.read(1)[0] >> count % 8:
-                raise Refused(f"{path}: not a capture: lane {lane} has ones after its last bit")
+                raise Refused(f"{source}: not a capture: lane {lane} has ones after its last bit")
     return Bits(tuple(counts), tuple(counts), start)
 
 
-def pieces_of(file: BufferedReader, bits: Bits) -> Iterator[Piece]:
-    """Yields the bytes and the numbers of bits of the three lanes, some blocks at a time."""
+def pieces_of(file: BufferedIOBase, bits: Bits) -> Iterator[Piece]:
+    """The bytes and the bits of the three lanes of a capture, some blocks of each at a time."""
     lengths, at = [(count + 7) // 8 for count in bits.read], 0
     file.seek(bits.start)
     block = np.empty((BLOCKS, 3, capture.BLOCK), np.uint8)
@@ -136,10 +139,10 @@ class Epoch:
 
 @dataclass(frozen=True, eq=False)
 class Reading:
-    """The result of reading a capture. `events` has no pixels; a `Taker` gets these. `grammar` is how it was read, and `why` is the
-    reason if that is not the usual way ("" if it is). `aligned` is the number of aligned epochs."""
+    """What a capture carried. `source` is None of a link that goes on. `events` has no pixels: a `Taker` gets these. `grammar` is how it
+    was read, and `why` says why not in the usual way ("" if it was). `aligned` is how many epochs were aligned."""
 
-    path: Path
+    source: Path | Memory | None
     grammar: Grammar
     why: str
     bits: Bits
@@ -222,13 +225,17 @@ class Reading:
         wide = begins > ends
         return np.column_stack([ends[wide], begins[wide]])
 
+    def starts(self, epoch: Epoch) -> list[int] | None:
+        """The bit of each lane at which column 0 of an epoch begins; None if it was not aligned. (The C library knows it and does not say
+        it; so it is searched again.)"""
+        return alignment_of(self.source, epoch.searched, self.grammar == "relock") if self.source else None
+
     def characters(self, epoch: Epoch) -> Columns | None:
-        """Returns the characters of an epoch, column by column, or None if it was not aligned. The C library does not report where column
-        0 begins, so the alignment is searched for again."""
-        starts = alignment_of(self.path, epoch.searched, self.grammar == "relock")
-        if starts is None:
+        """The characters of an epoch, column by column; None if it was not aligned."""
+        starts = self.starts(epoch)
+        if starts is None or self.source is None:
             return None
-        found = Columns(self.path, starts, self.bits.read)
+        found = Columns(self.source, starts, self.bits.read)
         if epoch.number < len(self.epochs) - 1:
             found.count = min(found.count, epoch.columns)
         return found
@@ -236,44 +243,45 @@ class Reading:
     def refuse_unaligned(self) -> None:
         """Raises Unaligned if nothing aligns. Call it in a tool that has nothing to say then."""
         if not self.is_aligned:
-            raise Unaligned(f"{self.path}: {UNALIGNED}")
+            raise Unaligned(f"{self.source}: {UNALIGNED}")
 
 
-def heard(path: Path, bits: Bits, grammar: Grammar, taker: Taker | None) -> tuple[Events, int]:
-    """Runs the receiver once over a capture. Returns its events without pixels, and the number of aligned epochs."""
-    parts: list[Events] = []
+def read_as(source: Path | Memory, grammar: Grammar, taker: Taker | None = None, is_shown: bool = True) -> tuple[Reading, End]:
+    """One pass of a receiver over a capture, and how its lanes ended. Its progress is shown on a terminal unless that is not wanted."""
+    bits, parts = bits_of(source), list[Events]()
 
     def give(events: Events) -> None:
         parts.append(events.without_pixels())
         if taker is not None:
             taker.take(events)
 
-    shown = tqdm(total=max(bits.read) // 8, unit="B", unit_scale=True, disable=None)
-    with open(path, "rb") as file, Receiver(grammar, events=ROOM, size=BYTES) as receiver, shown:
-        for piece in pieces_of(file, bits):
-            give(receiver.feed(*piece))
-            shown.update(max(piece[3]) // 8)
+    shown = tqdm(total=max(bits.read) // 8, unit="B", unit_scale=True, disable=None if is_shown else True)
+    with capture.opened(source) as file, Receiver(kind=grammar, events=ROOM, size=BYTES) as receiver, shown:
+        for blue, green, red, counts in pieces_of(file, bits):
+            give(receiver.feed(blue, green, red, bits=counts))
+            shown.update(max(counts) // 8)
         rest, end = receiver.finish()
         give(rest)
-    return joined(parts), end.aligned_epochs
+    events = joined(parts)
+    return Reading(source, grammar, "", bits, events, epochs_of(events), end.aligned_epochs), end
 
 
-def read(path: Path, is_dvi: bool = False, taker: Callable[[Grammar], Taker] | None = None) -> Reading:
-    """Reads a capture. `taker` makes an object that takes the events with pixels. It is called again if the capture has to be read a
-    second time. Raises Refused if the file is not a capture, NoLibrary if the C library is missing, and OSError."""
-    bits = bits_of(path)
+def read(source: Path | Memory, is_dvi: bool = False, taker: Callable[[Grammar], Taker] | None = None, is_shown: bool = True) -> Reading:
+    """Reads a capture. `taker` makes what takes the events and the pixels while it is read; it is called again if the capture has to be
+    read anew. Raises Refused if the file is no capture, NoLibrary if the C library is missing, and OSError."""
     usual: Grammar = "dvi" if is_dvi else "track"
-    events, aligned = heard(path, bits, usual, taker(usual) if taker else None)
-    grammar, why = usual, ""
-    if not is_dvi and aligned and is_astray(events):
-        other, number = heard(path, bits, "relock", None)
-        mine, its = (int(openings_of(one)[1].sum()) for one in (events, other))
-        if its > mine:
-            grammar, events, aligned = "relock", other, number
-            why = f"read anew by guard bands: {its:,} rows and islands open with a whole guard band, and {mine:,} at the first alignment"
-            if taker:
-                heard(path, bits, "relock", taker("relock"))
-    return Reading(path, grammar, why, bits, events, epochs_of(events), aligned)
+    first, _ = read_as(source, usual, taker(usual) if taker else None, is_shown)
+    if is_dvi or not first.aligned or not is_astray(first.events):
+        return first
+    other, _ = read_as(source, "relock", None, is_shown)
+    mine, its = (int(openings_of(one.events)[1].sum()) for one in (first, other))
+    if its <= mine:
+        return first
+    why = f"read anew by guard bands: {its:,} rows and islands open with a whole guard band, and {mine:,} at the first alignment"
+    log.info("%s: %s", source, why)
+    if taker:
+        read_as(source, "relock", taker("relock"), is_shown)
+    return replace(other, why=why)
 
 
 def part_of(events: Events, grammar: Grammar) -> Reading:
@@ -283,7 +291,7 @@ def part_of(events: Events, grammar: Grammar) -> Reading:
     first, column = events.first - base * is_first, events.column - base * is_first
     its = replace(events, epoch=events.epoch - events.epoch[:1].sum(), first=first, column=column)
     nothing = Bits((0,) * 3, (0,) * 3, 0)
-    return Reading(Path(), grammar, "", nothing, its, epochs_of(its), int(len(its) > 0))
+    return Reading(None, grammar, "", nothing, its, epochs_of(its), int(len(its) > 0))
 
 
 def epochs_of(events: Events) -> tuple[Epoch, ...]:

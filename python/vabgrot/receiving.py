@@ -1,41 +1,46 @@
 """The receiver of the C library in Python. It takes the bits of three lanes in pieces of any size, and returns events."""
 
 import ctypes
+import io
 import threading
+import warnings
 import weakref
-from collections.abc import Iterator, Sequence
+from collections.abc import Collection, Iterator, Sequence
 from ctypes import byref
 from dataclasses import replace
-from typing import Any, Self
+from typing import Self, cast
 
 import numpy as np
 
 from vabgrot import library
-from vabgrot.errors import Refused
-from vabgrot.events import ENDS, GUARDS, RECORD, UNTOLD, End, Event, Events, Octets, joined, of_records
-from vabgrot.library import FULL, KINDS, MISUSE, NOMEM, OF_EPOCHS, OK, TOOBIG, Grammar, Misuse
+from vabgrot.buffers import Buffer, view_of
+from vabgrot.errors import KindWarning, Misuse, NoLibrary, Refused
+from vabgrot.events import ENDS, GUARDS, RECORD, UNTOLD, End, Event, Events, Kind, Octets, joined, of_records
+from vabgrot.library import FULL, KINDS, MISUSE, NOMEM, OF_EPOCHS, OK, TOOBIG, Grammar
+from vabgrot.streams import Lane, is_stream, pieces_of
 
 EVENTS, BYTES = 1 << 16, 1 << 20  # events and bytes that a receiver has room for
 PIECE = 1 << 18  # bytes of a lane that `receive` feeds at a time
 
-Lane = Any  # bytes, a memoryview or an array of bytes: any buffer of them
 Empty = np.zeros(1, np.uint8)
 
 
-def octets(lane: Lane) -> Octets:
-    """Returns the bytes of a lane as an array. Raises TypeError if this is not a buffer of bytes."""
-    given: Any = np.ascontiguousarray(lane) if isinstance(lane, np.ndarray) else lane
-    view = memoryview(given)
-    if view.format not in ("B", "b", "c"):
-        raise TypeError(f"a lane is bytes, eight bits each, and not items of the format {view.format!r}")
+def octets(lane: Buffer) -> Octets:
+    """The bytes of a lane as an array. Raises TypeError where it is no buffer of bytes."""
+    view = view_of(np.ascontiguousarray(lane) if isinstance(lane, np.ndarray) else lane, "a lane is")
     return np.frombuffer(view.cast("B"), np.uint8) if view.nbytes else Empty[:0]
 
 
+def counts_in(bits: Sequence[int]) -> list[int]:
+    """The counts of bits of three lanes. Raises Misuse if they are not three."""
+    if len(bits) != 3:
+        raise Misuse(f"there are {len(bits)} counts of bits, and three lanes")
+    return [*bits]
+
+
 def bits_of(lanes: Sequence[Octets], bits: Sequence[int] | None) -> list[int]:
-    """Returns how many bits of each lane to use: `bits`, or all. Raises Misuse if the lane has fewer."""
-    counts = [8 * len(lane) for lane in lanes] if bits is None else list(bits)
-    if len(counts) != 3:
-        raise Misuse(f"there are {len(counts)} counts of bits, and three lanes")
+    """How many bits of each lane are meant: so many, or all. Raises Misuse where its bytes have not so many."""
+    counts = [8 * len(lane) for lane in lanes] if bits is None else counts_in(bits)
     for number, (lane, count) in enumerate(zip(lanes, counts)):
         if not 0 <= count <= 8 * len(lane):
             raise Misuse(f"lane {number} is to have {count} bits, and its {len(lane)} bytes have {8 * len(lane)}")
@@ -63,9 +68,8 @@ class Receiver:
                 print(event)
             rest, end = receiver.finish()"""
 
-    def __init__(self, kind: Grammar = "link", events: int = EVENTS, size: int = BYTES) -> None:
-        """Makes a receiver of a kind. `events` and `size` are the numbers of events and bytes that it has room for at a time. They do not
-        limit the result of a call."""
+    def __init__(self, *, kind: Grammar = "link", events: int = EVENTS, size: int = BYTES) -> None:
+        """Of a kind, with room for so many events and so many of their bytes, which its calls fill as often as they must."""
         if kind not in KINDS:
             raise ValueError(f"there is no receiver of the kind {kind!r}, but of {', '.join(KINDS)}")
         fewest, least = library.least_room(kind)
@@ -86,18 +90,15 @@ class Receiver:
     def __exit__(self, *_: object) -> None:
         self.close()
 
-    def feed(self, blue: Lane, green: Lane, red: Lane, bits: Sequence[int] | None = None) -> Events:
-        """Takes bits of each lane: all of its bytes, or `bits` of them. Returns the events that they decide.
-
-        A lane ends if its bits are not whole bytes, or if they are fewer than another lane's."""
+    def feed(self, blue: Buffer, green: Buffer, red: Buffer, *, bits: Sequence[int] | None = None) -> Events:
+        """Takes bits of each lane, all of its bytes or as many as `bits` says of it, and answers the events that they decide. A lane
+        whose bits are no whole bytes, or are fewer than another lane's, has ended with them."""
         with self._lock:
             return joined([replace(it, data=it.data.copy()) for it in self._fed(blue, green, red, bits)])
 
-    def feed_views(self, blue: Lane, green: Lane, red: Lane, bits: Sequence[int] | None = None) -> Iterator[Events]:
-        """Does the same as `feed` without copying the bytes of rows and packets. It yields each time that the receiver's room is full.
-
-        Read each result before you ask for the next one, and take all of them before another call. No other thread may call the receiver
-        meanwhile."""
+    def feed_views(self, blue: Buffer, green: Buffer, red: Buffer, *, bits: Sequence[int] | None = None) -> Iterator[Events]:
+        """The same without a copy of the bytes of rows and packets, each time that the receiver's own room is full. Read each before you
+        ask for the next one, and ask for all of them before another call. No other thread may call the receiver meanwhile."""
         yield from self._fed(blue, green, red, bits)
 
     def finish(self) -> tuple[Events, End]:
@@ -123,11 +124,11 @@ class Receiver:
         """Allocates the memory of a receiver."""
         status = self._calls.vabgrot_open(byref(self._handle), KINDS[kind])
         if status == MISUSE:
-            raise library.NoLibrary(f"the C library has no receiver of the kind {kind!r}: it is of another version")
+            raise NoLibrary(f"the C library has no receiver of the kind {kind!r}: it is of another version")
         self._check(status)
 
-    def _fed(self, blue: Lane, green: Lane, red: Lane, bits: Sequence[int] | None) -> Iterator[Events]:
-        """Feeds bits. Yields the events each time that the room is full, and at the end."""
+    def _fed(self, blue: Buffer, green: Buffer, red: Buffer, bits: Sequence[int] | None) -> Iterator[Events]:
+        """What is written of bits, each time that there was no room for all."""
         lanes, status = [octets(lane) for lane in (blue, green, red)], FULL
         left = bits_of(lanes, bits)
         places = [lane.ctypes.data if len(lane) else Empty.ctypes.data for lane in lanes]
@@ -157,7 +158,7 @@ class Receiver:
         if status == NOMEM:
             raise MemoryError("there is no memory for a receiver")
         if status not in (OK, FULL):
-            raise library.NoLibrary(f"the C library answers the status {status}, which is not known: it is of another version")
+            raise NoLibrary(f"the C library answers the status {status}, which is not known: it is of another version")
 
 
 def close(calls: ctypes.CDLL, handle: library.Handle) -> None:
@@ -165,21 +166,43 @@ def close(calls: ctypes.CDLL, handle: library.Handle) -> None:
     calls.vabgrot_close(byref(handle))
 
 
-def pieces(blue: Lane, green: Lane, red: Lane, bits: Sequence[int] | None = None) -> Iterator[tuple[Octets, Octets, Octets, list[int]]]:
-    """Yields the bits of three lanes in pieces for `feed`: the bytes, and the number of bits of each."""
-    lanes = [octets(lane) for lane in (blue, green, red)]
-    counts = bits_of(lanes, bits)
+def pieces(lanes: Sequence[Buffer], bits: Sequence[int] | None = None) -> Iterator[tuple[list[Octets], list[int]]]:
+    """Bits of three lanes in pieces that a receiver can be fed one after another: the bytes, and how many bits of each."""
+    given = [octets(lane) for lane in lanes]
+    counts = bits_of(given, bits)
     for at in range(0, (max(counts) + 7) // 8, PIECE):
-        first, second, third = (lane[at : at + PIECE] for lane in lanes)
-        yield first, second, third, [min(8 * PIECE, max(0, count - 8 * at)) for count in counts]
+        yield [lane[at : at + PIECE] for lane in given], [min(8 * PIECE, max(0, count - 8 * at)) for count in counts]
 
 
-def receive(blue: Lane, green: Lane, red: Lane, bits: Sequence[int] | None = None, kind: Grammar = "link") -> Iterator[Event | End]:
-    """Yields the events in the bits of three lanes, and at last the End. It uses all bytes, or `bits` of each lane. `kind` and the errors
-    are those of Receiver."""
-    with Receiver(kind) as receiver:
-        for piece in pieces(blue, green, red, bits):
-            yield from receiver.feed(*piece)
+def pieces_from(lanes: Sequence[Lane], bits: Sequence[int] | None) -> Iterator[tuple[Sequence[Buffer], list[int]]]:
+    """The same of lanes that are buffers, files or both."""
+    if any(map(is_stream, lanes)):
+        streams = [it if is_stream(it) else io.BytesIO(octets(cast(Buffer, it)).tobytes()) for it in lanes]
+        yield from pieces_of(streams, None if bits is None else counts_in(bits))
+    else:
+        yield from pieces(cast(Sequence[Buffer], lanes), bits)
+
+
+def warn_of_dvi(kinds: Collection[int], level: int) -> None:
+    """Warns if no row and no island opens, but something else comes in their places, as of a DVI source. `level` counts the calls up to
+    the caller whose line the warning names. (Kinds of events are given.)"""
+    if Kind.NOISE in kinds and not {Kind.LINE, Kind.OPEN, Kind.PACKET} & {*kinds}:
+        says = 'no row and no island opens, but other columns come in their places. If this is DVI, read it with kind="dvi"'
+        warnings.warn(says, KindWarning, level + 1)
+
+
+def receive(blue: Lane, green: Lane, red: Lane, *, bits: Sequence[int] | None = None, kind: Grammar = "link") -> Iterator[Event | End]:
+    """The events of the bits of three lanes, one after another, all of their bytes or as many as `bits` says of each; the last is the
+    End. A lane is bytes, a binary file, a pipe or a socket; events come as soon as all lanes have their bits. `kind` is that of the
+    Receiver: "link", "dvi", "track" or "relock"; and it raises as that does. Warns with KindWarning if this may be DVI."""
+    kinds: set[int] = set()
+    with Receiver(kind=kind) as receiver:
+        for lanes, counts in pieces_from((blue, green, red), bits):
+            events = receiver.feed(*lanes, bits=counts)
+            kinds.update(np.unique(events.kind).tolist())
+            yield from events
         rest, end = receiver.finish()
         yield from rest
+        if kind != "dvi":
+            warn_of_dvi(kinds, 2)
         yield end

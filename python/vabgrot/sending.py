@@ -4,6 +4,7 @@ from __future__ import annotations
 
 import ctypes
 import functools
+import logging
 import os
 import re
 import subprocess
@@ -11,11 +12,12 @@ from ctypes import POINTER, Structure, byref, c_char_p, c_int, c_size_t, c_uint3
 from typing import Literal, NamedTuple
 
 from vabgrot import library, program
-from vabgrot.errors import Refused
+from vabgrot.errors import NoLibrary, Refused
 
 Maker = Literal["link", "dvi", "content"]
-KINDS: dict[Maker, int] = {"link": 0, "dvi": 1, "content": 2}  # the kinds of vabgrot_make
-NOLISTING, REFUSED = 8, 3  # statuses of the library and of the program for a refused listing
+log = logging.getLogger(__name__)
+KINDS: dict[Maker, int] = {"link": 0, "dvi": 1, "content": 2}  # of vabgrot_make
+NOLISTING, REFUSED = 8, 3  # the statuses of the library and of the program for a listing that is refused
 MOST, MOST_SKEW = 0xFFFFFFFF, 4095
 FIRST_ROOM = 8  # the first guess for the size of a capture, relative to the listing; pixels need about 0.6
 WRONG_LINE = re.compile(r"line (\d+) (\w+)")
@@ -78,7 +80,7 @@ def calls() -> ctypes.CDLL:
         found.vabgrot_make.argtypes = c_uint32, POINTER(LentTap), c_char_p, c_size_t, c_char_p, c_size_t, POINTER(c_size_t)
         found.vabgrot_make.restype = c_int
     except AttributeError as why:
-        raise library.NoLibrary(f"the C library {path} makes no captures ({why})") from None
+        raise NoLibrary(f"the C library {path} makes no captures ({why})") from None
     return found
 
 
@@ -124,9 +126,10 @@ def make(
     data, tap = text.encode() if isinstance(text, str) else text, Tap(version, offset, skew, bits).checked()
     try:
         status, size, made = by_library(data, kind, tap, FIRST_ROOM * len(data) + 4096)
-    except library.NoLibrary:
+    except NoLibrary as why:
         if os.environ.get("VABGROT_LIBRARY"):
             raise
+        log.info("the program makes the capture: %s", why)
         return by_program(data, kind, tap)
     if status == library.FULL:
         status, size, made = by_library(data, kind, tap, size)

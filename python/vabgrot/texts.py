@@ -4,19 +4,21 @@ from __future__ import annotations
 
 import ctypes
 import functools
+import logging
 import os
 import subprocess
 from ctypes import POINTER, byref, c_char_p, c_int, c_size_t, c_uint32
-from pathlib import Path
 from typing import Literal, NamedTuple
 
 from vabgrot import library, program
-from vabgrot.errors import Refused
+from vabgrot.capture import Given, opened, source_of
+from vabgrot.errors import NoLibrary, Refused
 from vabgrot.library import KINDS, Grammar
 
-Reader = Grammar | Literal["check"]  # "check" lists only faults, with vabgrot_check
-STATUSES = {0: 0, 5: 1, 6: 3, 7: 7}  # the program's statuses by the library's
-FIRST_ROOM = 4  # the first guess for the size of a listing, relative to the capture; pixels need about 1.6
+Reader = Grammar | Literal["check"]  # the faults alone are vabgrot_check's
+log = logging.getLogger(__name__)
+STATUSES = {0: 0, 5: 1, 6: 3, 7: 7}  # of the program, by those of the library
+FIRST_ROOM = 4  # bytes of a listing for each of a capture, at first: pixels take some 1.6
 WORDS = ctypes.c_char_p, c_size_t, c_char_p, c_size_t, POINTER(c_size_t)
 
 
@@ -36,7 +38,7 @@ def calls() -> ctypes.CDLL:
         found.vabgrot_recover.argtypes, found.vabgrot_check.argtypes = (c_uint32, *WORDS), WORDS
         found.vabgrot_recover.restype = found.vabgrot_check.restype = c_int
     except AttributeError as why:
-        raise library.NoLibrary(f"the C library {path} has no calls for whole captures ({why})") from None
+        raise NoLibrary(f"the C library {path} has no calls for whole captures ({why})") from None
     return found
 
 
@@ -60,20 +62,23 @@ def by_program(data: bytes, reader: Reader) -> Text:
     return Text(run.returncode, run.stdout)
 
 
-def text_of(source: str | os.PathLike[str] | bytes, reader: Reader = "link") -> Text:
-    """Returns what `recover link`, `dvi`, `track` or `relock`, or `check`, writes for a capture (a file or its bytes).
-
-    Uses the C library in this thread, or the program if there is no library. The complete listing is kept in memory. Raises OSError or
-    MemoryError."""
-    data = source if isinstance(source, bytes) else Path(source).read_bytes()
+def text_of(source: Given, *, kind: Reader = "link") -> Text:
+    """What `recover link`, `dvi`, `track` or `relock` writes of a capture (a file, its bytes, or an open binary file), or `check`: by the C
+    library, in this thread, or by the program where there is none. The listing is held in memory as a whole. Raises ValueError if there is
+    no such kind, OSError, or MemoryError."""
+    if kind != "check" and kind not in KINDS:
+        raise ValueError(f"there is no listing of the kind {kind!r}, but of {', '.join(KINDS)} and check")
+    with opened(source_of(source)) as file:
+        data = file.read()
     try:
-        status, size, text = by_library(data, reader, FIRST_ROOM * len(data) + 64)
-    except library.NoLibrary:
+        status, size, text = by_library(data, kind, FIRST_ROOM * len(data) + 64)
+    except NoLibrary as why:
         if os.environ.get("VABGROT_LIBRARY"):
             raise
-        return by_program(data, reader)
+        log.info("the program lists the capture: %s", why)
+        return by_program(data, kind)
     if status == library.FULL:
-        status, size, text = by_library(data, reader, size)
+        status, size, text = by_library(data, kind, size)
     if status == library.NOMEM:
         raise MemoryError
     return Text(STATUSES[status], text)

@@ -19,14 +19,14 @@ import enum
 from collections import Counter
 from dataclasses import dataclass
 from functools import cached_property
-from pathlib import Path
 from typing import Any
 
 import numpy as np
 
 from vabgrot import reading as reader
+from vabgrot.capture import Given, source_of
 from vabgrot.content import Content, Packets, Vsync, samples_of
-from vabgrot.events import IS_LANED, WORDS, Events, Ints, Kind
+from vabgrot.events import ENDS, IS_LANED, WORDS, Events, Ints, Kind
 from vabgrot.formats.faults import ANEW, CONTENT
 from vabgrot.formats.layouts import LAYOUTS, Type
 from vabgrot.judging.diagnosis import causes_of
@@ -36,6 +36,7 @@ from vabgrot.judging.spans import epoch_spans
 from vabgrot.judging.verdicts import DAMAGED, FAIL, OPEN, ORDER, Case, counted, total_of
 from vabgrot.judging.verdicts import Verdict as Ruling
 from vabgrot.lanes.encryption import Encryption, Runs, encryption_of
+from vabgrot.library import Grammar
 from vabgrot.packets import content_of, is_other_size
 from vabgrot.reading import Reading
 from vabgrot.video.matching import Rate, Timing, change_note, timings
@@ -43,6 +44,7 @@ from vabgrot.video.raster import depths_of, meter_of
 from vabgrot.video.timings import DEPTH
 
 READ_AVI = LAYOUTS["avi"].header[1]  # the version of AVI InfoFrames that `recover content` reads
+FEW = 5  # faults that are shown
 MOST_WORDS = 100  # the most letters of a cause in the headline
 FIRST = ("format", "AVI InfoFrame", "AVI format")  # broken rules that say most about a source come first
 NO_PLACE = "the three lanes have no place at which a control period ends on all of them"
@@ -137,9 +139,9 @@ class Coverage:
         return ", ".join(parts)
 
 
-@dataclass(frozen=True, eq=False)
+@dataclass(frozen=True, eq=False, repr=False)
 class Verdict:
-    """The complete verdict on a capture."""
+    """All that is said of a capture: its `word` and `headline`, its `rules`, and what was read."""
 
     content: Content
     link: Link
@@ -248,11 +250,20 @@ class Verdict:
         """The number of rules in each state, in words."""
         return total_of(self.rules)
 
+    def __repr__(self) -> str:
+        return f"Verdict({self.headline!r})"
+
+    def __str__(self) -> str:
+        """The headline, what every tool says first, the broken rules, and the first faults, a line each."""
+        its = self.reading.events
+        faults = its.faults[~np.isin(its.kind[its.faults], ENDS)]  # the notes have those
+        return "\n".join([self.headline, *self.reading.notes, *(one.line for one in self.broken), *map(str, its.views(faults[:FEW]))])
+
     def causes(self) -> list[str]:
         """The common causes of faults in words. They come from the first epoch, because all epochs have the same source."""
         spans = epoch_spans(self.reading, self.reading.epochs[0])
         columns = self.reading.characters(self.reading.epochs[0]) if spans.faults else None
-        return causes_of(self.reading.path, spans, columns) if columns else []
+        return causes_of(self.reading.source, spans, columns) if columns and self.reading.source else []
 
     def plain(self) -> dict[str, Any]:
         """Returns the verdict as a value for JSON. Every tool's JSON contains it with the name `verdict`."""
@@ -347,6 +358,11 @@ def verdict_of(reading: Reading, rate: Rate = Rate()) -> Verdict:
     return Verdict(content, link, Counter() if encryption else contents_of(content), rules, case, encryption)
 
 
-def judge(path: Path, rate: Rate = Rate(), is_dvi: bool = False) -> Verdict:
-    """Reads a capture and judges it."""
-    return verdict_of(reader.read(path, is_dvi), rate)
+def judge(source: Given, *, kind: Grammar | None = None, rate: Rate = Rate(), is_shown: bool = False) -> Verdict:
+    """Reads a capture (a file, its bytes, or an open binary file) and judges it. HDMI needs no `kind`: the lanes may lose bits, and are
+    read anew if their alignment was wrong. Raises as `recover` does; but a capture that is cut off is read to its last whole block."""
+    its = source_of(source)
+    if kind is None:
+        return verdict_of(reader.read(its, is_shown=is_shown), rate)
+    reading, _ = reader.read_as(its, kind, is_shown=is_shown)
+    return verdict_of(reading, rate)

@@ -20,6 +20,7 @@ from vabgrot.events import Event, Kind
 
 LISTINGS = 12
 OLD = 0x5A5A  # what stands in the rows before a call
+UNCOUNTED = (-1, 1), (0, -1), (1 << 32, 1), (0, 1 << 32)  # pairs in which one is no number of 32 bits
 PACKET = bytes.fromhex("82020d") + bytes(range(28)) + bytes([0, 1, 2, 3] * 8)
 # A part of each call: its name, what the call is given, and how many columns it has.
 PARTS = (
@@ -263,7 +264,7 @@ def test_what_is_encoded_is_heard(found):
         parts += [Control(0, 12), Control(4, 8), Video(line)]
     words = vabgrot.encode([*parts, Control(0, 12)])
     lanes = [sum(word << 10 * at for at, word in enumerate(lane)) for lane in words.T.tolist()]
-    events = [*vabgrot.receive(*(lane.to_bytes((10 * len(words) + 7) // 8, "little") for lane in lanes), [10 * len(words)] * 3)]
+    events = [*vabgrot.receive(*(lane.to_bytes((10 * len(words) + 7) // 8, "little") for lane in lanes), bits=[10 * len(words)] * 3)]
     assert [it.data for it in events if isinstance(it, Event) and it.kind == Kind.LINE] == lines
     heard = [it.data for it in events if isinstance(it, Event) and it.kind == Kind.PACKET]
     runs = [(it.value, it.width) for it in events if isinstance(it, Event) and it.kind == Kind.RUN]
@@ -278,17 +279,31 @@ def test_python_refuses(found):
         elif name == "pixels":
             part = Video(*given)
         elif name == "island_guard":
-            part = Island([], (0, given[0]))
+            part = Island([PACKET], (0, given[0]))
         else:
             part = Island([given[0]])
         with pytest.raises(ValueError, match="there is no such part of a link"):
             vabgrot.encode([Control(0, 12), part])
-    for part in (Control(-1, 1), Control(0, -1), Control(1 << 32, 1), Control(0, 1 << 32), Island([], (0, -1)), Island([], (1 << 32, 0))):
+    for part in (*(Control(*it) for it in UNCOUNTED), *(Island([PACKET], it) for it in UNCOUNTED)):
         with pytest.raises(ValueError, match="a number of a part"):
             vabgrot.encode([part])
     for part in (Control(0.5, 1), Video("ff0000"), Video(3), Video(np.zeros((2, 3), np.uint16)), Island([63]), None, Kind.RUN):
         with pytest.raises(TypeError):
             vabgrot.encode([part])
+
+
+def test_no_silent_misreading(found):
+    """Arrays of other shapes than pixels by three, and islands of no packets or too many."""
+    for shape in ((20, 4), (20, 1), (4, 5, 3), (3, 20)):
+        with pytest.raises(
+            ValueError, match=r"^a line is an array of pixels by three \(red, green, blue\), and not of the shape .*$"
+        ) as why:
+            vabgrot.encode([Video(np.zeros(shape, np.uint8), guard=False)])
+        assert ("Leave out their alpha" in str(why.value)) == (shape == (20, 4))
+    for count in (0, 19, 63):
+        with pytest.raises(ValueError, match=f"^an island has 1 to 18 packets, and not {count}$"):
+            Island([PACKET] * count)
+    assert len(vabgrot.encode([Island([PACKET] * 18)])) == 18 * 32 + 4
 
 
 WITHOUT = """

@@ -2,6 +2,7 @@
 test bench of examples/python; and where the library is found."""
 
 import importlib.util
+import io
 import os
 import random
 import re
@@ -55,33 +56,39 @@ def in_pieces(receiver, lanes, bits, size):
     return [*events, *rest, end]
 
 
+def least(kind):
+    """A receiver with the least room."""
+    events, size = library.least_room(kind)
+    return vabgrot.Receiver(kind=kind, events=events, size=size)
+
+
 def test_events():
     """Each kind of two small streams, columns counted by hand; the pixels as an array."""
     lanes, bits = lanes_of(LISTING)
     line = line_event(15, b"\xff\0\0")
-    assert [*vabgrot.receive(*lanes, bits)] == [run_of(4, 0, 4), run_of(12, 4, 8), line, run_of(27, 0, 12), End(27, 1, 1)]
+    assert [*vabgrot.receive(*lanes, bits=bits)] == [run_of(4, 0, 4), run_of(12, 4, 8), line, run_of(27, 0, 12), End(27, 1, 1)]
     assert line.pixels.tolist() == [[255, 0, 0]]
     lanes, bits = lanes_of(ISLAND)
     packet = Event(Kind.PACKET, 0, 45, 14, 32, 0x82, 0, b"\x82\x02\x0d" + b"".join(BODIES) + bytes([0, 1, 2, 3] * 8))
     guards = Event(Kind.OPEN, 0, 13, 12, 2, 1, 2), Event(Kind.CLOSE, 0, 47, 46, 2, 3, 0)
     wanted = [run_of(4, 0, 4), run_of(12, 0x14, 8), guards[0], packet, guards[1], run_of(60, 0, 12), End(60, 1, 1)]
-    assert [*vabgrot.receive(*map(memoryview, lanes), bits)] == wanted
+    assert [*vabgrot.receive(*map(memoryview, lanes), bits=bits)] == wanted
     assert (packet.header, packet.bodies, packet.syncs) == (b"\x82\x02\x0d", BODIES, bytes([0, 1, 2, 3] * 8))
     lanes, bits = lanes_of(LISTING.replace(b"c 00 12\nend", b"c 00 1\nend"))
-    assert [*vabgrot.receive(*lanes, [140] * 3)][-2:] == [Event(Kind.CUT, 0, 14, 14, 0, 0, 0), End(14, 1, 1)]
+    assert [*vabgrot.receive(*lanes, bits=[140] * 3)][-2:] == [Event(Kind.CUT, 0, 14, 14, 0, 0, 0), End(14, 1, 1)]
     assert [*vabgrot.receive(b"", b"", b"")] == [End(0, 1, 0)]
 
 
 def test_a_stream_without_guard_bands():
     lanes, bits = lanes_of(b"c 00 12\nv ff0000\nc 00 12\nend\n", guards=False)
     wanted = [run_of(12, 0, 12), line_event(13, b"\xff\0\0", guards=0), run_of(25, 0, 12), End(25, 1, 1)]
-    assert [*vabgrot.receive(*lanes, bits, kind="dvi")] == wanted
-    with vabgrot.Receiver("dvi") as receiver:
+    assert [*vabgrot.receive(*lanes, bits=bits, kind="dvi")] == wanted
+    with vabgrot.Receiver(kind="dvi") as receiver:
         for _ in range(2):
             assert in_pieces(receiver, lanes, bits, 7) == wanted
             receiver.restart()
     with pytest.raises(ValueError, match="'content'"):
-        vabgrot.Receiver("content")
+        vabgrot.Receiver(kind="content")
 
 
 def test_a_fault_in_words():
@@ -89,7 +96,7 @@ def test_a_fault_in_words():
     rows = [list(row) for row in zip(*hearing.sent_columns(LISTING))]
     rows[1][24] = 0x133
     lanes = [sum(word << 10 * at for at, word in enumerate(row)).to_bytes(34, "little") for row in rows]
-    (fault,) = (it for it in vabgrot.receive(*lanes, [270] * 3) if isinstance(it, Event) and it.is_fault)
+    (fault,) = (it for it in vabgrot.receive(*lanes, bits=[270] * 3) if isinstance(it, Event) and it.is_fault)
     assert fault == Event(Kind.WORD, 0, 24, 24, 0, 1, 0)
     assert str(fault) == "column 24 on lane 1 (green): word, a character of a control column is no control character"
 
@@ -101,11 +108,29 @@ def test_pieces(size):
     lanes = [int(row[::-1], 2).to_bytes((len(row) + 7) // 8, "little") for row in rows]
     bits = [len(row) for row in rows]
     arrays = [np.frombuffer(lane, np.uint8) for lane in lanes]
-    wanted = [*vabgrot.receive(*lanes, bits)]
+    wanted = [*vabgrot.receive(*lanes, bits=bits)]
     with vabgrot.Receiver() as receiver:
         assert in_pieces(receiver, lanes, bits, size) == wanted
         receiver.restart()
         assert in_pieces(receiver, [np.repeat(lane, 2)[::2] for lane in arrays], bits, size) == wanted
+
+
+def test_lanes_that_are_read(compare):
+    """The events of files are those of their bytes, of lanes of any lengths."""
+
+    def cases():
+        rng = random.Random("lanes that are read")
+        for at in range(CAPTURES):
+            lanes = packed(feeding.made_capture(rng)[1])[0]
+            lanes = [lane[: rng.choice((len(lane), rng.randrange(len(lane) + 1)))] for lane in lanes]
+            bits = rng.choice((None, [max(0, 8 * len(lane) - rng.randrange(20)) for lane in lanes]))
+            kind = rng.choice(sorted(library.KINDS))
+            wanted = [*vabgrot.receive(*lanes, bits=bits, kind=kind)]
+            yield f"capture {at}", [*vabgrot.receive(*map(io.BytesIO, lanes), bits=bits, kind=kind)], wanted
+            blue, green, red = lanes
+            yield f"capture {at}, a file and bytes", [*vabgrot.receive(blue, io.BytesIO(green), red, bits=bits, kind=kind)], wanted
+
+    compare(cases())
 
 
 def test_more_events_than_there_is_room_for():
@@ -204,10 +229,10 @@ def test_a_slip():
     again = run_of(4, 0, 4, 1), run_of(12, 4, 8, 1), line_event(15, b"\xff\0\0", epoch=1), run_of(27, 0, 12, 1)
     wanted = [run_of(4, 0, 4), run_of(12, 4, 8), *ends, *again]
     for kind in EPOCHS:
-        assert [*vabgrot.receive(*lanes, bits, kind=kind)] == [*wanted, End(UNTOLD, 2, 2)]
+        assert [*vabgrot.receive(*lanes, bits=bits, kind=kind)] == [*wanted, End(UNTOLD, 2, 2)]
         assert [*vabgrot.receive(b"", b"", b"", kind=kind)] == [End(UNTOLD, 1, 0)]
     lanes, bits = packed(slipped((2, 300, 9), (2, 300, 9), (2, 300, 2)))
-    (end,) = (it for it in vabgrot.receive(*lanes, bits, kind="relock") if isinstance(it, Event) and it.kind in ENDS)
+    (end,) = (it for it in vabgrot.receive(*lanes, bits=bits, kind="relock") if isinstance(it, Event) and it.kind in ENDS)
     assert (end.kind, end.first, end.line) == (Kind.RELOCKED, 620, "! relock 620")
 
 
@@ -216,10 +241,10 @@ def test_slips_in_pieces_of_every_size(kind, compare):
     """The same events, those of the model's listing; a restart keeps the kind; and with the least room."""
 
     def cases():
-        with vabgrot.Receiver(kind) as receiver, vabgrot.Receiver(kind, *library.least_room(kind)) as small:
+        with vabgrot.Receiver(kind=kind) as receiver, least(kind) as small:
             for at, rows in enumerate(slips()):
                 lanes, bits = packed(rows)
-                wanted = [*vabgrot.receive(*lanes, bits, kind=kind)]
+                wanted = [*vabgrot.receive(*lanes, bits=bits, kind=kind)]
                 end = End(UNTOLD, *counted(kind, rows))
                 said = model.tracked(rows, hearing.link_of) if kind == "track" else relocking.relocked(rows, hearing.link_of)
                 yield f"lanes {at}", (listing_of(wanted), wanted[-1]), (said[1], end)
@@ -241,11 +266,11 @@ def test_the_program_lists_the_same(kind, executable, compare):
             data, rows = feeding.made_capture(random.Random(f"slips {at}"))
             lanes, bits = packed(rows)
             status, text, _ = run(executable, ["recover", kind], data)
-            wanted = [*vabgrot.receive(*lanes, bits, kind=kind)]
+            wanted = [*vabgrot.receive(*lanes, bits=bits, kind=kind)]
             epochs, aligned = counted(kind, rows)
             yield f"capture {at}", (listing_of(wanted), wanted[-1]), (text, End(UNTOLD, epochs, aligned))
             yield f"the status of capture {at}", any(line_of(it)[0] == "!" for it in wanted[:-1]), status == 1
-            with vabgrot.Receiver(kind) as receiver:
+            with vabgrot.Receiver(kind=kind) as receiver:
                 for size in (7, 4095, 100000):
                     yield f"capture {at}, pieces of {size} bytes", in_pieces(receiver, lanes, bits, size), wanted
                     receiver.restart()
@@ -287,7 +312,7 @@ def test_recover_a_picture_and_sound(executable, tmp_path):
     assert [it.shape for it in came.frames] == sizes and b"".join(it.tobytes() for it in came.frames) == b"".join(rows)
     sent = [line.split() for line in re.findall(r"(?m)^s (.*)$", text)]
     wanted = [(int(it[0], 16), int(it[1], 16), int(it[2]), int(it[3]), it[4] == "1", 0) for it in sent]
-    heard = [(*(side & 0xFFFFFF for side in it[1:3]), it[3] & 7, it[4] & 7, *it[5:]) for it in came.samples.tolist()]
+    heard = [(*(side & 0xFFFFFF for side in it[1:3]), it[3] & 7, it[4] & 7, *it[5:7]) for it in came.samples.tolist()]
     assert heard == wanted
     assert {it.header[0] for it in came.packets} == {1, 2, 0x82, 0x84}
 
@@ -308,7 +333,7 @@ def test_texts(executable, compare, monkeypatch, tmp_path):
         for name, data in (("no capture", b"TMC3"), ("nothing", b""), *captures(executable)):
             for reader in ("link", "dvi", "track", "relock", "check"):
                 status, text, _ = run(executable, [reader] if reader == "check" else ["recover", reader], data)
-                yield f"{name}, {reader}", vabgrot.text_of(data, reader), (status, text)
+                yield f"{name}, {reader}", vabgrot.text_of(data, kind=reader), (status, text)
                 yield f"{name}, {reader} by the program", texts.by_program(data, reader), (status, text)
         path = tmp_path / "x.tmc"
         path.write_bytes(data)
@@ -383,7 +408,11 @@ LAST_COLUMNS = 32  # after the last frame
 
 def write_lanes(folder, executable, listing):
     """Writes a capture of a content with one damaged character, and the bits of its lanes, into a folder."""
-    data = run(executable, ["damage", "2:28450:0ab"], run(executable, ["make", "content"], listing)[1])[1]
+    put_lanes(folder, run(executable, ["damage", "2:28450:0ab"], run(executable, ["make", "content"], listing)[1])[1])
+
+
+def put_lanes(folder, data):
+    """Writes a capture, and the bits of its lanes, into a folder."""
     (folder / "bars.tmc").write_bytes(data)
     for name, lane in zip(("blue", "green", "red"), capture.lanes_of(data)[0]):
         (folder / name).write_bytes(lane)
@@ -446,21 +475,51 @@ def test_c_as_printed(bars, compiled):
     assert subprocess.run([compiled(bars / "parts.c")], timeout=HANGS).returncode == 0
 
 
+def said_by(source, folder, *words):
+    """What a program in Python says, run in a folder."""
+    env = {**os.environ, "PYTHONPATH": str(TOP / "python")}
+    came = subprocess.run([sys.executable, "-c", source, *words], cwd=folder, capture_output=True, text=True, env=env, timeout=HANGS)
+    assert came.returncode == 0, came.stderr
+    return came.stdout
+
+
 def test_python_as_printed(bars, found):
-    """The events of three files, these in pieces, a whole capture, one that is made, and parts of a link."""
+    """The events of three files, these in pieces, a whole capture, its verdict, one that is made, and parts of a link."""
     lanes, whole, listing = ["blue", "green", "red"], ["bars.tmc"], [TOP / "examples" / "skewed.link"]
-    says = []
-    for source, words in zip(blocks("python"), (lanes, lanes, whole, listing, []), strict=True):
-        env = {**os.environ, "PYTHONPATH": str(TOP / "python")}
-        came = subprocess.run([sys.executable, "-c", source, *words], cwd=bars, capture_output=True, text=True, env=env, timeout=HANGS)
-        assert came.returncode == 0, came.stderr
-        says.append(came.stdout)
+    words = (lanes, lanes, whole, whole, [], listing, [])
+    says = [said_by(source, bars, *its) for source, its in zip(blocks("python"), words, strict=True)]
     assert "a line of 32 pixels" in says[0] and "on lane 2 (red): code, the first character of a row on its lane" in says[0]
     assert says[0].endswith(" columns, aligned\n")
     assert " faults, " in says[1] and says[1].endswith("aligned_epochs=1)\n")
     assert says[2].count("(8, 32, 3)\n") == 3 and "packets" in says[2] and "'code', 2)" in says[2]
-    assert says[3] == "158 bytes, 20 columns\nline 2 is refused: preamble\n"
-    assert says[4] == "(80, 3) ['3ff', '3ff', '0ff']\n"
+    assert "the first alignment with column 0 at the bits (0, 0, 0)\n" in says[2] and " AVI InfoFrame " in says[2]
+    assert says[3].startswith("Link faulty - Link faulty: 1 code")
+    assert says[5] == "158 bytes, 20 columns\nline 2 is refused: preamble\n"
+    assert says[6] == "(80, 3) ['3ff', '3ff', '0ff']\n"
+
+
+def test_programs_over_a_damaged_capture(count, found, executable, tmp_path):
+    """The guide's programs in C and in Python count what the program lists of a million columns in which characters are replaced."""
+    mode, _, frames = BARS.partition(b"\n")
+    times, rng = 185, random.Random("a million columns")
+    made = run(executable, ["make", "content"], mode + b"\n" + frames.removesuffix(b"end\n") * times + b"end\n")[1]
+    columns = times * BARS_COLUMNS + LAST_COLUMNS
+    assert columns == 1_000_000 - 968
+    hits = [f"{rng.randrange(3)}:{10 * rng.randrange(100, columns)}:{rng.randrange(1024):03x}" for _ in range(250)]
+    data = run(executable, ["damage", *hits], made)[1]
+    put_lanes(tmp_path, data)
+    listing = run(executable, ["recover", "link"], data)[1]
+    lines, faults = listing.count(b"\nv "), listing.count(b"\n! ")
+    assert faults > 200 and lines > 24 * times - 250
+    assert said_of_lanes(count, tmp_path) == (0, f"{columns} columns, {lines} lines, {faults} faults\n")
+    events, pieces, whole, judged, *_ = blocks("python")
+    lanes = "blue", "green", "red"
+    says = said_by(events, tmp_path, *lanes)
+    assert (says.count(" a line of "), len(re.findall(r"(?m)^column \d+.*: \w+, ", says))) == (lines, faults)
+    assert says.endswith(f"\n{columns} columns, aligned\n")
+    assert sum(map(int, re.findall(r"(?m)^(\d+) faults, ", said_by(pieces, tmp_path, *lanes)))) == faults
+    assert f": {lines:,} lines of " in (says := said_by(whole, tmp_path, "bars.tmc")) and f"; {faults:,} faults)\n" in says
+    assert said_by(judged, tmp_path, "bars.tmc").startswith("Link faulty - ")
 
 
 def test_without_the_library(executable, monkeypatch):
@@ -472,6 +531,6 @@ def test_without_the_library(executable, monkeypatch):
     data = run(executable, ["make", "link"], LISTING)[1]
     with pytest.raises(vabgrot.NoLibrary):
         vabgrot.Receiver()
-    with pytest.raises(vabgrot.NoLibrary, match="vabgrot install"):
+    with pytest.raises(vabgrot.NoLibrary, match="vabgrot build library"):
         vabgrot.recover(data)
     assert vabgrot.text_of(data).text == LISTING

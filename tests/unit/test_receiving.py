@@ -10,6 +10,7 @@ import vabgrot
 from tests.support import TOP
 from vabgrot import library
 from vabgrot.events import RECORD, UNTOLD, End, Event, Kind, of_records
+from vabgrot.reading import part_of
 from vabgrot.recovered import Recovered
 
 ENUMS = "vabgrot_kind", "vabgrot_event_kind"
@@ -87,7 +88,8 @@ def test_slips():
 
 def test_faults_are_no_slips():
     """Among events those between WORD and GUARD, each by its name."""
-    found = Recovered(of([(5, 5, 0, 0, 0, kind, 0, 0) for kind in (Kind.WORD, *range(Kind.SHORT, Kind.SLIP))]), End(9, 1, 1))
+    events = of([(5, 5, 0, 0, 0, kind, 0, 0) for kind in (Kind.WORD, *range(Kind.SHORT, Kind.SLIP))])
+    found = Recovered(part_of(events, "link"), End(9, 1, 1))
     names = found.faults["kind"].tolist()
     assert len(names) == 13 and (names[0], names[-1]) == ("word", "guard")
 
@@ -96,7 +98,7 @@ def test_faults_are_no_slips():
 def test_kinds(calls, kind):
     """The End of lanes that may lose bits counts epochs."""
     end = End(UNTOLD, 7, 1) if kind in ("track", "relock") else End(7, 1, 1)
-    with vabgrot.Receiver(kind) as receiver:
+    with vabgrot.Receiver(kind=kind) as receiver:
         assert [*receiver.feed(b"abc", b"abc", b"ab")] == EVENTS[:1] * 3
         rest, last = receiver.finish()
     assert [*rest] == EVENTS[1:] and last == end and last.aligned
@@ -106,19 +108,19 @@ def test_kinds(calls, kind):
 
 def test_no_such_kind(calls):
     with pytest.raises(ValueError, match="'content', but of link, dvi, track, relock"):
-        vabgrot.Receiver("content")
+        vabgrot.Receiver(kind="content")
     calls.kinds = 2
-    vabgrot.Receiver("dvi").close()
+    vabgrot.Receiver(kind="dvi").close()
     with pytest.raises(vabgrot.NoLibrary, match="no receiver of the kind 'track'"):
-        vabgrot.Receiver("track")
+        vabgrot.Receiver(kind="track")
 
 
 @pytest.mark.parametrize("kind, room", ROOM.items())
 def test_too_little_room(calls, kind, room):
     """With which no feed would ever take anything."""
     events, size = room
-    for few in ((events - 1, size), (events, size - 1)):
+    for fewer, smaller in ((events - 1, size), (events, size - 1)):
         with pytest.raises(ValueError, match=f"wants room for {events} events and {size} bytes"):
-            vabgrot.Receiver(kind, *few)
+            vabgrot.Receiver(kind=kind, events=fewer, size=smaller)
     assert not calls.opened
-    vabgrot.Receiver(kind, events, size).close()
+    vabgrot.Receiver(kind=kind, events=events, size=size).close()

@@ -5,11 +5,11 @@ from __future__ import annotations
 from collections import Counter
 from collections.abc import Callable, Iterator
 from itertools import permutations
-from pathlib import Path
 from typing import NamedTuple
 
 import numpy as np
 
+from vabgrot.capture import Source
 from vabgrot.formats.characters import (
     CONTROL,
     ISLAND_GUARD,
@@ -209,9 +209,10 @@ FORMS: dict[str, Callable[[Block], int]] = {
 }
 
 
-def of_lanes(path: Path) -> list[str]:
-    """Says which lanes of a capture are exchanged, inverted or bit-reversed. Returns nothing if they are right, or if it cannot be told."""
-    found_of = [looking.looked(bits) for bits in beginnings(path, LOOKED)]
+def of_lanes(source: Source) -> list[str]:
+    """What is exchanged, inverted or turned round of the lanes of a capture, in words; nothing where they are right or nothing can be
+    told."""
+    found_of = [looking.looked(bits) for bits in beginnings(source, LOOKED)]
     looked = [one for one in found_of if one is not None]
     if len(looked) < len(found_of):
         return []
@@ -240,8 +241,8 @@ def exchange_of(rows: Words) -> looking.Fit:
     return looking.Fit(orders[best], best, ())
 
 
-def causes_of(path: Path, spans: Spans, columns: Columns) -> list[str]:
-    """Returns the common causes of a capture's faults in words. What is wrong with its lanes comes first."""
+def causes_of(source: Source, spans: Spans, columns: Columns) -> list[str]:
+    """Why a capture's faults are alike, in words; first what is wrong with its lanes."""
     if not spans.faults:
         return []
-    return of_lanes(path) or [f"{cause}, first at column {cause.column:,}" for cause in Physician(spans, columns).causes()]
+    return of_lanes(source) or [f"{cause}, first at column {cause.column:,}" for cause in Physician(spans, columns).causes()]

@@ -67,7 +67,7 @@ class Damage:
         not."""
         reading = self.case.content.reading
         epoch = reading.epochs[0]
-        columns = reading.characters(epoch) if reading.path.is_file() else None
+        columns = reading.characters(epoch)
         if columns is None:
             return False
         spans = epoch_spans(reading, epoch)

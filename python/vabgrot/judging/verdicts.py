@@ -19,7 +19,8 @@ from vabgrot.video.matching import Rate, Timing
 from vabgrot.video.timings import DEPTH, LOST, edges, held, period_of, spans, without_pulses
 
 PASS, FAIL, DAMAGED, OPEN = "pass", "fail", "damaged", "not judged"
-ORDER = (FAIL, DAMAGED, OPEN, PASS)  # the order in which verdicts are shown
+ORDER = (FAIL, DAMAGED, OPEN, PASS)  # as verdicts are shown
+MARKS = {PASS: "pass", FAIL: "FAIL", DAMAGED: "damaged", OPEN: "not judged"}
 TWO = 2  # fields
 
 
@@ -33,6 +34,17 @@ class Verdict:
     words: str
     column: int | None = None
     times: int = 0
+
+    @property
+    def name(self) -> str:
+        """What the rule is called."""
+        return self.rule.name
+
+    @property
+    def line(self) -> str:
+        """The same as a line of text."""
+        where = f" (first at column {self.column:,})" if self.column is not None else ""
+        return f"{MARKS[self.state]:<10}  {self.rule.name:<24}  {self.words}{where}  [{self.rule.clause}]"
 
     def plain(self) -> dict[str, Any]:
         """Returns the same as a value for JSON."""

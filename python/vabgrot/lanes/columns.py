@@ -3,12 +3,12 @@
 from __future__ import annotations
 
 from collections.abc import Sequence
-from pathlib import Path
 
 import numpy as np
 import numpy.typing as npt
 
 from vabgrot import capture
+from vabgrot.capture import Memory, Source
 from vabgrot.formats.characters import ISLAND_GUARDS_0, LEAST_CONTROL, TEN
 from vabgrot.lanes.looking import GUARD, IS_CONTROL, OTHER, Bits, characters_of, lock_of
 from vabgrot.lanes.openings import beginnings, first_alignment
@@ -61,13 +61,12 @@ def confirmed_edges(lanes: Sequence[Bits]) -> list[int] | None:
     return None
 
 
-def alignment_of(path: Path, place: int, by_guards: bool) -> list[int] | None:
-    """Returns for each lane the bit at which the first aligned column begins, or None.
-
-    It is the first alignment from bit `place` on. If `by_guards` is set, it is the first one that a guard band confirms."""
+def alignment_of(source: Source, place: int, by_guards: bool) -> list[int] | None:
+    """The place of each lane at which the first aligned column begins, of the first alignment from a place on, or of the first one that a
+    guard band confirms (`by_guards`); None if there is none."""
     most = LOOKED
     while True:
-        lanes = beginnings(path, most, place)
+        lanes = beginnings(source, most, place)
         edges = confirmed_edges(lanes) if by_guards else first_alignment([edges_of(lane) for lane in lanes])
         if edges is not None:
             return [place + edge - TEN * LEAST_CONTROL for edge in edges]
@@ -79,11 +78,11 @@ def alignment_of(path: Path, place: int, by_guards: bool) -> list[int] | None:
 class Columns:
     """The characters of the three lanes of a capture from the bits `starts` on. `count` is the number of columns that all lanes have."""
 
-    def __init__(self, path: Path, starts: Sequence[int], bits: Sequence[int]) -> None:
-        with open(path, "rb") as file:
+    def __init__(self, source: Source, starts: Sequence[int], bits: Sequence[int]) -> None:
+        with capture.opened(source) as file:
             counts, self.first = capture.header_of(file.read(capture.HEADER))
         self.starts, self.lengths = starts, [(count + 7) // 8 for count in counts]
-        self.data = np.memmap(path, np.uint8, "r")
+        self.data = np.frombuffer(source.data, np.uint8) if isinstance(source, Memory) else np.memmap(source, np.uint8, "r")
         self.count = max(0, min((count - start) // TEN for count, start in zip(bits, starts)))
 
     def bytes_of(self, lane: int, begin: int, end: int) -> npt.NDArray[np.uint8]:

@@ -2,7 +2,6 @@
 
 from collections.abc import Sequence
 from itertools import product
-from pathlib import Path
 from typing import NamedTuple
 
 import numpy as np
@@ -69,11 +68,11 @@ class Fits(NamedTuple):
         return FAR.format(first=f"{self.later.first[0]:,}", later=self.later.made_words)
 
 
-def beginnings(path: str | Path, most: int = MOST_BITS, place: int = 0) -> list[Bits]:
-    """Reads up to `most` bits of each lane of a capture from bit `place` on, as arrays of 0 and 1. Raises Refused if the file is no
-    capture."""
+def beginnings(source: capture.Source, most: int = MOST_BITS, place: int = 0) -> list[Bits]:
+    """The bits of the three lanes of a capture from a place on, at most so many of each: arrays of 0 and 1. They end where the file
+    does. Refused where its header is none."""
     begin = place // 8 // capture.BLOCK * capture.BLOCK
-    with open(path, "rb") as file:
+    with capture.opened(source) as file:
         counts, start = capture.header_of(file.read(16))
         lengths, lanes = [(count + 7) // 8 for count in counts], [bytearray() for _ in counts]
         file.seek(capture.place_of(start, lengths, 0, begin))

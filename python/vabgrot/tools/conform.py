@@ -9,7 +9,7 @@ from pathlib import Path
 
 from vabgrot import command
 from vabgrot.errors import Refused
-from vabgrot.judging.verdicts import DAMAGED, FAIL, OPEN, PASS, Verdict
+from vabgrot.judging.verdicts import DAMAGED, FAIL, OPEN, Verdict
 from vabgrot.replacing import replacing
 from vabgrot.tools.timing import positive
 from vabgrot.verdict import judge
@@ -25,13 +25,6 @@ If faults have a common cause, the last lines name it. `tools/characters` shows 
 FAULTY = "done, and a rule is broken"
 EXAMPLES = """./vabgrot make content < examples/bars.content > bars.tmc
 tools/conform bars.tmc --clock 25200000"""
-MARKS = {PASS: "pass", FAIL: "FAIL", DAMAGED: "damaged", OPEN: "not judged"}
-
-
-def line_of(one: Verdict) -> str:
-    """Returns a verdict as a line of text."""
-    where = f" (first at column {one.column:,})" if one.column is not None else ""
-    return f"{MARKS[one.state]:<10}  {one.rule.name:<24}  {one.words}{where}  [{one.rule.clause}]"
 
 
 def write_junit(path: Path, capture: Path, found: list[Verdict]) -> None:
@@ -44,7 +37,7 @@ def write_junit(path: Path, capture: Path, found: list[Verdict]) -> None:
     for one in found:
         case = TestCase(one.rule.name, classname=one.rule.clause)
         if one.state in (FAIL, DAMAGED):
-            case.result = [Failure(line_of(one))]
+            case.result = [Failure(one.line)]
         elif one.state == OPEN:
             case.result = [Skipped(one.words)]
         suite.add_testcase(case)
@@ -71,7 +64,7 @@ def parser() -> argparse.ArgumentParser:
 
 def work(argv: Sequence[str] | None) -> int:
     args = parser().parse_args(argv)
-    found = judge(args.capture, Rate(args.clock, args.rate), args.dvi)
+    found = judge(args.capture, kind="dvi" if args.dvi else None, rate=Rate(args.clock, args.rate), is_shown=True)
     if args.junit:
         write_junit(args.junit, args.capture, found.rules)
     causes = found.causes()
@@ -79,7 +72,7 @@ def work(argv: Sequence[str] | None) -> int:
         said = {"capture": str(args.capture), "verdict": found.plain(), "faulty": found.is_faulty, "columns": found.reading.columns}
         print(json.dumps(said | {"rules": [one.plain() for one in found.rules], "alike": causes}, indent=1))
     else:
-        lines = [found.headline, *found.reading.notes, *map(line_of, found.sorted_rules), *(f"alike: {cause}" for cause in causes)]
+        lines = [found.headline, *found.reading.notes, *(one.line for one in found.sorted_rules), *(f"alike: {cause}" for cause in causes)]
         print("\n".join([*lines, found.total]))
     return command.FAULTY if found.is_faulty else command.DONE
 

@@ -21,7 +21,7 @@ from typing import TYPE_CHECKING, Any
 from tqdm import tqdm
 
 from vabgrot import command, library
-from vabgrot.errors import Refused
+from vabgrot.errors import NoLibrary, Refused
 from vabgrot.formats import faults
 from vabgrot.replacing import naming, replacing
 
@@ -73,12 +73,12 @@ def row_of(path: str, asked: Asked) -> Row:
 
 
 def judged(path: Path, asked: Asked) -> Row:
-    """Judges one capture in this process. Returns the row."""
-    from vabgrot import library, verdict
+    """The verdict on one capture by the package, and its counts."""
+    from vabgrot import verdict
 
     try:
-        found = verdict.judge(path, is_dvi=asked.is_dvi)
-    except library.NoLibrary as why:
+        found = verdict.judge(path, kind="dvi" if asked.is_dvi else None, is_shown=True)
+    except NoLibrary as why:
         return {"verdict": "failed", "note": str(why)}
     except Refused as why:
         return {"verdict": "refused", "note": str(why).removeprefix(f"{path}: ")}

@@ -34,7 +34,7 @@ class Feed:
     last bits. Raises NoLibrary."""
 
     def __init__(self, source: int, grammar: Grammar, grows: bool, is_raw: bool) -> None:
-        self.receiver = Receiver(grammar, EVENTS, BYTES)
+        self.receiver = Receiver(kind=grammar, events=EVENTS, size=BYTES)
         self.source, self.grammar, self.grows, self.is_raw = source, grammar, grows, is_raw
         self.head, self.bytes, self.bits, self.refusal = b"", 0, [0] * LANES, ""
         self.error: OSError | None = None
@@ -154,7 +154,7 @@ class Feed:
         if self.kept:
             self.kept.add(lanes)
         bits = None if self.is_raw else [min(left, 8 * len(lane)) for left, lane in zip(self.left, lanes)]
-        yield from self.receiver.feed_views(blue, green, red, bits)
+        yield from self.receiver.feed_views(blue, green, red, bits=bits)
         if bits:
             self.left = [left - count for left, count in zip(self.left, bits)]
         self.blocks.take(count)
