@@ -4,14 +4,13 @@ The package can be in a checkout, below the prefix of `./vabgrot install`, with 
 a complete prefix inside the package."""
 
 import argparse
-import importlib.metadata
 import re
 import subprocess
 from collections.abc import Sequence
 from pathlib import Path
 from typing import Any
 
-from vabgrot import tools
+from vabgrot import __version__, tools
 
 PACKAGE = Path(__file__).resolve().parent
 PLACES = (PACKAGE.parents[1], PACKAGE / "prefix/lib/vabgrot", PACKAGE.parents[2] / "vabgrot")  # the last one is Debian's
@@ -49,7 +48,7 @@ def version() -> str:
         return subprocess.run([FRONT, "--version"], capture_output=True, text=True, check=True).stdout
     if VERSION.is_file():
         return VERSION.read_text("utf-8")
-    return f"vabgrot {importlib.metadata.version('vabgrot')}\n"  # installed by a Python installer, without the program
+    return f"vabgrot {__version__}\n"  # installed by a Python installer, without the program
 
 
 class Version(argparse._VersionAction):

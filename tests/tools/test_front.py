@@ -12,8 +12,10 @@ from importlib.util import find_spec
 
 import pytest
 
+import vabgrot
 from tests.support import TOP
 
+PYTHON = (".py", "py.typed", "METADATA", "entry_points.txt")  # ends of files of the Python package
 PROGRAM = '#!/bin/sh\necho "$@"\nexit 1\n'  # a program that knows all words
 UNKNOWING = '#!/bin/sh\necho "usage: .." >&2\nexit 2\n'
 HINT = "vabgrot: the words name no command. `{} help` lists the commands.\n"
@@ -228,7 +230,9 @@ def test_version(front, tmp_path):
     for name in ("vabgrot", *(f"vabgrot-{name}" for name in tools())):
         assert front("--version", script=tmp_path / "prefix/bin" / name, has_kit=False) == (0, line, "")
     assert re.search(r"(?m)^## (\d\S*) \(\d{4}-\d\d-\d\d\)$", (TOP / "CHANGELOG.md").read_text())[1] == "1.0.0"
-    assert tomllib.loads((TOP / "pyproject.toml").read_text())["project"]["version"] == "1.0.0"
+    described = tomllib.loads((TOP / "pyproject.toml").read_text())
+    assert described["tool"]["setuptools"]["dynamic"]["version"] == {"attr": "vabgrot.__version__"}
+    assert vabgrot.__version__ == "1.0.0" and "version" not in described["project"]
     assert '.TH VABGROT 1 "" "Vabgrot 1.0.0"' in (TOP / "docs/guide/vabgrot.1").read_text()
 
 
@@ -279,8 +283,9 @@ def test_package(front, tmp_path):
     ran(["dpkg-deb", "--extract", package, tmp_path / "root"])
     assert front("install", tmp_path / "prefix")[0] == 0
     usr, prefix = files_in(tmp_path / "root" / "usr"), files_in(tmp_path / "prefix")
-    modules = {it.replace("lib/python3/dist-packages", "lib/vabgrot/python") for it in usr if it.endswith(".py")}
-    assert modules == {it for it in prefix if it.endswith(".py")} and len(modules) > 100
+    modules = {it.replace("lib/python3/dist-packages", "lib/vabgrot/python") for it in usr if it.endswith(PYTHON)}
+    assert modules == {it for it in prefix if it.endswith(PYTHON)} and len(modules) > 100
+    assert {f"lib/vabgrot/python/vabgrot{it}" for it in ("/py.typed", "-1.0.0.dist-info/entry_points.txt")} < modules
     shared = "bin/", "lib/vabgrot/page/", "lib/vabgrot/v", "share/man/", "share/doc/", "share/bash-completion/"
     ours = {it for it in usr if it.startswith(shared)} - {"share/doc/vabgrot/changelog", "share/doc/vabgrot/copyright"}
     assert ours == {it for it in prefix if it.startswith(shared)} and "share/man/man1/vabgrot-report.1" in ours
@@ -326,6 +331,9 @@ def test_wheel(front, tmp_path):
     ran([*pip, "--target", tmp_path / "made", wheel])
     shutil.rmtree(tmp_path / "top")
     package = tmp_path / "made/vabgrot"
+    assert (package / "py.typed").is_file()
+    said = (tmp_path / "made/vabgrot-1.0.0.dist-info/entry_points.txt").read_text()
+    assert "[pytest11]\nvabgrot = vabgrot.plugin\n" in said
     assert (package / "prefix/lib/vabgrot/vabgrot").read_text() == PROGRAM
     env = {"PATH": "/usr/bin:/bin", "PYTHONPATH": str(tmp_path / "made")}
     for name in ("vabgrot", *(f"vabgrot-{it}" for it in tools())):
