@@ -18,10 +18,9 @@ from pathlib import Path
 TOP = Path(__file__).resolve().parents[1]
 sys.path.insert(0, str(TOP / "python"))
 
-from vabgrot import command, place, tools  # noqa: E402
+from vabgrot import __version__, command, place, tools  # noqa: E402
 
 COMMANDS = TOP / "docs" / "guide" / "commands.toml"
-VERSION = re.compile(r"(?m)^version=(\S+)$")
 FILES = re.compile(r"CAPTURE|FILE|IMAGE")  # the operands that name files
 FOLDERS = re.compile(r"^DIR")
 SUMMARY = re.compile(r"The tool `\w+`: (.*)\.$")
@@ -31,12 +30,6 @@ CHOICES = {
     '-W "${current_action_choices}"': '-W "${current_action_choices// /$IFS}"',
 }
 SEE = r"\fBvabgrot\fR(1), and TOOLS.md, FORMATS.md and TROUBLESHOOTING.md in {docs}"
-
-
-def version() -> str:
-    found = VERSION.search((TOP / "vabgrot").read_text("utf-8"))
-    assert found
-    return found[1]
 
 
 def roff(text: str) -> str:
@@ -93,7 +86,7 @@ def manual_of(name: str, parser: argparse.ArgumentParser) -> str:
         "EXAMPLES": "".join(paragraphs(place.named(examples.partition("\n\n")[2], has_files=True))),
         "SEE ALSO": SEE.format(docs=roff(str(place.DOCUMENTS / "docs/guide"))) + "\n",
     }
-    head = f'.TH {parser.prog.upper()} 1 "" "Vabgrot {version()}" "User Commands"\n'
+    head = f'.TH {parser.prog.upper()} 1 "" "Vabgrot {__version__}" "User Commands"\n'
     page = head + "".join(f".SH {heading}\n{text}" for heading, text in sections.items())
     return re.sub(r"\n{2,}", "\n", page)
 

@@ -12,6 +12,7 @@ LIMITS = {  # words of a document
     "docs/proof/PROVED.md": 4_200,
     "docs/guide/FORMATS.md": 5_500,
     "docs/guide/TOOLS.md": 3_900,
+    "docs/guide/LIBRARY.md": 2_400,
     "docs/dev/DECISIONS.md": 1_900,
     "docs/measured/BENCH.md": 1_200,
     "docs/measured/HOSTILE.md": 1_200,
