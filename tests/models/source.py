@@ -42,7 +42,6 @@ class Source:
     avi_error: int = 0
     reserved: int = 0
     aspect: int = 0  # M of the AVI InfoFrame
-    burst: int = 0  # lines at the beginning of a field in which all its samples come; 0 for all lines
     holes: bool = False  # whether two samples of a packet are in its first and third body
     control: list = field(default_factory=list)  # (line of the field, bytes of the body)
     least: int = 32  # control columns before a row at most where none is extended
@@ -67,8 +66,7 @@ class Source:
     def samples(self, number, line):
         """As many packets as the samples need that are due up to this line."""
         total = sum(self.across)
-        part = min(1, (line + 1) / self.burst) * sum(self.down) if self.burst else line + 1
-        passed = (number * sum(self.down) + part) * total
+        passed = (number * sum(self.down) + line + 1) * total
         due = int(passed * self.rate * self.speed / self.clock)
         found = []
         while self.sent < due:

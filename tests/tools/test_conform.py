@@ -61,7 +61,6 @@ PLANTED = (  # what is wrong with the source, and the rules that it breaks, with
     ({"reserved": 0x60}, {"field values": "Y 3: a reserved value"}),
     ({"aspect": 2}, {"picture aspect": "M 2 (16:9), and VIC 1 has 4:3"}),
     ({"aspect": 3}, {"field values": "M 3: a reserved value"}),
-    ({"burst": 300}, {"sample timing": "come early or late in 2 fields, wants 4"}),
     ({"holes": True}, {"sample packets": "sample_present 0101 leaves a body out"}),
     ({"control": [(0, (0x11, 0))]}, {"general control": "mute is both set and cleared"}),
     ({"control": [(9, (0x01, 0))]}, {"mute": "sent 7,214 columns behind VSYNC, wants at most 384"}),
@@ -164,7 +163,7 @@ def capture(program, tmp_path):
 def test_what_is_written(tool, capture):
     """A line for each rule, with its clause; the status is 0."""
     lines = tool("conform", capture(Source(**SMALL, fields=4))).stdout.decode().splitlines()
-    assert lines[0] == "Link clean (26 of 35 rules judged)"
+    assert lines[0] == "Link clean (25 of 34 rules judged)"
     assert len(lines) == len(RULES) + 2 and lines[-1].endswith(" 0 fail, 0 damaged by the link, 9 not judged")
     assert "pass        video coding              64 rows  [HDMI 1.4, 5.4.4]" in lines
     assert any(line.startswith("not judged  format ") for line in lines)

@@ -54,7 +54,6 @@ RULES = _by_name(
     Rule("N", "lies between 128 fs / 1500 and 128 fs / 300", "HDMI 1.4, 7.2.1"),
     Rule("sample rate", "N, CTS and the pixel clock make one of the seven rates", "HDMI 1.4, 7.2 and 7.3"),
     Rule("samples a line", "are on the average as many as N and CTS say", "HDMI 1.4, 7.8.1"),
-    Rule("sample timing", "the samples come evenly over each field, within a few lines", "HDMI 1.4, 7.8.1"),
     Rule("sample packets", "the samples of a packet follow one another from its first body on", "HDMI 1.4, 5.3.4"),
     Rule("sample parity", "the ones of each side, with V, U, C and P, are even", "IEC 60958-1, 4.1"),
     Rule("block start", "is marked every 192 samples", "IEC 60958-1, 4.1; HDMI 1.4, 5.3.4"),

@@ -20,7 +20,6 @@ from vabgrot.judging.verdicts import Case, Span, Verdict, absent, counted, every
 
 MOST_RATE, LEAST_RATE = 1500, 300  # Hz: of 128 fs / N
 STEADY = 0.002  # the tolerance of a measured rate, as a part of it
-MOST_LINES, MOST_SAMPLES = 4, 8  # how far samples may be early or late in all: the time of lines, and samples of packets
 NOT_SOUND = "no sample was received"
 SAMPLE = LAYOUTS["samples"].fields
 Statuses = Counter[tuple[tuple[int, ...], ...]]  # the channel status bits of both sides, and how often each was sent
@@ -155,32 +154,6 @@ def delivered(case: Case, sound: Samples, clock: Clock | None) -> Verdict:
     return passed(name, says) if abs(came - wanted) <= most else failed(name, f"{says}: {came:,} of {wanted:,.0f} samples", begin)
 
 
-def spread(case: Case, sound: Samples) -> Verdict:
-    """Fails if the samples of a field come in bursts: earlier and later than an even stream by more than MOST_LINES."""
-    name = "sample timing"
-    if not sound.total or not case.line:
-        return unjudged(name, NOT_SOUND if not sound.total else "the length of a line is not known")
-    wrong, judged, sent = [], 0, np.cumsum(sound.counts)
-    for span in case.fields:
-        first, last = np.searchsorted(sound.at, (span.begin, span.end)).tolist()
-        before = int(sent[first - 1]) if first else 0
-        if last - first < 2 or np.any((sound.breaks > before) & (sound.breaks <= sent[last - 1])):
-            continue
-        judged += 1
-        each = (int(sent[last - 1]) - before) / (span.end - span.begin)
-        late = np.append(sent[first:last] - before - (sound.at[first:last] - span.begin) * each, 0.0)
-        lines = float(np.ptp(late)) / (each * case.line)
-        if lines > MOST_LINES + MOST_SAMPLES / (each * case.line):
-            wrong.append((span, lines))
-    if not judged:
-        return unjudged(name, "no whole field with samples was seen")
-    if wrong:
-        span, lines = wrong[0]
-        words = f"samples of {lines:,.0f} lines come early or late in {counted(len(wrong), 'field')}, wants {MOST_LINES}"
-        return failed(name, words, span.begin, len(wrong))
-    return passed(name, counted(judged, "field"))
-
-
 def bodies_of(packet: packets.Packet) -> str:
     """Says whether a packet of samples leaves a body out before one that has a sample."""
     present = SAMPLE["sample_present"].of(packet.header)
@@ -276,7 +249,6 @@ def judged(case: Case) -> Iterator[Verdict]:
     yield regeneration(case, sound, clocks)
     yield from rates(case, clock)
     yield delivered(case, sound, clock)
-    yield spread(case, sound)
     narrow = [one for one in case.of_kind(Type.SAMPLES) if not SAMPLE["layout"].of(one.packet.header)]
     yield first_of("sample packets", wrong_of(narrow, bodies_of), len(narrow), "sample packet")
     yield first_of("sample parity", uneven_of(case), len(sound.at), "sample packet")
