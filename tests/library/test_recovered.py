@@ -131,14 +131,17 @@ def test_packets(bars):
         vabgrot.Packet.of(next(iter(capture.events)))
 
 
-def test_what_is_shown(bars):
+def test_what_is_shown(bars, executable):
     """A few lines, however much there is; and the first frame."""
     capture = vabgrot.recover(bars)
     events = capture.events
     line = events[int(events.of(Kind.LINE)[0])]
     for one, lines in ((capture, 4), (events, 8), (line, 1), (capture.packets[0], 1), (vabgrot.judge(bars), 1)):
         assert repr(one).count("\n") < lines and len(repr(one)) < 700, repr(one)
-    assert repr(capture) == f"Recovered(kind='link', aligned, {capture.columns:,} columns: 24 lines of 32 pixels; 24 packets; 0 faults)"
+    packets = run(executable, ["recover", "link"], bars)[1].count(b"\np ")
+    assert (
+        repr(capture) == f"Recovered(kind='link', aligned, {capture.columns:,} columns: 24 lines of 32 pixels; {packets} packets; 0 faults)"
+    )
     assert repr(events).startswith(f"Events({len(events):,}: ") and "24 LINE" in repr(events)
     assert repr(line).startswith("Event(LINE, epoch=0, column=") and repr(line).endswith(" of 96 bytes)")
     shown = capture._repr_html_()
@@ -198,7 +201,8 @@ def test_dvi(executable, bars):
     """It is said of a DVI source that it was read as HDMI; and of nothing else."""
     dvi = run(executable, ["make", "dvi"], DVI)[1]
     lanes = [bytes(lane) for lane in lanes_of(dvi)[0]]
-    for kind in ("link", "track", "relock"):
+    assert not vabgrot.recover(dvi, kind="relock").aligned  # which a guard band would confirm
+    for kind in ("link", "track"):
         with pytest.warns(vabgrot.KindWarning, match='If this is DVI, read it with kind="dvi"') as warned:
             capture = vabgrot.recover(dvi, kind=kind)
             [*vabgrot.receive(*lanes, kind=kind)]
