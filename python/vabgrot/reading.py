@@ -277,7 +277,7 @@ def read(source: Path | Memory, is_dvi: bool = False, taker: Callable[[Grammar],
     mine, its = (int(openings_of(one.events)[1].sum()) for one in (first, other))
     if its <= mine:
         return first
-    why = f"read anew by guard bands: {its:,} rows and islands open with a whole guard band, and {mine:,} at the first alignment"
+    why = f"read again by guard bands: {its:,} rows and islands open with a whole guard band, {mine:,} at the first alignment"
     log.info("%s: %s", source, why)
     if taker:
         read_as(source, "relock", taker("relock"), is_shown)

@@ -86,7 +86,7 @@ def test_a_damaged_control_character_before_the_first_edge(tool, program, sent, 
 def test_lanes_that_are_too_far_apart(tool, program, sent, advice, tmp_path):
     lines, verdict = advice(sent("--skew", "0,300,35"))
     assert verdict == "Not aligned" and len(lines) == 1
-    assert f"At the skew 0,300,35 {LINES} openings" in lines[0]
+    assert f"At the skew 0,300,35, {LINES} openings" in lines[0]
     assert program("recover", "link", source=cut(tool, (tmp_path / "a.tmc").read_bytes(), lines[0], tmp_path)).count(b"\nv ") == LINES
 
 
@@ -149,7 +149,7 @@ def test_they_are_read_anew(tool, off, advice, tmp_path):
         said = json.loads(tool("report", tmp_path / "a.tmc", "--json", status=1).stdout)
         _, listing = relocking.relocked(model.lanes_in(hurt), hearing.link_of)
         assert said["relocked"] and said["rows"] == listing.count(b"\nv ") and LINES - 1 <= said["rows"]
-        assert said["says"].startswith("Link faulty: relock: at bit ") and "1 alignment let go" in said["slips"]
+        assert said["says"].startswith("Link faulty: relock: at bit ") and "1 alignment dropped" in said["slips"]
 
 
 @pytest.mark.parametrize("slips_of_it", [(5,), (3, 7)])
@@ -167,7 +167,7 @@ def test_lanes_that_go_too_far_apart(tool, program, sent, advice, tmp_path, slip
         assert told in lines[0] and "\nright as it is: " in looked and f" openings\nf{told}\n" in looked
     else:
         slip = slips(program("recover", "track", source=hurt, status=1))[0].split()[-1]
-        assert f"Behind the place {int(slip):,}, at {far} {LINES - 6} openings have " in lines[0]
+        assert f"After the place {int(slip):,}, at {far}, {LINES - 6} openings have " in lines[0]
     assert advice(cut(tool, hurt, lines[0], tmp_path), status=0) == ([], "Clean")
 
 

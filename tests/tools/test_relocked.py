@@ -13,7 +13,7 @@ pytest.importorskip("numpy", reason="Debian's package python3-numpy is missing")
 from vabgrot import reading  # noqa: E402
 
 ROWS, ACROSS, FIRST = 12, 80, 48  # rows, columns of each line, and the column of the first guard
-ANEW = b"read anew by guard bands"
+ANEW = b"read again by guard bands"
 
 
 @pytest.fixture
@@ -65,10 +65,10 @@ def test_the_report_of_a_wrong_first_alignment(tool, astray, tmp_path, back):
     said = json.loads(came.stdout)
     assert said["relocked"] and said["faulty"] and said["verdict"]["word"] == "Link faulty" and said["advice"] == []
     assert (said["rows"], said["faults"]) == (ROWS - 1, [])
-    assert said["says"].startswith("Link faulty: read anew by guard bands")
+    assert said["says"].startswith("Link faulty: read again by guard bands")
     assert ANEW in came.stderr
     page = (tmp_path / "a.html").read_text()
-    assert "read anew by guard bands" in page and "recover relock" in page and 'id="advice"' not in page
+    assert "read again by guard bands" in page and "recover relock" in page and 'id="advice"' not in page
 
 
 def test_the_report_where_nothing_helps(tool, sent, tmp_path):

@@ -241,7 +241,7 @@ def test_a_slipped_capture(report, tool, program, sent, tmp_path):
     assert [row[0].split(",")[0] for row in page.rows("fault-table") if row[0].startswith("slip")] == [
         "slip of lane 2 (red)"
     ]
-    assert page.text("slips-say") == "1 slip, 1 aligned anew."
+    assert page.text("slips-say") == "1 slip, 1 aligned again."
     assert "broken off by a slip" in "".join(page.run("return data.frames.map((one) => one.says)"))
 
 
@@ -354,13 +354,13 @@ def test_slips_past_which_nothing_aligns(report, tool, program, sent):
     places = [int(line.split(" ")[3]) for line in track if line.startswith("! slip ")]
     bits = [10 * ACROSS * DOWN * 5 + 320 - place for place in (places[7], places[7] + 81, places[7])]
     page = report(capture, 1)
-    told = f"9 slips, 7 aligned anew, none from place {places[7]:,} on: {bits[0]:,}, {bits[1]:,} and {bits[2]:,} bits of the lanes"
+    told = f"9 slips, 7 aligned again, none from place {places[7]:,} on: {bits[0]:,}, {bits[1]:,} and {bits[2]:,} bits of the lanes"
     assert len(places) == 9 and page.text("slips-say") == f"{told} are not shown."
     assert "slip: lane 1, before bit " in page.run("return document.querySelector('header .says').textContent")
     card = page.run("return document.querySelector('#count-slips').nextElementSibling.textContent")
-    assert card == f"7 aligned anew, none from place {places[7]:,} on"
+    assert card == f"7 aligned again, none from place {places[7]:,} on"
     rows = [row for row in page.rows("fault-table") if row[0].startswith("slip")]
-    assert ["not aligned anew" in row[0] for row in rows] == [False] * 7 + [True] * 2
+    assert ["not aligned again" in row[0] for row in rows] == [False] * 7 + [True] * 2
     # the timeline has the bits that are not shown, and says so
     columns = page.run("return data.columns")
     assert columns == page.count("columns") + sum(-(-one // 10) for one in (places[8] - places[7], max(bits) - places[8] + places[7]))
@@ -377,7 +377,7 @@ def test_bits_between_slips_that_are_not_shown(report, program, sent):
     track = texts(program("recover", "track", source=capture, status=1))
     first, last = (int(line.split(" ")[3]) for line in track if line.startswith("! slip "))
     page = report(capture, 1)
-    assert page.text("slips-say") == f"2 slips, 1 aligned anew: {last - first:,} bits a lane between slips are not shown."
+    assert page.text("slips-say") == f"2 slips, 1 aligned again: {last - first:,} bits a lane between slips are not shown."
     assert page.count("columns") == page.run("return data.columns") - -(-(last - first) // 10)
     assert "alignment 2" in page.run("pointTo(data.columns - 5); return document.getElementById('time').ariaValueText")
     assert page.count("frames") == sum(line["whole"] for line in page.run("return data.frames"))

@@ -81,8 +81,8 @@ def of(rows):
 def test_slips():
     found = of(LEFT)
     assert [*found] == EVENTS and (found[2].line, found[3].line) == ("! slip 2 437", "! relock 620")
-    assert str(found[2]) == "bit 437 on lane 2 (red): slip, a lane lost bits; from here on the lanes were searched anew"
-    said = "relock, the alignment was let go, since later guard bands came at another skew; from here on the lanes were searched anew"
+    assert str(found[2]) == "bit 437 on lane 2 (red): slip, a lane lost bits; from here on the lanes are searched again"
+    said = "relock, the alignment was dropped, because later guard bands are at another skew; from here on the lanes are searched again"
     assert str(found[3]) == f"bit 620: {said}"
 
 

@@ -50,7 +50,7 @@ LINK = _by_kind(
     Fault("word", "lane", "a character of a control column is no control character", has_lane=True, is_of_skew=True),
     Fault("short", "structure", "fewer than twelve control columns before what opens here", is_next=True, is_of_skew=True),
     Fault("preamble", "structure", "not the preamble of what opens here", is_next=True, is_of_skew=True),
-    Fault("guard", "structure", "one of two guard columns is none", is_of_skew=True),
+    Fault("guard", "structure", "one of two guard columns is not a guard column", is_of_skew=True),
     Fault(
         "noise",
         "structure",
@@ -72,7 +72,7 @@ LINK = _by_kind(
     ),
     Fault("longline", "structure", "more than 4,096 pixels in a row", is_uncounted=True, hurts_picture=True),
     Fault("longisland", "packet", "the nineteenth packet of an island", is_of_packet=True),
-    Fault("symbols", "packet", "characters of a packet that are none of TERC4", is_of_packet=True),
+    Fault("symbols", "packet", "characters of a packet that are not TERC4 characters", is_of_packet=True),
     Fault("mended", "packet", "a block of a packet with one wrong bit, which was mended", is_of_packet=True),
     Fault("lost", "packet", "a block of a packet with more wrong bits", is_of_packet=True),
     Fault(
@@ -84,21 +84,21 @@ LINK = _by_kind(
         is_dense=True,
         hurts_picture=True,
     ),
-    Fault("slip", "slip", "a lane lost bits; from here on the lanes were searched anew", has_lane=True),
+    Fault("slip", "slip", "a lane lost bits; from here on the lanes are searched again", has_lane=True),
     Fault(
         "relock",
         "slip",
-        "the alignment was let go, since later guard bands came at another skew; from here on the lanes were searched anew",
+        "the alignment was dropped, because later guard bands are at another skew; from here on the lanes are searched again",
     ),
 )
 CONTENT = {
     fault.kind: fault
     for fault in (
-        ContentFault("length", "an InfoFrame whose length is not that of its kind"),
-        ContentFault("checksum", "an InfoFrame whose bytes do not sum to 0"),
-        ContentFault("parity", "a side of a sample whose ones are not even", hurts_sound=True),
+        ContentFault("length", "an InfoFrame with another length than its kind has"),
+        ContentFault("checksum", "an InfoFrame with a wrong checksum: its bytes do not sum to 0"),
+        ContentFault("parity", "a side of a sample with odd parity", hurts_sound=True),
         ContentFault("layout", "samples of more than two channels, which are not read", is_limit=True, hurts_sound=True),
-        ContentFault("uneven", "a clock packet whose four copies are not alike", hurts_sound=True),
+        ContentFault("uneven", "a clock regeneration packet with different copies", hurts_sound=True),
         ContentFault("depth", "a depth of colour other than 24 bits", is_limit=True),
         ContentFault("ragged", "a row that is not as wide as the first of its frame", hurts_picture=True),
         ContentFault("vic", "a frame of another size than its AVI InfoFrame says"),

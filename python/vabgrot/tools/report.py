@@ -55,22 +55,31 @@ PAGE = Path(bursts.__file__).resolve().parent / "page"
 SCRIPTS = ("tables.js", "sound.js", "report.js", "start.js")
 PLACES = ("on lane 0 (blue)", "on lane 1 (green)", "on lane 2 (red)", "of no lane")
 BLOCKS = ("body 0", "body 1", "body 2", "body 3", "header")
-ENDS = {"vsync": "whole", "slip": "broken off by a slip", "relock": "broken off where the alignment was let go"}
+ENDS = {"vsync": "whole", "slip": "broken off by a slip", "relock": "broken off where the alignment was dropped"}
 ENDS |= {"end": "broken off by the end of the capture"}
 EXAMPLES = """./vabgrot make content < examples/bars.content > bars.tmc
 tools/report bars.tmc -o bars.html"""
-DVI_ADVICE = """No control period ends in the guard bands of HDMI, at any skew of the lanes: a DVI source has none.
-“tools/report --dvi” reads it, where the program has “recover dvi”."""
-WRONG = """The first alignment was likely wrong: a damaged control character before it sets a wrong skew for all that follows.
-At the skew that was found ({found}) no opening has its preamble and its guard bands, at {best} {openings} have."""
-FAR = """{begin} the skew {best} {openings} openings have their preamble and their guard bands, but lanes more than 70 bits apart are
-not aligned."""
-LATER = """A lane likely lost or repeated whole characters between the places {last} and {first} of lane 0, which “recover track”
-cannot see: openings fit at the skew {found} before, and at {later} behind. A program with “recover relock” lists what is behind,
-too."""
-LEFT_OUT = """From the first alignment that a guard band confirms on the listing is that of “recover relock”; what came before it has no
-lines, and is not shown."""
-CUT = "“tools/lanes cut {name} --from {cut} > cut.tmc” begins where they fit; make the report of that."
+DVI_ADVICE = (
+    "No control period ends in the guard bands of HDMI, at any skew of the lanes. A DVI source has no guard bands. "
+    "“tools/report --dvi” reads it, if the program has “recover dvi”."
+)
+WRONG = (
+    "The first alignment is probably wrong: a damaged control character before it sets a wrong skew for everything that follows. "
+    "At the skew that was found ({found}), no opening has its preamble and its guard bands. At {best}, {openings} openings have them."
+)
+FAR = (
+    "{begin} the skew {best}, {openings} openings have their preamble and their guard bands, but lanes more than 70 bits apart are "
+    "not aligned."
+)
+LATER = (
+    "A lane probably lost or repeated whole characters between the places {last} and {first} of lane 0. “recover track” cannot see this. "
+    "Openings fit at the skew {found} before, and at {later} after it. A program with “recover relock” lists what follows, too."
+)
+LEFT_OUT = (
+    "The listing is that of “recover relock”. It begins at the first alignment that a guard band confirms. "
+    "Nothing before it has lines or is shown."
+)
+CUT = "“tools/lanes cut {name} --from {cut} > cut.tmc” begins where they fit. Make the report of that file."
 
 
 # A frame as the page shows it.
@@ -235,7 +244,7 @@ class Slips(NamedTuple):
     hidden: str
 
     def __str__(self) -> str:
-        both = (self.number, "slip", ""), (self.let_go, "alignment", " let go")
+        both = (self.number, "slip", ""), (self.let_go, "alignment", " dropped")
         told = " and ".join(f"{many:,} {name}{'s' * (many > 1)}{more}" for many, name, more in both if many)
         says = f"{told}, {self.aligned}"
         return f"{says}: {self.hidden} not shown" if self.hidden else says
@@ -246,7 +255,7 @@ def slips_of(it: Report) -> Slips | None:
     epochs, bits = it.page.stretches[1:], it.reading.bits.read
     if not epochs:
         return None
-    aligned, hidden = [f"{sum(epoch.is_aligned for epoch in epochs):,} aligned anew"], []
+    aligned, hidden = [f"{sum(epoch.is_aligned for epoch in epochs):,} aligned again"], []
     last = len(epochs)
     while last and not epochs[last - 1].is_aligned:
         last -= 1
@@ -348,7 +357,7 @@ def counts_of(it: Report, channels: int) -> list[tuple[str, str, str]]:
         ("capture", f"{size / 1e6:,.1f} MB" if size >= 1e6 else f"{size:,} bytes", bits_in_words(reading.bits.told)),
     ]
     if it.slips:
-        both = ("slips", it.slips.number), ("alignments let go", it.slips.let_go)
+        both = ("slips", it.slips.number), ("alignments dropped", it.slips.let_go)
         counts[1:1] = [(name, f"{many:,}", it.slips.aligned) for name, many in both if many]
     if it.verdict.contents.total():
         counts.insert(1, ("contents", f"{it.verdict.contents.total():,}", "faults of what was carried"))
@@ -402,7 +411,7 @@ def opening_advice(it: Report, fits: openings.Fits) -> str | None:
     if fit is None:
         return None
     if not epoch.is_aligned and fits.is_wrong and best.spread > MOST_SKEW:
-        begin = f"Behind the place {epoch.place:,}, at" if epoch.place else "At"
+        begin = f"After the place {epoch.place:,}, at" if epoch.place else "At"
         says = FAR.format(begin=begin, best=best.made_words, openings=f"{best.openings:,}")
     elif len(it.page.stretches) > 1:
         return None

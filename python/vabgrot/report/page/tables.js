@@ -158,8 +158,8 @@ function faultText(fault) {
   const more = data.faults.more[fault];
   if (kind === "slip" || kind === "relock") {
     const isAligned = data.alignments[data.faults.epoch[fault] + 1];
-    const what = kind === "slip" ? `slip of ${LANES[lane]}, found` : "alignment let go, and searched anew";
-    return `${what} at bit ${count(more[0])}${kind === "slip" ? " of it" : ""}, ${isAligned ? "aligned anew" : "not aligned anew"}`;
+    const what = kind === "slip" ? `slip of ${LANES[lane]}, found` : "alignment dropped, and searched again";
+    return `${what} at bit ${count(more[0])}${kind === "slip" ? " of it" : ""}, ${isAligned ? "aligned again" : "not aligned again"}`;
   }
   if (kind === "symbols") return `symbols: ${more[0]} of 96 characters`;
   if (kind === "mended") return `mended: ${data.blocks[more[0]]}, bit ${more[1]}`;
