@@ -195,7 +195,7 @@ def test_repeated_pixels_are_taken_out(tool, program, tmp_path):
     tool("pictures", tmp_path / "out", source=listing)
     assert read_png(tmp_path / "out" / "frame0000.png")[1:] == ((4, 4), list(image.getdata()))
     assert (
-        b"8 pixels of a row are no whole number"
+        b"a row has 8 pixels, which it does not divide"
         in tool("content", tmp_path / "a.png", "--mode", MODE, "--repeat", 3, status=3).stderr
     )
 

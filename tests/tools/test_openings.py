@@ -76,7 +76,7 @@ def test_a_damaged_control_character_before_the_first_edge(tool, program, sent, 
     hurt = program("damage", f"{lane}:{place(0, -back) - 7 - skew[lane]}:300", source=capture)
     early = [one + 10 * back * (number == lane) for number, one in enumerate(skew)]
     if max(early) - min(early) > 70:  # the edge before the damage is of no alignment: the first is at the next row
-        assert advice(hurt, status=0) == ([], "Clean")
+        assert advice(hurt) == ([], "Source wrong")
         return
     assert advice(hurt) == ([], "Link faulty")
     said = json.loads(tool("report", tmp_path / "a.tmc", "--json", status=1).stdout)
@@ -168,7 +168,7 @@ def test_lanes_that_go_too_far_apart(tool, program, sent, advice, tmp_path, slip
     else:
         slip = slips(program("recover", "track", source=hurt, status=1))[0].split()[-1]
         assert f"After the place {int(slip):,}, at {far}, {LINES - 6} openings have " in lines[0]
-    assert advice(cut(tool, hurt, lines[0], tmp_path), status=0) == ([], "Clean")
+    assert advice(cut(tool, hurt, lines[0], tmp_path)) == ([], "Source wrong")
 
 
 @pytest.mark.parametrize("lost, rows", [(7, LINES - 7), (8, 0)])

@@ -129,7 +129,7 @@ def test_a_package_is_missing(tool, waves, tmp_path, monkeypatch):
     monkeypatch.setenv("PYTHONPATH", str(tmp_path))
     for name, package in (("a.h5", b"python3-h5py"), ("a.mat", b"python3-scipy")):
         (tmp_path / name).write_bytes(b"")
-        assert b"Debian's package " + package + b" has it" in tool("slice", tmp_path / name, status=3).stderr
+        assert b"Install it: apt-get install -y " + package in tool("slice", tmp_path / name, status=3).stderr
 
 
 def test_samples_that_are_bits(tool, tmp_path):

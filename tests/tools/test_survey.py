@@ -152,7 +152,7 @@ def cluster(tmp_path, monkeypatch):
     dask = [sys.executable, "-m", "distributed.cli."]
     running = []
 
-    def run(name):
+    def run(name, *words):
         command = [*dask[:2], dask[2] + name, *map(str, words), "--no-dashboard"]
         running.append(subprocess.Popen(command, stdout=subprocess.DEVNULL, stderr=subprocess.DEVNULL, cwd=tmp_path))
         return running[-1]

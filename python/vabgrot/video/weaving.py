@@ -12,7 +12,8 @@ HALF = Fraction(1, 2)
 
 
 class Timed(Protocol):
-    """What weaving needs to know about a field: width in pixels, rows, and the lines from its VSYNC to its first row (None if not known)."""
+    """What weaving needs to know about a field: width in pixels, rows, and the lines from its VSYNC to its first row (None if
+    not known)."""
 
     @property
     def size(self) -> tuple[int, int]:

@@ -115,7 +115,7 @@ class Dump:
                 raise Refused(f"{self.path}: `{word[:20]}` is no change of a variable")
 
     def find(self, word: str) -> Variable:
-        """Returns the variable with this path. An unambiguous end of a path is enough. Raises Refused if there is none, or more than one."""
+        """Returns the variable with this path. An unambiguous end of a path is enough. Raises Refused if there is none or several."""
         same = {it.code: it for it in reversed(self.variables) if it.path == word}
         found = same or {it.code: it for it in reversed(self.variables) if it.path.endswith(f".{word}")}
         if len(found) == 1:

@@ -242,7 +242,7 @@ class Base(Protocol):
         """Converts rising times on the scale to moments of the file."""
 
     def lock(self, edges: Reals, start: float, name: str, least: float) -> Loop:
-        """Returns the loop of a lane, given its first edges. A bit has at least `least` samples. Raises Refused if they show no bit rate."""
+        """Returns the loop of a lane, given its first edges. A bit has `least` samples or more. Raises Refused if they show no bit rate."""
 
 
 class Freely:
