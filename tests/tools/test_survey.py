@@ -160,7 +160,7 @@ def cluster(tmp_path, monkeypatch):
     run("dask_scheduler", "--host", "127.0.0.1", "--port", 0, "--scheduler-file", address)
     place = waited(lambda: address_in(address))
     words = ["--scheduler-file", address, "--host", "127.0.0.1", "--nthreads", 1, "--no-nanny"]
-    workers = [run("dask_worker", "--local-directory", tmp_path) for _ in range(2)]
+    workers = [run("dask_worker", *words, "--local-directory", tmp_path) for _ in range(2)]
     yield place.removeprefix("tcp://"), workers
     for process in running:
         process.kill()
