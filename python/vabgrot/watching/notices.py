@@ -92,7 +92,7 @@ def crc_of(frame: Frame) -> int:
     """CRC-32 of the bytes of a frame."""
     crc = 0
     for octets in frame.rows:
-        crc = zlib.crc32(octets, crc)
+        crc = zlib.crc32(octets.data, crc)
     return crc
 
 
