@@ -4,9 +4,9 @@
     bench/watch.py [--program PROGRAM] [--columns MILLIONS] [--runs RUNS]
 
 PROGRAM (crates/hdmi_cli/out/hdmi_cli) makes two streams of bench/library.py: lines of 2,200 columns with 1,920 noisy pixels, and the same
-with a data island of one packet in each line. Two more are these with one wrong bit in a thousand. 64 lines repeat up to MILLIONS of columns
-(150). Each stream arrives on standard input, as a capture and as raw blocks, RUNS times (3). It prints the user time in seconds: the least
-of the runs, without the start, which a twentieth of the stream measures. The ways are:
+with a data island of one packet in each line. Two more are these with one wrong bit in a thousand. 64 lines repeat up to MILLIONS of
+columns (150). Each stream arrives on standard input, as a capture and as raw blocks, RUNS times (3). It prints the user time in seconds:
+the least of the runs, without the start, which a twentieth of the stream measures. The ways are:
 
     feed     a Python process that reads the blocks as tools/watch does and feeds them to vabgrot_feed, which writes all events and
              pixels into one array and one buffer; nobody looks at them
