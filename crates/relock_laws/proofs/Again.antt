@@ -1,9 +1,9 @@
 -- A tap after any bits: from a good control period of it on there is one epoch, and what is reported from there on is the account.
-use Rattle.std.proofs.Common.{◌≡◌, ℕ, ◌+◌, ◌-◌, ◌*◌, ◌/◌, ◌≤◌, Bool, List, length, take, drop, ap, ap₂, ◌∙◌, sym, subst, arith, inl, inr, length-drop}
+use Rattle.std.proofs.Common.{◌≡◌, ℕ, ◌+◌, ◌-◌, ◌*◌, ◌/◌, ◌<◌, ◌≤◌, Bool, List, length, take, drop, ap, ap₂, ◌∙◌, sym, subst, arith, inl, inr, length-drop}
 use Rattle.std.specs.Prelude.{slice_index}
 use Rattle.std.proofs.lemmas.List.{drop-drop}
 use Rattle.tmds_word.specs.Column.{Column, blues, greens, reds}
-use Rattle.tmds_word.specs.Taps.{IsPart}
+use Rattle.tmds_word.specs.Taps.{IsPart, IsTap}
 use Rattle.tmds_word.specs.Words.{words_of, columns_of}
 use Rattle.lane_align.specs.Laws.{IsCalm}
 use Rattle.lane_align.specs.Words.{words_from}
@@ -12,6 +12,7 @@ use Rattle.lane_deskew.specs.Triples.{IsFirst}
 use Rattle.lane_deskew.specs.Aligned.{aligned_columns}
 use Rattle.lane_track.proofs.Around.{drop_part}
 use Rattle.island_pack.specs.Periods.{Period}
+use Rattle.island_pack.specs.Sparse.{IsNarrow, column_at}
 use Rattle.period_grammar.specs.Heard.{heard}
 use Rattle.link_laws.specs.Laws.{IsAccounted}
 use Rattle.link_laws.specs.LaneEnds.{damaged}
@@ -71,11 +72,48 @@ long_lane xs e good =
     let last = control_within xs (e - 190 + 10 * 18) (good.controls 18 (omega arith)) in
     omega arith
 
--- where the epoch is aligned at the good period
-pub accounted : (ps : List Period) (sent received : List Column) (offset : ℕ) (skews counts : List ℕ) (x fed : Fed) (before : List ℕ) (a d e f z : ℕ)
-    → IsAgain ps sent received offset skews counts x fed before a d e f → z + 120 ≤ d → z + 120 ≤ e → z + 120 ≤ f
-    → IsAccounted ps sent received (aligned_columns (drop z fed.blue) (drop z fed.green) (drop z fed.red) (d - z) (e - z) (f - z)) a
-accounted ps sent received offset skews counts x fed before a d e f z h dz ez fz =
+-- a tap of characters that comes after other bits, at three places of which its column a + 12 begins
+pub record IsTapAfter (received : List Column) (offset : ℕ) (skews counts : List ℕ) (x fed : Fed) (before : List ℕ) (a d e f : ℕ) : Type 0 where
+  pub tapped : IsTap received offset skews counts x.blue x.green x.red
+  pub narrow : (i : ℕ) → i < length received → IsNarrow (column_at received i)
+  pub blue_after : drop (slice_index before 0) fed.blue ≡ x.blue
+  pub green_after : drop (slice_index before 1) fed.green ≡ x.green
+  pub red_after : drop (slice_index before 2) fed.red ≡ x.red
+  pub blue : d + offset + slice_index skews 0 ≡ 10 * (a + 12) + slice_index before 0
+  pub green : e + offset + slice_index skews 1 ≡ 10 * (a + 12) + slice_index before 1
+  pub red : f + offset + slice_index skews 2 ≡ 10 * (a + 12) + slice_index before 2
+  pub blue_whole : slice_index before 0 + 190 ≤ d
+  pub green_whole : slice_index before 1 + 190 ≤ e
+  pub red_whole : slice_index before 2 + 190 ≤ f
+  pub blue_within : d ≤ length fed.blue
+  pub green_within : e ≤ length fed.green
+  pub red_within : f ≤ length fed.red
+
+pub tap_again : (ps : List Period) (sent received : List Column) (offset : ℕ) (skews counts : List ℕ) (x fed : Fed) (before : List ℕ) (a d e f : ℕ)
+    → IsAgain ps sent received offset skews counts x fed before a d e f → IsTapAfter received offset skews counts x fed before a d e f
+tap_again ps sent received offset skews counts x fed before a d e f h = record {
+  tapped = h.reception.tapped;
+  narrow = h.reception.reception.sparse.characters;
+  blue_after = h.blue_after;
+  green_after = h.green_after;
+  red_after = h.red_after;
+  blue = h.blue;
+  green = h.green;
+  red = h.red;
+  blue_whole = h.blue_whole;
+  green_whole = h.green_whole;
+  red_whole = h.red_whole;
+  blue_within = long_lane fed.blue d h.good.blue;
+  green_within = long_lane fed.green e h.good.green;
+  red_within = long_lane fed.red f h.good.red;
+}
+
+-- the columns of an epoch from there on are received ones
+pub received_there : (received : List Column) (offset : ℕ) (skews counts : List ℕ) (x fed : Fed) (before : List ℕ) (a d e f z : ℕ)
+    → IsTapAfter received offset skews counts x fed before a d e f → z + 120 ≤ d → z + 120 ≤ e → z + 120 ≤ f
+    → let cs = aligned_columns (drop z fed.blue) (drop z fed.green) (drop z fed.red) (d - z) (e - z) (f - z) in
+    cs ≡ take (length cs) (drop a received)
+received_there received offset skews counts x fed before a d e f z h dz ez fz =
     let n = slice_index before 0 in
     let m = slice_index before 1 in
     let k = slice_index before 2 in
@@ -85,12 +123,10 @@ accounted ps sent received offset skews counts x fed before a d e f z h dz ez fz
     let b = h.blue_whole in
     let g = h.green_whole in
     let r = h.red_whole in
-    let tap = h.reception.tapped in
-    let sparse = h.reception.reception.sparse in
-    let free = free_received ps sent received h.reception.reception in
-    let lb = long_lane fed.blue d h.good.blue in
-    let lg = long_lane fed.green e h.good.green in
-    let lr = long_lane fed.red f h.good.red in
+    let tap = h.tapped in
+    let lb = h.blue_within in
+    let lg = h.green_within in
+    let lr = h.red_within in
     let sb = ap length h.blue_after in
     let sg = ap length h.green_after in
     let sr = ap length h.red_after in
@@ -113,10 +149,19 @@ accounted ps sent received offset skews counts x fed before a d e f z h dz ez fz
     let columns : cs ≡ take (length cs) (drop a received) =
     columns_taken received (offset + slice_index skews 0) (offset + slice_index skews 1) (offset + slice_index skews 2)
     (slice_index counts 0) (slice_index counts 1) (slice_index counts 2) a x.blue x.green x.red (d - n) (e - m) (f - k) begins
-    (characters (λ c. c.blue) received (λ i lt. (sparse.characters i lt).blue)) (characters (λ c. c.green) received (λ i lt. (sparse.characters i lt).green)) (characters (λ c. c.red) received (λ i lt. (sparse.characters i lt).red)) in
-    let same = columns_moved z n m k d e f fed.blue fed.green fed.red x.blue x.green x.red h.blue_after h.green_after h.red_after dz ez fz (omega arith) (omega arith) (omega arith) in
-    subst (λ ds. IsAccounted ps sent received ds a) (sym same)
-    (record { ends = h.ends; columns = columns; reported = ap heard columns ∙ link_law ps sent received free a (length cs) h.ends })
+    (characters (λ c. c.blue) received (λ i lt. (h.narrow i lt).blue)) (characters (λ c. c.green) received (λ i lt. (h.narrow i lt).green)) (characters (λ c. c.red) received (λ i lt. (h.narrow i lt).red)) in
+    subst (λ ds. ds ≡ take (length ds) (drop a received))
+    (sym (columns_moved z n m k d e f fed.blue fed.green fed.red x.blue x.green x.red h.blue_after h.green_after h.red_after dz ez fz (omega arith) (omega arith) (omega arith))) columns
+
+-- where the epoch is aligned at the good period
+pub accounted : (ps : List Period) (sent received : List Column) (offset : ℕ) (skews counts : List ℕ) (x fed : Fed) (before : List ℕ) (a d e f z : ℕ)
+    → IsAgain ps sent received offset skews counts x fed before a d e f → z + 120 ≤ d → z + 120 ≤ e → z + 120 ≤ f
+    → IsAccounted ps sent received (aligned_columns (drop z fed.blue) (drop z fed.green) (drop z fed.red) (d - z) (e - z) (f - z)) a
+accounted ps sent received offset skews counts x fed before a d e f z h dz ez fz =
+    let free = free_received ps sent received h.reception.reception in
+    let cs = aligned_columns (drop z fed.blue) (drop z fed.green) (drop z fed.red) (d - z) (e - z) (f - z) in
+    let columns = received_there received offset skews counts x fed before a d e f z (tap_again ps sent received offset skews counts x fed before a d e f h) dz ez fz in
+    record { ends = h.ends; columns = columns; reported = ap heard columns ∙ link_law ps sent received free a (length cs) h.ends }
 
 -- the alignment is at the good period on all lanes, where it is on one
 record AreThere (fed : Fed) (d e f start p q r : ℕ) : Type 0 where

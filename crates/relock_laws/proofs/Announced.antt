@@ -2,21 +2,20 @@
 -- the first of them as it was sent, they are announced.
 use Rattle.std.proofs.Common.{◌≡◌, ℕ, ◌+◌, ◌-◌, ◌<◌, ◌≤◌, Bool, true, false, ◌&&◌, ◌||◌, ◌==◌, List, [], ◌∷◌, ◌++◌, length, refl, ap, ap₂, sym, ◌∙◌, subst, arith, inl, inr, length-append, nat_le}
 use Rattle.std.proofs.lemmas.Bool.{eq-eqb, le-leb}
-use Rattle.std.proofs.lemmas.List.{get_or-append_right}
+use Rattle.std.proofs.lemmas.List.{length-map, get_or-append_right}
 use Rattle.tmds_word.specs.Column.{Column}
 use Rattle.terc4.specs.Tables.{terc_words, video_guard, island_guard, value_in}
 use Rattle.terc4.specs.Columns.{one_if, is_twelve_or_more, video_words, closing_words, island_words}
-use Rattle.island_pack.specs.Periods.{Period, control, video, island, values_of}
+use Rattle.island_pack.specs.Conforming.{IsConforming}
+use Rattle.island_pack.specs.Periods.{ControlRun, Period, control, video, island, values_of}
 use Rattle.island_pack.specs.Kinds.{EndsAt, kinds_of}
-use Rattle.island_pack.specs.Spelling.{guard_column}
+use Rattle.island_pack.specs.Spelling.{control_column, guard_column, SpellsPeriodBy, SpellsBy, freely}
 use Rattle.island_pack.specs.Sparse.{unlike_words, no_column, column_at, unlike_at}
-use Rattle.link_laws.specs.Laws.{ReceivedFreely, EndsControl}
+use Rattle.link_laws.specs.Laws.{EndsControl}
 use Rattle.link_laws.proofs.Conformed.{Conforms, conforming, IsInner, Follows, ends, goes_on}
 use Rattle.link_laws.proofs.EndPlaces.{kinds_from, ends_first, ends_only, control_kinds, kinds_size}
-use Rattle.link_laws.proofs.Framing.{arrived}
 use Rattle.link_laws.proofs.Guards.{lost, unlike, line_guard, is_blue}
-use Rattle.link_laws.proofs.Joining.{ArrivesPeriod, controls, pixels, packets, Arrives, nothing, more, sized}
-use Rattle.link_laws.proofs.Rows.{control_columns}
+use Rattle.link_laws.proofs.SpelledWords.{period_size_freely}
 use Rattle.relock_sink.specs.Relocks.{is_announced}
 use Rattle.relock_sink.specs.Rivals.{is_guard_band}
 
@@ -43,45 +42,49 @@ pair_after front cs n i k long at pair =
     subst (λ c. ArePair c (column_at (front ++ cs) (i + 1))) (sym here) (subst (λ c. ArePair (column_at cs k) c) (sym next) pair)
 
 -- a period opens with a pair
-opens : (vs : List ℕ) (x : Period) (own reception rest : List Column) → IsInner vs x → ArrivesPeriod x own reception → PairAt (own ++ rest) 0
+opens : (vs : List ℕ) (x : Period) (own rest : List Column) → IsInner vs x → SpellsPeriodBy freely x own → PairAt (own ++ rest) 0
 unfolding IsInner
-opens vs _ _ _ rest i (controls runs cs n all) = absurd i
-opens vs _ _ _ rest i (pixels bytes g h pp qq guards are) = of_line
-opens vs _ _ _ rest i (packets x g h c d pp qq guards are) = of_island x.opening.first x.opening.second i.1.open_first i.1.open_second
+opens vs (control runs) own rest i h = absurd i
+opens vs (video bytes) own rest i h = subst (λ cs. PairAt (cs ++ rest) 0) (sym h.1) of_line
+opens vs (island x) own rest i h = subst (λ cs. PairAt (cs ++ rest) 0) (sym h.1) (of_island x.opening.first x.opening.second i.1.open_first i.1.open_second)
 
-from_end : (vs : List ℕ) (tail : List Period) → Follows vs tail → (front ss rs : List Column) → length front ≡ length vs → Arrives tail ss rs
+-- control columns are as many as their values
+control_size : (runs : List ControlRun) (cs : List Column) → SpellsPeriodBy freely (control runs) cs → length cs ≡ length (values_of runs)
+control_size runs cs h = ap length h ∙ length-map (values_of runs) control_column
+
+from_end : (vs : List ℕ) (tail : List Period) → Follows vs tail → (front ss : List Column) → length front ≡ length vs → SpellsBy freely tail ss
     → (i : ℕ) → EndsAt (kinds_from vs tail) i → i + 1 < length (front ++ ss) → PairAt (front ++ ss) (i + 1)
-from_end _ _ (ends vs h) front _ _ long nothing i e lt = let last = ends_only vs i e in absurd (omega (arith, length-append front []))
-from_end _ _ (goes_on vs x runs rest h v f) front _ _ long (more _ _ own reception _ _ a (more _ _ _ _ ss rs (controls _ cs n all) b)) i e lt =
-    let cv = control_columns (values_of runs) in
-    elim (ends_first vs x (control runs ∷ rest) i v e) [
-      | inl here ↦ pair_after front (own ++ (cv ++ ss)) (length vs) (i + 1) 0 long (omega arith) (opens vs x own reception (cv ++ ss) v a)
+from_end _ _ (ends vs h) front ss long none i e lt =
+    let last = ends_only vs i e in
+    let all = length-append front ss in
+    let few = ap length none in
+    absurd (omega arith)
+from_end _ _ (goes_on vs x runs rest h v f) front ss long (own, others, are, spells, (cs, after, are_control, control_spells, more)) i e lt =
+    let all : ss ≡ own ++ (cs ++ after) = are ∙ ap (λ ds. own ++ ds) are_control in
+    let size = period_size_freely x own spells in
+    let cs_size = control_size runs cs control_spells in
+    let whole = ap length all in
+    let front_size = length-append front ss in
+    let own_size = length-append own (cs ++ after) in
+    let cs_long = length-append cs after in
+    subst (λ ds. PairAt (front ++ ds) (i + 1)) (sym all) (elim (ends_first vs x (control runs ∷ rest) i v e) [
+      | inl here ↦ pair_after front (own ++ (cs ++ after)) (length vs) (i + 1) 0 long (omega arith) (opens vs x own (cs ++ after) v spells)
       | inr later ↦
-          let size = sized x own reception a in
-          let sent_size = size.sent in
           let mid = kinds_size x in
           let place = later.place in
-          let c = sized (control runs) cv cs (controls runs cs n all) in
-          let sent_control = c.sent in
-          let got_control = c.received in
-          let all_long = length-append front (own ++ (cv ++ ss)) in
-          let own_long = length-append own (cv ++ ss) in
-          let pair = from_end (values_of runs) rest f cv ss rs (omega arith) b later.at (subst (λ ks. EndsAt ks later.at) (control_kinds runs rest) later.ends) (omega arith) in
-          pair_after front (own ++ (cv ++ ss)) (length vs) (i + 1) (length own + (later.at + 1)) long (omega arith)
-          (pair_after own (cv ++ ss) (length own) (length own + (later.at + 1)) (later.at + 1) refl refl pair)
-    ]
+          let pair = from_end (values_of runs) rest f cs after cs_size more later.at (subst (λ ks. EndsAt ks later.at) (control_kinds runs rest) later.ends) (omega arith) in
+          pair_after front (own ++ (cs ++ after)) (length vs) (i + 1) (length own + (later.at + 1)) long (omega arith)
+          (pair_after own (cs ++ after) (length own) (length own + (later.at + 1)) (later.at + 1) refl refl pair)
+    ])
 
-pair_of : (ps : List Period) (sent received : List Column) → Conforms ps → Arrives ps sent received
-    → (i : ℕ) → EndsAt (kinds_of ps) i → i + 1 < length sent → PairAt sent (i + 1)
+pair_of : (ps : List Period) (sent : List Column) → Conforms ps → SpellsBy freely ps sent → (i : ℕ) → EndsAt (kinds_of ps) i → i + 1 < length sent → PairAt sent (i + 1)
 unfolding Conforms
-pair_of [] sent received c arrives i e lt = absurd c
-pair_of (video bytes ∷ rest) sent received c arrives i e lt = absurd c
-pair_of (island x ∷ rest) sent received c arrives i e lt = absurd c
-pair_of (control runs ∷ rest) _ _ c (more _ _ _ _ ss rs (controls _ cs n all) arrives) i e lt =
-    let size = sized (control runs) (control_columns (values_of runs)) cs (controls runs cs n all) in
-    let sent_size = size.sent in
-    let got_size = size.received in
-    from_end (values_of runs) rest c (control_columns (values_of runs)) ss rs (omega arith) arrives i (subst (λ ks. EndsAt ks i) (control_kinds runs rest) e) lt
+pair_of [] sent c spells i e lt = absurd c
+pair_of (video bytes ∷ rest) sent c spells i e lt = absurd c
+pair_of (island x ∷ rest) sent c spells i e lt = absurd c
+pair_of (control runs ∷ rest) sent c (cs, ss, are, control_spells, more) i e lt =
+    subst (λ ds. PairAt ds (i + 1)) (sym are)
+    (from_end (values_of runs) rest c cs ss (control_size runs cs control_spells) more i (subst (λ ks. EndsAt ks i) (control_kinds runs rest) e) (subst (λ ds. i + 1 < length ds) are lt))
 
 -- The columns as received.
 
@@ -141,9 +144,8 @@ self_unlike s = grind (arith, eq-eqb)
 none_unlike : (s r : Column) → r ≡ s → unlike s r ≡ 0
 none_unlike s r e = ap (unlike s) e ∙ self_unlike s
 
-pub pair_at : (ps : List Period) (sent received : List Column) → ReceivedFreely ps sent received → (i j : ℕ) → EndsControl ps i → j ≡ i + 1 → j < length sent → PairAt sent j
-pair_at ps sent received reception i j e at lt =
-    subst (PairAt sent) (sym at) (pair_of ps sent received (conforming ps reception.conforming) (arrived ps sent received reception) i e (omega arith))
+pub pair_at : (ps : List Period) (sent : List Column) → IsConforming ps → SpellsBy freely ps sent → (i j : ℕ) → EndsControl ps i → j ≡ i + 1 → j < length sent → PairAt sent j
+pair_at ps sent conforms spells i j e at lt = subst (PairAt sent) (sym at) (pair_of ps sent (conforming ps conforms) spells i e (omega arith))
 
 -- the first of the two as it was sent, and the second but for one character
 pub announced_at : (sent received : List Column) (i j : ℕ) → j ≡ i + 1 → PairAt sent i → column_at received i ≡ column_at sent i → unlike_at sent received j ≤ 1

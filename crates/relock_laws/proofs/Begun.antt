@@ -24,7 +24,7 @@ use Rattle.link_laws.proofs.Lanes.{few_marked, fitting_at}
 use Rattle.link_laws.proofs.Shapes.{alternating}
 use Rattle.link_laws.proofs.Spelled.{FitsWord, FitsColumn, fitting_freely}
 use Rattle.relock_laws.specs.Doubted.{BeginsUntil, IsBeginSpared}
-use Rattle.relock_laws.proofs.Spared.{IsLaneFrom, three_after, spared_fits}
+use Rattle.relock_laws.proofs.Spared.{IsLaneFrom, three_after, spelled_freely, spared_fits}
 
 -- The columns.
 
@@ -126,7 +126,7 @@ begun_lane g ps sent received j i reception begins spared late long of few =
     word k lt = get_or-map g received k no_column 0 lt
 
     fits : (k : ℕ) → unlike_at sent received k ≡ 0 → k < length received → FitsWord (kind_at (kinds_of ps) k) (g (column_at received k))
-    fits k none lt = of (kind_at (kinds_of ps) k) (column_at received k) (spared_fits ps sent received reception k none lt)
+    fits k none lt = of (kind_at (kinds_of ps) k) (column_at received k) (spared_fits ps sent received (spelled_freely ps sent received reception) k none lt)
 
     mark : (k : ℕ) → j ≤ k → k ≤ i → is_control (get_or (map g received) k 0) ≡ false → get_or (damaged (map g sent) (map g received)) k false ≡ true
     mark k low high none = true_from_ne_false (get_or (damaged (map g sent) (map g received)) k false) (λ plain.

@@ -16,7 +16,6 @@ use Rattle.island_pack.specs.Kinds.{Kind, control_column, kinds_of, kind_at, End
 use Rattle.island_pack.specs.Periods.{Period}
 use Rattle.island_pack.specs.Sparse.{no_column, column_at}
 use Rattle.link_laws.specs.Alternating.{IsAlternating}
-use Rattle.link_laws.specs.Local.{ReceivedUntil}
 use Rattle.link_laws.proofs.Guards.{one_at_most}
 use Rattle.link_laws.proofs.LaneEnds.{kind_cases}
 use Rattle.link_laws.proofs.Lanes.{fitting_at}
@@ -27,10 +26,11 @@ use Rattle.link_laws.proofs.Tapped.{characters}
 use Rattle.link_sink.specs.Sinks.{Fed}
 use Rattle.relock_sink.specs.Rivals.{middle, columns_before, is_guard_band}
 use Rattle.relock_sink.specs.Doubts.{IsContender}
-use Rattle.relock_laws.specs.Doubted.{is_guard_word, IsUnmistaken, IsUnmistakenColumn, HasClearEnds, ClearHasNoContender}
+use Rattle.relock_laws.specs.Doubted.{is_guard_word, IsUnmistaken, IsUnmistakenColumn, ClearHasNoContender}
+use Rattle.relock_laws.specs.WholeAmid.{HasClearEndsFrom}
 use Rattle.relock_laws.proofs.Refuting.{between}
-use Rattle.relock_laws.proofs.Spared.{IsLaneFrom, three_after, RunEnds, run_ends}
-use Rattle.relock_laws.proofs.Undoubted.{lane_from, same_there}
+use Rattle.relock_laws.proofs.Spared.{AreSpelled, IsLaneFrom, three_after, RunEnds, run_ends}
+use Rattle.relock_laws.proofs.Undoubted.{lane_from, same_there, AreAfter, enough_before}
 use Rattle.relock_laws.proofs.Upholding.{AreFrom, column_there}
 use Rattle.relock_laws.proofs.Windows.{words_of_column}
 
@@ -101,10 +101,10 @@ record IsClearLane (kinds : List Kind) (words : List ℕ) (i : ℕ) : Type 0 whe
 of_kind : (k : Kind) (w : ℕ) → FitsWord k w → is_control w ≡ true → k ≡ control_column
 of_kind k w fits control = kind_cases (k ≡ control_column) k (λ is. is) (λ apart. absurd (true≢false (sym control ∙ few_turns w (fits.others apart))))
 
-clear_lane : (g : Column → ℕ) (ps : List Period) (sent received : List Column) (until i : ℕ) → ReceivedUntil ps sent received until
+clear_lane : (g : Column → ℕ) (ps : List Period) (sent received : List Column) (i : ℕ) → AreSpelled ps sent received
     → ((k : Kind) (c : Column) → FitsColumn k c → FitsWord k (g c))
     → ((k : ℕ) → i < k + 15 → k ≤ i + 3 → IsUnmistaken (g (column_at sent k)) (g (column_at received k))) → IsClearLane (kinds_of ps) (map g received) i
-clear_lane g ps sent received until i h of clear =
+clear_lane g ps sent received i h of clear =
     let size = length-map received g in
     let long = h.same_length in
     let word : (k : ℕ) → k < length received → get_or (map g received) k 0 ≡ g (column_at received k) = λ k lt. get_or-map g received k no_column 0 lt in
@@ -157,13 +157,13 @@ one_run kinds words alternates i m ends clear follows low high = elim (cases_lt 
 ]
 
 -- an edge with a guard word, as many whole characters after that of the alignment
-edge_follows : (words : List ℕ) (xs : List Bool) (p a d w : ℕ) → IsLaneFrom words xs p 0 a → IsEdge xs d → 120 ≤ p → p < d → p % 10 ≡ d % 10
-    → window xs (d - 120 + 10 * 12) ≡ Some w → is_guard_word w ≡ true → GuardFollows words (a + (11 + (d - p) / 10))
-edge_follows words xs p a d w lane edge past later whole here guard =
+edge_follows : (words : List ℕ) (xs : List Bool) (p n a d w m : ℕ) → IsLaneFrom words xs p n a → IsEdge xs d → 120 ≤ p → p + 10 * n ≤ d → p % 10 ≡ d % 10 → m + n ≡ a + (11 + (d - p) / 10)
+    → window xs (d - 120 + 10 * 12) ≡ Some w → is_guard_word w ≡ true → GuardFollows words m
+edge_follows words xs p n a d w m lane edge past later whole place here guard =
     let c = (d - p) / 10 in
     let at : d - 120 + 10 * 12 ≡ p - 120 + 10 * (c + 12) = omega arith in
-    let word = lane (a + (11 + c) + 1) (c + 12) w (omega arith) (omega arith) (ap (window xs) (sym at) ∙ here) in
-    record { run = run_ends words xs p 0 a d (a + (11 + c)) lane edge past whole (omega arith) (omega arith); guard = ap is_guard_word word.is ∙ guard }
+    let word = lane (m + 1) (c + 12) w (omega arith) (omega arith) (ap (window xs) (sym at) ∙ here) in
+    record { run = run_ends words xs p n a d m lane edge past whole later place; guard = ap is_guard_word word.is ∙ guard }
 
 -- Three lanes.
 
@@ -210,14 +210,17 @@ all_same kinds us vs ws alternates i l m n b g w one =
     ] in
     (lane_same kinds us alternates i l ends b, lane_same kinds vs alternates i m ends g, lane_same kinds ws alternates i n ends w)
 
-none_contends : (ps : List Period) (sent received : List Column) (until : ℕ) → ReceivedUntil ps sent received until → HasClearEnds sent received → (x : Fed) (p q r a : ℕ)
-    → AreFrom received x p q r 0 a → (d e f : ℕ) → IsContender x p q r d e f → ⊥
-none_contends ps sent received until h clear x p q r a are d e f is =
+-- no edges contend where the ends of control periods are clear from a column on, and the alignment's characters from its column n on are those
+-- of received columns
+pub none_contends : (ps : List Period) (sent received : List Column) (from : ℕ) → AreSpelled ps sent received → HasClearEndsFrom sent received from → (x : Fed) (p q r n a : ℕ)
+    → AreFrom received x p q r n a → (d e f : ℕ) → IsContender x p q r d e f → AreAfter p q r n d e f → from + n ≤ a + (11 + columns_before p q r d e f) → ⊥
+none_contends ps sent received from h clear x p q r n a are d e f is after late =
     let c = columns_before p q r d e f in
-    let i = a + (11 + c) in
+    let enough = enough_before p q r n d e f after in
+    let i = a + (11 + c) - n in
     let o = is.period in
-    let l = column_there received x p q r 0 a i (11 + c) o.last are (omega arith) (omega arith) o.is_last in
-    let g = column_there received x p q r 0 a (i + 1) (11 + c + 1) o.first are (omega arith) (omega arith) o.is_first in
+    let l = column_there received x p q r n a i (11 + c) o.last are (omega arith) (omega arith) o.is_last in
+    let g = column_there received x p q r n a (i + 1) (11 + c + 1) o.first are (omega arith) (omega arith) o.is_first in
     let control = ap is_control_column l.1 ∙ o.control in
     let ends = ap is_control_column g.1 ∙ o.ends in
     let t = is.later.triple in
@@ -228,40 +231,43 @@ none_contends ps sent received until h clear x p q r a are d e f is =
     let lb = is.later.blue_later in
     let lg = is.later.green_later in
     let lr = is.later.red_later in
-    let n = between x p q r d e f is.later.own t lb lg lr in
-    let over_b = n.near.first_over in
-    let under_b = n.near.first_under in
-    let over_g = n.near.second_over in
-    let under_g = n.near.second_under in
-    let over_r = n.near.third_over in
-    let under_r = n.near.third_under in
+    let ab = after.blue in
+    let ag = after.green in
+    let ar = after.red in
+    let w = between x p q r d e f is.later.own t lb lg lr in
+    let over_b = w.near.first_over in
+    let under_b = w.near.first_under in
+    let over_g = w.near.second_over in
+    let under_g = w.near.second_under in
+    let over_r = w.near.third_over in
+    let under_r = w.near.third_under in
     let band = is.later.band in
     let guards = band_guards band.here band.next band.so in
     let words = words_of_column x.blue x.green x.red d e f 12 band.here band.is_here in
     let kinds = kinds_of ps in
-    let unmistaken : (k : ℕ) → i < k + 15 → k ≤ i + 3 → IsUnmistakenColumn (column_at sent k) (column_at received k) = λ k low high. clear i k control ends low high in
-    let blue : IsLaneThere kinds (blues received) i (a + (11 + (d - p) / 10)) =
+    let unmistaken : (k : ℕ) → i < k + 15 → k ≤ i + 3 → IsUnmistakenColumn (column_at sent k) (column_at received k) = λ k low high. clear i k (omega arith) control ends low high in
+    let blue : IsLaneThere kinds (blues received) i (a + (11 + (d - p) / 10) - n) =
     record {
-      clear = clear_lane (λ c. c.blue) ps sent received until i h (λ k c fits. fits.blue) (λ k low high. (unmistaken k low high).blue);
-      follows = edge_follows (blues received) x.blue p a d band.here.blue are.blue t.blue (omega arith) lb n.blue_whole words.blue_is guards.blue;
+      clear = clear_lane (λ c. c.blue) ps sent received i h (λ k c fits. fits.blue) (λ k low high. (unmistaken k low high).blue);
+      follows = edge_follows (blues received) x.blue p n a d band.here.blue _ are.blue t.blue (omega arith) ab w.blue_whole (omega arith) words.blue_is guards.blue;
       low = omega arith;
       high = omega arith;
     } in
-    let green : IsLaneThere kinds (greens received) i (a + (11 + (e - q) / 10)) =
+    let green : IsLaneThere kinds (greens received) i (a + (11 + (e - q) / 10) - n) =
     record {
-      clear = clear_lane (λ c. c.green) ps sent received until i h (λ k c fits. fits.green) (λ k low high. (unmistaken k low high).green);
-      follows = edge_follows (greens received) x.green q a e band.here.green are.green t.green (omega arith) lg n.green_whole words.green_is guards.green;
+      clear = clear_lane (λ c. c.green) ps sent received i h (λ k c fits. fits.green) (λ k low high. (unmistaken k low high).green);
+      follows = edge_follows (greens received) x.green q n a e band.here.green _ are.green t.green (omega arith) ag w.green_whole (omega arith) words.green_is guards.green;
       low = omega arith;
       high = omega arith;
     } in
-    let red : IsLaneThere kinds (reds received) i (a + (11 + (f - r) / 10)) =
+    let red : IsLaneThere kinds (reds received) i (a + (11 + (f - r) / 10) - n) =
     record {
-      clear = clear_lane (λ c. c.red) ps sent received until i h (λ k c fits. fits.red) (λ k low high. (unmistaken k low high).red);
-      follows = edge_follows (reds received) x.red r a f band.here.red are.red t.red (omega arith) lr n.red_whole words.red_is guards.red;
+      clear = clear_lane (λ c. c.red) ps sent received i h (λ k c fits. fits.red) (λ k low high. (unmistaken k low high).red);
+      follows = edge_follows (reds received) x.red r n a f band.here.red _ are.red t.red (omega arith) ar w.red_whole (omega arith) words.red_is guards.red;
       low = omega arith;
       high = omega arith;
     } in
-    let one : (a + (11 + (d - p) / 10) ≡ i) ⊎ ((a + (11 + (e - q) / 10) ≡ i) ⊎ (a + (11 + (f - r) / 10) ≡ i)) = elim (middle_is ((d - p) / 10) ((e - q) / 10) ((f - r) / 10)) [
+    let one : (a + (11 + (d - p) / 10) - n ≡ i) ⊎ ((a + (11 + (e - q) / 10) - n ≡ i) ⊎ (a + (11 + (f - r) / 10) - n ≡ i)) = elim (middle_is ((d - p) / 10) ((e - q) / 10) ((f - r) / 10)) [
       | inl at ↦ inl (omega arith)
       | inr other ↦ elim other [ inl at ↦ inr (inl (omega arith)) | inr at ↦ inr (inr (omega arith)) ]
     ] in
@@ -269,7 +275,7 @@ none_contends ps sent received until h clear x p q r a are d e f is =
     let all_b = all.0 in
     let all_g = all.1 in
     let all_r = all.2 in
-    let same = skew_there p q r d e f c lb lg lr n.blue_whole n.green_whole n.red_whole (omega arith) (omega arith) (omega arith) in
+    let same = skew_there p q r d e f c lb lg lr w.blue_whole w.green_whole w.red_whole (omega arith) (omega arith) (omega arith) in
     is.other_skew (same_there p q r d e f c same.0 same.1 same.2)
 
 -- The first alignment, whatever follows.
@@ -292,5 +298,9 @@ clear_has_no_contender ps sent received offset skews counts x until h tapped sma
       green = lane_from (greens received) x.green (offset + slice_index skews 1) (slice_index counts 1) found.1 a (characters (λ l. l.green) received (λ k lt. (h.characters k lt).green)) tapped.green_part.bits_are (omega arith) (omega arith);
       red = lane_from (reds received) x.red (offset + slice_index skews 2) (slice_index counts 2) found.2 a (characters (λ l. l.red) received (λ k lt. (h.characters k lt).red)) tapped.red_part.bits_are (omega arith) (omega arith);
     } in
-    none_contends ps sent received until h clear x p q r a
+    let lb = is.later.blue_later in
+    let lg = is.later.green_later in
+    let lr = is.later.red_later in
+    none_contends ps sent received 0 (record { conforming = h.conforming; spelled = h.spelled; same_length = h.same_length }) (λ i k late control ends low high. clear i k control ends low high) x p q r 0 a
     (subst (λ n. AreFrom received x n q r 0 a) same.0 (subst (λ n. AreFrom received x found.0 n r 0 a) same.1 (subst (λ n. AreFrom received x found.0 found.1 n 0 a) same.2 are))) d e f is
+    (record { blue = omega arith; green = omega arith; red = omega arith }) (omega arith)

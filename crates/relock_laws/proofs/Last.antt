@@ -61,7 +61,7 @@ pub confirmed_at : (ps : List Period) (sent received : List Column) → Received
     → IsAccounted ps sent received (aligned_columns x.blue x.green x.red d e f) a → column_at received (a + 12) ≡ column_at sent (a + 12)
     → IsUnconfirmed x d e f → ⊥
 confirmed_at ps sent received reception x d e f a is same u =
-    confirmed_by sent received reception.sparse.same_length x d e f a is.columns (λ lt. pair_at ps sent received reception (a + 11) (a + 12) is.ends (omega arith) lt) same (reception.sparse.one_a_column (a + 13)) u
+    confirmed_by sent received reception.sparse.same_length x d e f a is.columns (λ lt. pair_at ps sent reception.conforming reception.spelled (a + 11) (a + 12) is.ends (omega arith) lt) same (reception.sparse.one_a_column (a + 13)) u
 
 -- what follows a control period is no payload
 pub guard_after : (ps : List Period) → IsConforming ps → (a : ℕ) → EndsAt (kinds_of ps) (a + 11) → IsPayload (kind_at (kinds_of ps) (a + 12)) → ⊥
@@ -140,7 +140,7 @@ local_is_last ps sent received offset skews counts x until h tapped small aligns
     record {
       no_stray = none;
       confirmed = λ d e f u.
-          confirmed_by sent received h.same_length x found.0 found.1 found.2 a end.4 (λ lt. pair_at ps sent cs free (a + 11) (a + 12) end.1 (omega arith) lt)
+          confirmed_by sent received h.same_length x found.0 found.1 found.2 a end.4 (λ lt. pair_at ps sent free.conforming free.spelled (a + 11) (a + 12) end.1 (omega arith) lt)
           (aligns.spares (a + 12) before (guard_after ps h.conforming a end.1))
           (one_unlike ps sent received until h (omega arith) next (a + 13) (omega arith))
           (unconfirmed_at x d e f found.0 found.1 found.2 found.3 u);

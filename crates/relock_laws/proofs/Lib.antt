@@ -34,3 +34,6 @@ pub mod WholeSettling
 pub mod SkewedExample
 pub mod WholeFromExample
 pub mod WholeColumns
+pub mod WholeAmid
+pub mod ShortStream
+pub mod AmidExample

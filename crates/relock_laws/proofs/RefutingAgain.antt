@@ -17,14 +17,14 @@ use Rattle.track_sink.specs.Epochs.{rest_of}
 use Rattle.track_sink.specs.declared.watch.Cause.TheVariants.{Slip}
 use Rattle.relock_sink.specs.Bands.{OpensNothing, unopened_kept}
 use Rattle.relock_sink.specs.Rivals.{HaveSameSkew, IsRefuted, middle, columns_before}
-use Rattle.relock_sink.specs.Doubts.{IsDoubted, IsLetGo}
+use Rattle.relock_sink.specs.Doubts.{IsContender, IsDoubted, IsLetGo}
 use Rattle.relock_sink.specs.RefutedDecided.{later_of}
 use Rattle.relock_sink.specs.Refuting.{refuting_rule}
 use Rattle.relock_laws.specs.Settled.{IsAgain, IsGoodPeriod}
 use Rattle.relock_laws.specs.Refuted.{GoesOn}
 use Rattle.relock_laws.specs.RefutingSettled.{IsWholeGoodPeriod, IsSettledBy, SameSkewIsLast, RecoversUnrefuted}
 use Rattle.relock_laws.specs.Doubted.{EachIsSpared}
-use Rattle.relock_laws.proofs.Again.{accounted, accounted_there, calm_again, long_lane}
+use Rattle.relock_laws.proofs.Again.{IsTapAfter, tap_again, accounted, accounted_there, calm_again, long_lane}
 use Rattle.relock_laws.proofs.Ending.{none_unconfirmed}
 use Rattle.relock_laws.proofs.Doubting.{no_edge_after}
 use Rattle.relock_laws.proofs.GoodPeriod.{HasLast, earlier_edge}
@@ -43,11 +43,11 @@ use Rattle.relock_laws.proofs.Windows.{column_moved, rest_window, back_window}
 -- Where edges lie.
 
 -- an edge of the epoch lies before the nineteen characters, or at their end and past it
-data IsPlaced (d z i : ℕ) : Type 0 where
+pub data IsPlaced (d z i : ℕ) : Type 0 where
   earlier : z + i + 200 ≤ d → IsPlaced d z i
   later : d ≤ z + i → IsPlaced d z i
 
-placed : (xs : List Bool) (d least z i : ℕ) → HasLast xs d least z → IsEdge (drop z xs) i → IsPlaced d z i
+pub placed : (xs : List Bool) (d least z i : ℕ) → HasLast xs d least z → IsEdge (drop z xs) i → IsPlaced d z i
 placed xs d least z i h edge = elim (cases_lt d (z + i)) [
   | inl past ↦ later (omega arith)
   | inr before ↦ elim (earlier_edge xs d least z i h edge before) [
@@ -57,21 +57,21 @@ placed xs d least z i h edge = elim (cases_lt d (z + i)) [
 ]
 
 -- a triple of the epoch lies so on all three lanes
-data ArePlaced (d e f z i j k : ℕ) : Type 0 where
+pub data ArePlaced (d e f z i j k : ℕ) : Type 0 where
   all_earlier : z + i + 200 ≤ d → z + j + 200 ≤ e → z + k + 200 ≤ f → ArePlaced d e f z i j k
   all_later : d ≤ z + i → e ≤ z + j → f ≤ z + k → ArePlaced d e f z i j k
 
 -- three places, any two near each other
-record AreClose (d e f : ℕ) : Type 0 where
-  blue_green : d ≤ e + 70
-  green_blue : e ≤ d + 70
-  blue_red : d ≤ f + 70
-  red_blue : f ≤ d + 70
+pub record AreClose (d e f : ℕ) : Type 0 where
+  pub blue_green : d ≤ e + 70
+  pub green_blue : e ≤ d + 70
+  pub blue_red : d ≤ f + 70
+  pub red_blue : f ≤ d + 70
 
-close : (fed : Fed) (d e f : ℕ) → IsTriple fed.blue fed.green fed.red d e f → AreClose d e f
+pub close : (fed : Fed) (d e f : ℕ) → IsTriple fed.blue fed.green fed.red d e f → AreClose d e f
 close fed d e f t = record { blue_green = t.blue_green.0; green_blue = t.blue_green.1; blue_red = t.blue_red.0; red_blue = t.blue_red.1 }
 
-together : (d e f z i j k : ℕ) → AreClose d e f → AreClose i j k → IsPlaced d z i → IsPlaced e z j → IsPlaced f z k → ArePlaced d e f z i j k
+pub together : (d e f z i j k : ℕ) → AreClose d e f → AreClose i j k → IsPlaced d z i → IsPlaced e z j → IsPlaced f z k → ArePlaced d e f z i j k
 together d e f z i j k own other (earlier a) (earlier b) (earlier c) = all_earlier a b c
 together d e f z i j k own other (later a) (later b) (later c) = all_later a b c
 together d e f z i j k own other (earlier a) (later b) c = let x = own.blue_green in let y = other.green_blue in absurd (omega arith)
@@ -88,15 +88,15 @@ nothing_moved fed p q r d e f n j i a b c x y v at o =
     (λ g is. column_moved fed p q r d e f n (j + 2) (i + 2) a b c x y v (omega arith) ∙ is) o
 
 -- later edges have no fewer columns before them
-more_before : (a b c n : ℕ) → n ≤ a → n ≤ b → n ≤ c → n ≤ middle a b c
+pub more_before : (a b c n : ℕ) → n ≤ a → n ≤ b → n ≤ c → n ≤ middle a b c
 more_before a b c n x y z = omega arith
 
-few_columns : (p d z i n : ℕ) → p + 10 * n ≡ d - z → d ≤ z + i → n ≤ (i - p) / 10
+pub few_columns : (p d z i n : ℕ) → p + 10 * n ≡ d - z → d ≤ z + i → n ≤ (i - p) / 10
 few_columns p d z i n at past = omega arith
 
 -- It is let go for no earlier edges, nor refuted by later ones.
 
-not_earlier : (fed : Fed) (d e f z p q r i j k : ℕ) → IsGoodPeriod fed d e f → HaveLast fed d e f z → EndsLateBy refuting_rule fed z (least_of d e f)
+pub not_earlier : (fed : Fed) (d e f z p q r i j k : ℕ) → IsGoodPeriod fed d e f → HaveLast fed d e f z → EndsLateBy refuting_rule fed z (least_of d e f)
     → z + i + 200 ≤ d → z + j + 200 ≤ e → z + k + 200 ≤ f → IsLetGo (rest_of z fed) p q r i j k → ⊥
 not_earlier fed d e f z p q r i j k good h late x y v is =
     let b = long_lane fed.blue d good.blue in
@@ -146,23 +146,71 @@ lane_again words from many z b d p n a xs us below is after begins whole past th
     let mine = rest_window b xs (z + (p - 120 + 10 * j)) w low back in
     part_word words from many (z + (p - 120 + 10 * j) - b) i w below (subst (λ ys. window ys (z + (p - 120 + 10 * j) - b) ≡ Some w) (after ∙ is) mine) (omega arith)
 
-columns_again : (ps : List Period) (sent received : List Column) (offset : ℕ) (skews counts : List ℕ) (x fed : Fed) (before : List ℕ) (a d e f z p q r n : ℕ)
-    → IsAgain ps sent received offset skews counts x fed before a d e f → 120 ≤ p → 120 ≤ q → 120 ≤ r → z + p + 10 * n ≡ d → z + q + 10 * n ≡ e → z + r + 10 * n ≡ f
+pub columns_again : (received : List Column) (offset : ℕ) (skews counts : List ℕ) (x fed : Fed) (before : List ℕ) (a d e f z p q r n : ℕ)
+    → IsTapAfter received offset skews counts x fed before a d e f → 120 ≤ p → 120 ≤ q → 120 ≤ r → z + p + 10 * n ≡ d → z + q + 10 * n ≡ e → z + r + 10 * n ≡ f
     → AreFrom received (rest_of z fed) p q r n a
-columns_again ps sent received offset skews counts x fed before a d e f z p q r n again b g v bn gn vn =
-    let tapped = again.reception.tapped in
-    let h = again.reception.reception.sparse in
-    let at_b = again.blue in
-    let at_g = again.green in
-    let at_r = again.red in
+columns_again received offset skews counts x fed before a d e f z p q r n h b g v bn gn vn =
+    let tapped = h.tapped in
+    let at_b = h.blue in
+    let at_g = h.green in
+    let at_r = h.red in
     record {
       blue = lane_again (blues received) (offset + slice_index skews 0) (slice_index counts 0) z (slice_index before 0) d p n a fed.blue x.blue
-          (characters (λ l. l.blue) received (λ k lt. (h.characters k lt).blue)) tapped.blue_part.bits_are again.blue_after (omega arith) again.blue_whole b bn;
+          (characters (λ l. l.blue) received (λ k lt. (h.narrow k lt).blue)) tapped.blue_part.bits_are h.blue_after (omega arith) h.blue_whole b bn;
       green = lane_again (greens received) (offset + slice_index skews 1) (slice_index counts 1) z (slice_index before 1) e q n a fed.green x.green
-          (characters (λ l. l.green) received (λ k lt. (h.characters k lt).green)) tapped.green_part.bits_are again.green_after (omega arith) again.green_whole g gn;
+          (characters (λ l. l.green) received (λ k lt. (h.narrow k lt).green)) tapped.green_part.bits_are h.green_after (omega arith) h.green_whole g gn;
       red = lane_again (reds received) (offset + slice_index skews 2) (slice_index counts 2) z (slice_index before 2) f r n a fed.red x.red
-          (characters (λ l. l.red) received (λ k lt. (h.characters k lt).red)) tapped.red_part.bits_are again.red_after (omega arith) again.red_whole v vn;
+          (characters (λ l. l.red) received (λ k lt. (h.narrow k lt).red)) tapped.red_part.bits_are h.red_after (omega arith) h.red_whole v vn;
     }
+
+-- edges that contend with an alignment of the skew of a good control period, and lie no earlier than that, lie past it where the alignment is
+-- there, or the guard band there is received whole
+module _ (fed : Fed) (d e f z p q r : ℕ) (good : IsGoodPeriod fed d e f) (h : HaveLast fed d e f z) (same : HaveSameSkew p q r d e f) (i j k : ℕ) (is : IsContender (rest_of z fed) p q r i j k)
+    (lb : d ≤ z + i) (lg : e ≤ z + j) (lv : f ≤ z + k) where
+  there : (xs : List Bool) (d i : ℕ) → IsEdge xs d → GoesOn xs d → IsEdge xs i → d ≤ i → i ≤ d + 140 → d ≡ i
+  there xs d i own on edge le near = elim (cases_lt d i) [
+    | inl past ↦ absurd (no_edge_after xs d i own on edge past near)
+    | inr upto ↦ omega arith
+  ]
+
+  -- all three lie past the good control period
+  past_there : z + p ≡ d → (d < z + i) × (e < z + j) × (f < z + k)
+  past_there at =
+      let x = is.later.blue_later in
+      let y = is.later.green_later in
+      let v = is.later.red_later in
+      let same0 = same.0 in
+      let same1 = same.1 in
+      (omega arith, omega arith, omega arith)
+
+  past_whole : IsWholeGoodPeriod fed d e f → z + p < d → (d < z + i) × (e < z + j) × (f < z + k)
+  past_whole w before =
+      let own = triple_at fed d e f z good h in
+      let far = edges_apart (drop z fed.blue) p (d - z) is.later.own.first.triple.blue own.blue (omega arith) in
+      let de0 = good.blue_green.0 in
+      let de1 = good.blue_green.1 in
+      let df0 = good.blue_red.0 in
+      let df1 = good.blue_red.1 in
+      let period = rest_period fed d e f z w h (omega arith) (omega arith) (omega arith) in
+      let u = is.later.triple in
+      let ij0 = u.blue_green.0 in
+      let ij1 = u.blue_green.1 in
+      let ik0 = u.blue_red.0 in
+      let ik1 = u.blue_red.1 in
+      elim (cases_lt (d + 140) (z + i)) [
+        | inl past ↦ (omega arith, omega arith, omega arith)
+        | inr near ↦
+            let x = there (drop z fed.blue) (d - z) i period.triple.blue period.blue_on u.blue (omega arith) (omega arith) in
+            let y = there (drop z fed.green) (e - z) j period.triple.green period.green_on u.green (omega arith) (omega arith) in
+            let v = there (drop z fed.red) (f - z) k period.triple.red period.red_on u.red (omega arith) (omega arith) in
+            let same0 = same.0 in
+            let same1 = same.1 in
+            absurd (is.other_skew (omega arith, omega arith))
+      ]
+
+  pub past_all : z + p ≤ d → (z + p ≡ d) ⊎ IsWholeGoodPeriod fed d e f → (d < z + i) × (e < z + j) × (f < z + k)
+  past_all pb (inl at) = past_there at
+  past_all pb (inr w) = elim (cases_lt (z + p) d) [ inl before ↦ past_whole w before | inr at ↦ past_there (omega arith) ]
 
 -- it is doubted for no later edges where it is aligned there, or the guard band there is received whole
 not_doubted_later : (ps : List Period) (sent received : List Column) (offset : ℕ) (skews counts : List ℕ) (x fed : Fed) (before : List ℕ) (a d e f z p q r : ℕ)
@@ -187,62 +235,14 @@ not_doubted_later ps sent received offset skews counts x fed before a d e f z p 
     let bn : z + p + 10 * n ≡ d = omega arith in
     let gn : z + q + 10 * n ≡ e = omega arith in
     let vn : z + r + 10 * n ≡ f = omega arith in
-    let are = columns_again ps sent received offset skews counts x fed before a d e f z p q r n again (omega arith) (omega arith) (omega arith) bn gn vn in
-    let past = past_all in
+    let are = columns_again received offset skews counts x fed before a d e f z p q r n (tap_again ps sent received offset skews counts x fed before a d e f again) (omega arith) (omega arith) (omega arith) bn gn vn in
+    let past = past_all fed d e f z p q r again.good h same i j k is.contender lb lg lv pb good in
     let x = past.0 in
     let y = past.1 in
     let v = past.2 in
     let after : AreAfter p q r n i j k = record { blue = omega arith; green = omega arith; red = omega arith } in
     let more = more_before ((i - p) / 10) ((j - q) / 10) ((k - r) / 10) (n + 1) (omega arith) (omega arith) (omega arith) in
     later_undoubted ps sent received (free_received ps sent received again.reception.reception) (rest_of z fed) p q r n a are (a + 12) each_is_spared again.ends i j k is after (omega arith) (omega arith)
-  where
-    there : (xs : List Bool) (d i : ℕ) → IsEdge xs d → GoesOn xs d → IsEdge xs i → d ≤ i → i ≤ d + 140 → d ≡ i
-    there xs d i own on edge le near = elim (cases_lt d i) [
-      | inl past ↦ absurd (no_edge_after xs d i own on edge past near)
-      | inr upto ↦ omega arith
-    ]
-
-    -- all three lie past the good control period
-    past_there : z + p ≡ d → (d < z + i) × (e < z + j) × (f < z + k)
-    past_there at =
-        let x = is.contender.later.blue_later in
-        let y = is.contender.later.green_later in
-        let v = is.contender.later.red_later in
-        let same0 = same.0 in
-        let same1 = same.1 in
-        (omega arith, omega arith, omega arith)
-
-    past_whole : IsWholeGoodPeriod fed d e f → z + p < d → (d < z + i) × (e < z + j) × (f < z + k)
-    past_whole w before =
-        let own = triple_at fed d e f z again.good h in
-        let far = edges_apart (drop z fed.blue) p (d - z) is.contender.later.own.first.triple.blue own.blue (omega arith) in
-        let good = again.good in
-        let de0 = good.blue_green.0 in
-        let de1 = good.blue_green.1 in
-        let df0 = good.blue_red.0 in
-        let df1 = good.blue_red.1 in
-        let period = rest_period fed d e f z w h (omega arith) (omega arith) (omega arith) in
-        let u = is.contender.later.triple in
-        let ij0 = u.blue_green.0 in
-        let ij1 = u.blue_green.1 in
-        let ik0 = u.blue_red.0 in
-        let ik1 = u.blue_red.1 in
-        elim (cases_lt (d + 140) (z + i)) [
-          | inl past ↦ (omega arith, omega arith, omega arith)
-          | inr near ↦
-              let x = there (drop z fed.blue) (d - z) i period.triple.blue period.blue_on u.blue (omega arith) (omega arith) in
-              let y = there (drop z fed.green) (e - z) j period.triple.green period.green_on u.green (omega arith) (omega arith) in
-              let v = there (drop z fed.red) (f - z) k period.triple.red period.red_on u.red (omega arith) (omega arith) in
-              let same0 = same.0 in
-              let same1 = same.1 in
-              absurd (is.contender.other_skew (omega arith, omega arith))
-        ]
-
-    past_all : (d < z + i) × (e < z + j) × (f < z + k)
-    past_all = elim good [
-      | inl at ↦ past_there at
-      | inr w ↦ elim (cases_lt (z + p) d) [ inl before ↦ past_whole w before | inr at ↦ past_there (omega arith) ]
-    ]
 
 same_skew_stands : (ps : List Period) (sent received : List Column) (offset : ℕ) (skews counts : List ℕ) (x fed : Fed) (before : List ℕ) (a d e f : ℕ)
     → IsAgain ps sent received offset skews counts x fed before a d e f → EachIsSpared ps sent received (a + 12)
@@ -283,7 +283,7 @@ same_skew_stands ps sent received offset skews counts x fed before a d e f again
     by h (all_later b g v) = later_stands h b g v u
 
 -- the alignment in use is the first one
-let_go_first : (x : Fed) (p q r d e f s t u : ℕ) → IsFirst x.blue x.green x.red s t u → IsLetGo x p q r d e f → IsLetGo x s t u d e f
+pub let_go_first : (x : Fed) (p q r d e f s t u : ℕ) → IsFirst x.blue x.green x.red s t u → IsLetGo x p q r d e f → IsLetGo x s t u d e f
 let_go_first x p q r d e f s t u first is =
     let same = one_first x.blue x.green x.red p q r s t u (later_of x p q r d e f is).own.first first in
     subst (λ n. IsLetGo x n t u d e f) same.0 (subst (λ n. IsLetGo x p n u d e f) same.1 (subst (λ n. IsLetGo x p q n d e f) same.2 is))

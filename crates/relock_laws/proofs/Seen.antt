@@ -118,7 +118,7 @@ seen_confirmed ps sent received reception alone from y lanes d e f u =
     let within = here.0 in
     let long = reception.sparse.same_length in
     let announced : is_announced (column_at received (i + 1)) (column_at received (i + 2)) ≡ true =
-    announced_at sent received (i + 1) (i + 2) (omega arith) (pair_at ps sent received reception i (i + 1) b.1 (omega arith) (omega arith)) spared (reception.sparse.one_a_column (i + 2)) in
+    announced_at sent received (i + 1) (i + 2) (omega arith) (pair_at ps sent reception.conforming reception.spelled i (i + 1) b.1 (omega arith) (omega arith)) spared (reception.sparse.one_a_column (i + 2)) in
     true≢false (sym announced ∙ ap₂ is_announced here.1 next.1 ∙ u.columns.so)
 
 -- all their alignments have one skew, since the edges of each are the end of one control period

@@ -33,7 +33,7 @@ all_same (x ∷ xs) (y ∷ ys) h =
     let tail = all_same xs ys (λ j. h (suc j)) in
     λ i. head i ∷ tail i
 
-columns_left : (fed : Fed) (p q r d e f n : ℕ) → 120 ≤ p → 120 ≤ q → 120 ≤ r → p + 10 * n ≡ d → q + 10 * n ≡ e → r + 10 * n ≡ f
+pub columns_left : (fed : Fed) (p q r d e f n : ℕ) → 120 ≤ p → 120 ≤ q → 120 ≤ r → p + 10 * n ≡ d → q + 10 * n ≡ e → r + 10 * n ≡ f
     → drop n (aligned_columns fed.blue fed.green fed.red p q r) ≡ aligned_columns fed.blue fed.green fed.red d e f
 columns_left fed p q r d e f n a b c x y v =
     all_same (drop n (aligned_columns fed.blue fed.green fed.red p q r)) (aligned_columns fed.blue fed.green fed.red d e f) (λ j.

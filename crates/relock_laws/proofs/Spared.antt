@@ -9,8 +9,10 @@ use Rattle.terc4.specs.Columns.{one_if}
 use Rattle.terc4.proofs.Words.{few_turns}
 use Rattle.lane_align.specs.Lanes.{IsEdge}
 use Rattle.island_pack.specs.Kinds.{Kind, control_column, second_guard, kinds_of, kind_at, EndsAt}
+use Rattle.island_pack.specs.Conforming.{IsConforming}
 use Rattle.island_pack.specs.Periods.{Period}
 use Rattle.island_pack.specs.Sparse.{unlike_words, no_column, column_at, unlike_at}
+use Rattle.island_pack.specs.Spelling.{SpellsBy, freely}
 use Rattle.link_laws.specs.Alternating.{IsAlternating, last, more, built}
 use Rattle.link_laws.specs.Laws.{ReceivedFreely}
 use Rattle.link_laws.proofs.Guards.{unlike}
@@ -54,12 +56,21 @@ same_column s r none =
     let a = same_word s.red r.red (s.red == r.red) refl (omega arith) in
     sym (λ i. record { blue = b i; green = g i; red = a i })
 
+-- columns of conforming periods, and as many received ones
+pub record AreSpelled (ps : List Period) (sent received : List Column) : Type 0 where
+  pub conforming : IsConforming ps
+  pub spelled : SpellsBy freely ps sent
+  pub same_length : length received ≡ length sent
+
+pub spelled_freely : (ps : List Period) (sent received : List Column) → ReceivedFreely ps sent received → AreSpelled ps sent received
+spelled_freely ps sent received h = record { conforming = h.conforming; spelled = h.spelled; same_length = h.sparse.same_length }
+
 -- and is of its kind
-pub spared_fits : (ps : List Period) (sent received : List Column) → ReceivedFreely ps sent received → (k : ℕ) → unlike_at sent received k ≡ 0 → k < length received
+pub spared_fits : (ps : List Period) (sent received : List Column) → AreSpelled ps sent received → (k : ℕ) → unlike_at sent received k ≡ 0 → k < length received
     → FitsColumn (kind_at (kinds_of ps) k) (column_at received k)
-spared_fits ps sent received reception k none lt =
-    let long = reception.sparse.same_length in
-    let fits = fitting_at (kinds_of ps) sent (fitting_freely ps sent reception.conforming reception.spelled) k (omega arith) in
+spared_fits ps sent received h k none lt =
+    let long = h.same_length in
+    let fits = fitting_at (kinds_of ps) sent (fitting_freely ps sent h.conforming h.spelled) k (omega arith) in
     subst (FitsColumn (kind_at (kinds_of ps) k)) (sym (same_column (column_at sent k) (column_at received k) none)) fits
 
 -- One lane.
@@ -76,7 +87,7 @@ spared_lane g ps sent received i reception spared of =
     let size = length-map received g in
     let word : (k : ℕ) → k < length received → get_or (map g received) k 0 ≡ g (column_at received k) = λ k lt. get_or-map g received k no_column 0 lt in
     let fits : (k : ℕ) → i < k + 15 → k ≤ i + 3 → k < length received → FitsWord (kind_at (kinds_of ps) k) (g (column_at received k)) =
-    λ k low high lt. of (kind_at (kinds_of ps) k) (column_at received k) (spared_fits ps sent received reception k (spared k low high) lt) in
+    λ k low high lt. of (kind_at (kinds_of ps) k) (column_at received k) (spared_fits ps sent received (spelled_freely ps sent received reception) k (spared k low high) lt) in
     record {
       controls = λ k low high lt is. ap is_control (word k (omega arith)) ∙ (fits k low high (omega arith)).controls is;
       others = λ k low high lt apart. ap is_control (word k (omega arith)) ∙ few_turns (g (column_at received k)) ((fits k low high (omega arith)).others apart);

@@ -68,7 +68,7 @@ ends_open ps sent received reception i lt control ends none =
     let e : EndsAt (kinds_of ps) i = record { here = here; then = then } in
     let size = fitting_length (kinds_of ps) sent (fitting_freely ps sent reception.conforming reception.spelled) in
     let first = opens_with (kinds_of ps) (alternating ps reception.conforming) i e (omega arith) in
-    let pair = pair_at ps sent received reception i (i + 1) e (omega arith) (omega arith) in
+    let pair = pair_at ps sent reception.conforming reception.spelled i (i + 1) e (omega arith) (omega arith) in
     let next : i + 1 + 1 ≡ i + 2 = omega arith in
     let one : unlike_at sent received (i + 1) + unlike_at sent received (i + 2) ≤ 1 =
     subst (λ n. unlike_at sent received (i + 1) + unlike_at sent received n ≤ 1) next (reception.sparse.one_a_pair (i + 1) first) in

@@ -3,8 +3,8 @@ use Rattle.std.proofs.Common.{◌≡◌, ℕ, ◌+◌, ◌-◌, ◌*◌, ◌<◌
 use Rattle.std.specs.Prelude.{slice_index}
 use Rattle.std.proofs.lemmas.List.{length-map, get_or-map}
 use Rattle.tmds_word.specs.Bits.{number, window}
-use Rattle.tmds_word.specs.Column.{Column, blues}
-use Rattle.tmds_word.specs.Taps.{part_of, IsTap}
+use Rattle.tmds_word.specs.Column.{Column, blues, greens, reds}
+use Rattle.tmds_word.specs.Taps.{part_of, IsTap, AreNear}
 use Rattle.terc4.specs.Tables.{is_control}
 use Rattle.terc4.proofs.Words.{few_turns}
 use Rattle.lane_align.specs.Lanes.{HasControl}
@@ -12,30 +12,31 @@ use Rattle.lane_align.proofs.Controls.{window_here, not_both}
 use Rattle.lane_deskew.specs.Aligned.{aligned_column}
 use Rattle.island_pack.specs.Kinds.{Kind, control_column, kinds_of, kind_at}
 use Rattle.island_pack.specs.Periods.{Period}
-use Rattle.island_pack.specs.Sparse.{no_column, column_at, unlike_at, IsSparse}
+use Rattle.island_pack.specs.Sparse.{no_column, column_at, unlike_at, IsNarrow}
 use Rattle.lane_track.proofs.Around.{length-part}
-use Rattle.link_laws.specs.Laws.{ReceivedFreely}
 use Rattle.link_laws.proofs.Freely.{free_received}
 use Rattle.link_laws.proofs.Shapes.{alternating}
 use Rattle.link_laws.proofs.Spelled.{FitsWord, FitsColumn}
 use Rattle.link_laws.proofs.Tapped.{characters}
+use Rattle.link_sink.specs.Sinks.{Fed}
 use Rattle.relock_sink.specs.Bands.{AtEdges}
 use Rattle.relock_sink.specs.Relocks.{is_announced}
 use Rattle.relock_sink.specs.Rivals.{is_guard_band}
 use Rattle.relock_laws.specs.Doubted.{IsWholeRun}
 use Rattle.relock_laws.specs.Refuted.{GoesOn}
 use Rattle.relock_laws.specs.Settled.{EndsNineteen, IsGoodPeriod}
+use Rattle.relock_laws.specs.RefutingSettled.{IsWholeGoodFrom}
 use Rattle.relock_laws.specs.WholePeriods.{IsWholeAmong, HasWholeLane, WholeComesWhole}
 use Rattle.relock_laws.proofs.Announced.{ArePair, pair_at, announces, whole_as_sent}
 use Rattle.relock_laws.proofs.Begun.{three_before}
 use Rattle.relock_laws.proofs.Refuting.{column_of_windows}
 use Rattle.relock_laws.proofs.Seen.{part_word}
-use Rattle.relock_laws.proofs.Spared.{spared_fits}
+use Rattle.relock_laws.proofs.Spared.{AreSpelled, spelled_freely, spared_fits}
 use Rattle.relock_laws.proofs.Windows.{rest_window}
 
 -- One lane: its words, as the columns that were received, and its bits.
 
-module _ (g : Column → ℕ) (ps : List Period) (sent received : List Column) (reception : ReceivedFreely ps sent received) (j a : ℕ) (whole : IsWholeAmong ps sent received j a)
+module _ (g : Column → ℕ) (ps : List Period) (sent received : List Column) (h : AreSpelled ps sent received) (j a : ℕ) (whole : IsWholeAmong ps sent received j a)
     (inside : a + 28 ≤ length received) (of : (k : Kind) (c : Column) → FitsColumn k c → FitsWord k (g c)) where
   word : (k : ℕ) → k < length received → get_or (map g received) k 0 ≡ g (column_at received k)
   word k lt = get_or-map g received k no_column 0 lt
@@ -43,7 +44,7 @@ module _ (g : Column → ℕ) (ps : List Period) (sent received : List Column) (
   fits : (k : ℕ) → j ≤ k + 3 → k < a + 27 → FitsWord (kind_at (kinds_of ps) k) (g (column_at received k))
   fits k low high =
       let within = inside in
-      of (kind_at (kinds_of ps) k) (column_at received k) (spared_fits ps sent received reception k (whole.as_sent k low high) (omega arith))
+      of (kind_at (kinds_of ps) k) (column_at received k) (spared_fits ps sent received h k (whole.as_sent k low high) (omega arith))
 
   control : (k : ℕ) → j ≤ k → k < a + 12 → is_control (get_or (map g received) k 0) ≡ true
   control k low high =
@@ -61,7 +62,7 @@ module _ (g : Column → ℕ) (ps : List Period) (sent received : List Column) (
       let long = whole.long in
       let at : j ≡ j - 1 + 1 = omega arith in
       let then : kind_at (kinds_of ps) (j - 1 + 1) ≡ control_column = subst (λ n. kind_at (kinds_of ps) n ≡ control_column) at (whole.begins.control j (omega arith) (omega arith)) in
-      other (j - 1 - k) (omega arith) (omega arith) (λ is. three_before (kinds_of ps) (alternating ps reception.conforming) (j - 1) k (whole.begins.before (j - 1) at) then lt (omega arith) is)
+      other (j - 1 - k) (omega arith) (omega arith) (λ is. three_before (kinds_of ps) (alternating ps h.conforming) (j - 1) k (whole.begins.before (j - 1) at) then lt (omega arith) is)
 
   module _ (xs us : List Bool) (offset skew many ahead place : ℕ) (lane : HasWholeLane offset skew ahead j a place (length xs)) (tapped : us ≡ part_of (map g received) (offset + skew) many)
       (after : drop ahead xs ≡ us) (below : (k : ℕ) → k < length (map g received) → get_or (map g received) k 0 < 1024) where
@@ -140,38 +141,56 @@ long_enough words xs us offset skew many ahead j a place lane tapped within afte
     let size = ap length tapped in
     omega arith
 
-pub whole_comes_whole : WholeComesWhole
-whole_comes_whole ps sent received offset skews counts x fed before j a d e f comes = (
-  record {
-    reception = comes.reception;
-    blue_after = comes.blue_after;
-    green_after = comes.green_after;
-    red_after = comes.red_after;
-    ends = comes.whole.ends;
-    blue = omega (arith, comes.blue.at);
-    green = omega (arith, comes.green.at);
-    red = omega (arith, comes.red.at);
-    blue_whole = whole_before offset (slice_index skews 0) (slice_index before 0) d (length fed.blue) comes.blue;
-    green_whole = whole_before offset (slice_index skews 1) (slice_index before 1) e (length fed.green) comes.green;
-    red_whole = whole_before offset (slice_index skews 2) (slice_index before 2) f (length fed.red) comes.red;
+-- a control period comes whole
+pub record ComesSpelled (ps : List Period) (sent received : List Column) (offset : ℕ) (skews counts : List ℕ) (x fed : Fed) (before : List ℕ) (j a d e f : ℕ) : Type 0 where
+  pub spelled : AreSpelled ps sent received
+  pub narrow : (i : ℕ) → i < length received → IsNarrow (column_at received i)
+  pub tap : IsTap received offset skews counts x.blue x.green x.red
+  pub blue_after : drop (slice_index before 0) fed.blue ≡ x.blue
+  pub green_after : drop (slice_index before 1) fed.green ≡ x.green
+  pub red_after : drop (slice_index before 2) fed.red ≡ x.red
+  pub whole : IsWholeAmong ps sent received j a
+  pub blue : HasWholeLane offset (slice_index skews 0) (slice_index before 0) j a d (length fed.blue)
+  pub green : HasWholeLane offset (slice_index skews 1) (slice_index before 1) j a e (length fed.green)
+  pub red : HasWholeLane offset (slice_index skews 2) (slice_index before 2) j a f (length fed.red)
+  pub blue_green : AreNear d e
+  pub green_red : AreNear e f
+  pub blue_red : AreNear d f
+
+-- a lane has so many bits before the control period
+pub whole_before : (offset skew ahead j a place many : ℕ) → j + 19 ≤ a + 12 → HasWholeLane offset skew ahead j a place many → ahead + 190 ≤ place
+whole_before offset skew ahead j a place many long lane = let from = lane.from in omega arith
+
+-- the lanes have it whole
+pub spelled_whole : (ps : List Period) (sent received : List Column) (offset : ℕ) (skews counts : List ℕ) (x fed : Fed) (before : List ℕ) (j a d e f : ℕ)
+    → ComesSpelled ps sent received offset skews counts x fed before j a d e f → IsWholeGoodFrom fed d e f (a + 12 - j)
+spelled_whole ps sent received offset skews counts x fed before j a d e f comes = record {
+  good = record {
     good = good;
-  },
-  record {
-    good = record { good = good; band = band; blue_on = goes_on (λ l. l.blue) ps sent received free j a comes.whole inside (λ k l fits. fits.blue) fed.blue x.blue offset (slice_index skews 0) (slice_index counts 0) (slice_index before 0) d comes.blue tap.blue_part.bits_are comes.blue_after (characters (λ l. l.blue) received (λ k lt. (h.characters k lt).blue)); green_on = goes_on (λ l. l.green) ps sent received free j a comes.whole inside (λ k l fits. fits.green) fed.green x.green offset (slice_index skews 1) (slice_index counts 1) (slice_index before 1) e comes.green tap.green_part.bits_are comes.green_after (characters (λ l. l.green) received (λ k lt. (h.characters k lt).green)); red_on = goes_on (λ l. l.red) ps sent received free j a comes.whole inside (λ k l fits. fits.red) fed.red x.red offset (slice_index skews 2) (slice_index counts 2) (slice_index before 2) f comes.red tap.red_part.bits_are comes.red_after (characters (λ l. l.red) received (λ k lt. (h.characters k lt).red)) };
-    blue = whole_run (λ l. l.blue) ps sent received free j a comes.whole inside (λ k l fits. fits.blue) fed.blue x.blue offset (slice_index skews 0) (slice_index counts 0) (slice_index before 0) d comes.blue tap.blue_part.bits_are comes.blue_after (characters (λ l. l.blue) received (λ k lt. (h.characters k lt).blue));
-    green = whole_run (λ l. l.green) ps sent received free j a comes.whole inside (λ k l fits. fits.green) fed.green x.green offset (slice_index skews 1) (slice_index counts 1) (slice_index before 1) e comes.green tap.green_part.bits_are comes.green_after (characters (λ l. l.green) received (λ k lt. (h.characters k lt).green));
-    red = whole_run (λ l. l.red) ps sent received free j a comes.whole inside (λ k l fits. fits.red) fed.red x.red offset (slice_index skews 2) (slice_index counts 2) (slice_index before 2) f comes.red tap.red_part.bits_are comes.red_after (characters (λ l. l.red) received (λ k lt. (h.characters k lt).red));
-  },
-)
+    band = band;
+    blue_on = goes_on (λ l. l.blue) ps sent received h j a comes.whole inside (λ k l fits. fits.blue) fed.blue x.blue offset (slice_index skews 0) (slice_index counts 0) (slice_index before 0) d comes.blue tap.blue_part.bits_are comes.blue_after blues_are;
+    green_on = goes_on (λ l. l.green) ps sent received h j a comes.whole inside (λ k l fits. fits.green) fed.green x.green offset (slice_index skews 1) (slice_index counts 1) (slice_index before 1) e comes.green tap.green_part.bits_are comes.green_after greens_are;
+    red_on = goes_on (λ l. l.red) ps sent received h j a comes.whole inside (λ k l fits. fits.red) fed.red x.red offset (slice_index skews 2) (slice_index counts 2) (slice_index before 2) f comes.red tap.red_part.bits_are comes.red_after reds_are;
+  };
+  blue = whole_run (λ l. l.blue) ps sent received h j a comes.whole inside (λ k l fits. fits.blue) fed.blue x.blue offset (slice_index skews 0) (slice_index counts 0) (slice_index before 0) d comes.blue tap.blue_part.bits_are comes.blue_after blues_are;
+  green = whole_run (λ l. l.green) ps sent received h j a comes.whole inside (λ k l fits. fits.green) fed.green x.green offset (slice_index skews 1) (slice_index counts 1) (slice_index before 1) e comes.green tap.green_part.bits_are comes.green_after greens_are;
+  red = whole_run (λ l. l.red) ps sent received h j a comes.whole inside (λ k l fits. fits.red) fed.red x.red offset (slice_index skews 2) (slice_index counts 2) (slice_index before 2) f comes.red tap.red_part.bits_are comes.red_after reds_are;
+}
   where
-    free : ReceivedFreely ps sent received
-    free = free_received ps sent received comes.reception.reception
+    h : AreSpelled ps sent received
+    h = comes.spelled
 
     tap : IsTap received offset skews counts x.blue x.green x.red
-    tap = comes.reception.tapped
+    tap = comes.tap
 
-    h : IsSparse ps sent received
-    h = comes.reception.reception.sparse
+    blues_are : (k : ℕ) → k < length (blues received) → get_or (blues received) k 0 < 1024
+    blues_are = characters (λ l. l.blue) received (λ k lt. (comes.narrow k lt).blue)
+
+    greens_are : (k : ℕ) → k < length (greens received) → get_or (greens received) k 0 < 1024
+    greens_are = characters (λ l. l.green) received (λ k lt. (comes.narrow k lt).green)
+
+    reds_are : (k : ℕ) → k < length (reds received) → get_or (reds received) k 0 < 1024
+    reds_are = characters (λ l. l.red) received (λ k lt. (comes.narrow k lt).red)
 
     inside : a + 28 ≤ length received
     inside =
@@ -179,21 +198,18 @@ whole_comes_whole ps sent received offset skews counts x fed before j a d e f co
         let long = long_enough (blues received) fed.blue x.blue offset (slice_index skews 0) (slice_index counts 0) (slice_index before 0) j a d comes.blue tap.blue_part.bits_are tap.blue_part.within comes.blue_after in
         omega arith
 
-    whole_before : (offset skew ahead place many : ℕ) → HasWholeLane offset skew ahead j a place many → ahead + 190 ≤ place
-    whole_before offset skew ahead place many lane = let from = lane.from in let long = comes.whole.long in omega arith
-
     column_there : (k : ℕ) → k < 16 → aligned_column fed.blue fed.green fed.red d e f (12 + k) ≡ Some (column_at received (a + 12 + k))
     column_there k lt =
         column_of_windows fed d e f (12 + k) (column_at received (a + 12 + k)).blue (column_at received (a + 12 + k)).green (column_at received (a + 12 + k)).red
-        (character (λ l. l.blue) ps sent received free j a comes.whole inside (λ k l fits. fits.blue) fed.blue x.blue offset (slice_index skews 0) (slice_index counts 0) (slice_index before 0) d comes.blue tap.blue_part.bits_are comes.blue_after (characters (λ l. l.blue) received (λ k lt. (h.characters k lt).blue)) k lt)
-        (character (λ l. l.green) ps sent received free j a comes.whole inside (λ k l fits. fits.green) fed.green x.green offset (slice_index skews 1) (slice_index counts 1) (slice_index before 1) e comes.green tap.green_part.bits_are comes.green_after (characters (λ l. l.green) received (λ k lt. (h.characters k lt).green)) k lt)
-        (character (λ l. l.red) ps sent received free j a comes.whole inside (λ k l fits. fits.red) fed.red x.red offset (slice_index skews 2) (slice_index counts 2) (slice_index before 2) f comes.red tap.red_part.bits_are comes.red_after (characters (λ l. l.red) received (λ k lt. (h.characters k lt).red)) k lt)
+        (character (λ l. l.blue) ps sent received h j a comes.whole inside (λ k l fits. fits.blue) fed.blue x.blue offset (slice_index skews 0) (slice_index counts 0) (slice_index before 0) d comes.blue tap.blue_part.bits_are comes.blue_after blues_are k lt)
+        (character (λ l. l.green) ps sent received h j a comes.whole inside (λ k l fits. fits.green) fed.green x.green offset (slice_index skews 1) (slice_index counts 1) (slice_index before 1) e comes.green tap.green_part.bits_are comes.green_after greens_are k lt)
+        (character (λ l. l.red) ps sent received h j a comes.whole inside (λ k l fits. fits.red) fed.red x.red offset (slice_index skews 2) (slice_index counts 2) (slice_index before 2) f comes.red tap.red_part.bits_are comes.red_after reds_are k lt)
 
     pair : ArePair (column_at sent (a + 12)) (column_at sent (a + 12 + 1))
     pair =
         let within = inside in
         let long = h.same_length in
-        pair_at ps sent received free (a + 11) (a + 12) comes.whole.ends (omega arith) (omega arith)
+        pair_at ps sent h.conforming h.spelled (a + 11) (a + 12) comes.whole.ends (omega arith) (omega arith)
 
     here : aligned_column fed.blue fed.green fed.red d e f 12 ≡ Some (column_at received (a + 12))
     here = let at : a + 12 + 0 ≡ a + 12 = omega arith in subst (λ n. aligned_column fed.blue fed.green fed.red d e f 12 ≡ Some (column_at received n)) at (column_there 0 (omega arith))
@@ -227,11 +243,49 @@ whole_comes_whole ps sent received offset skews counts x fed before j a d e f co
 
     good : IsGoodPeriod fed d e f
     good = record {
-      blue = nineteen (λ l. l.blue) ps sent received free j a comes.whole inside (λ k l fits. fits.blue) fed.blue x.blue offset (slice_index skews 0) (slice_index counts 0) (slice_index before 0) d comes.blue tap.blue_part.bits_are comes.blue_after (characters (λ l. l.blue) received (λ k lt. (h.characters k lt).blue));
-      green = nineteen (λ l. l.green) ps sent received free j a comes.whole inside (λ k l fits. fits.green) fed.green x.green offset (slice_index skews 1) (slice_index counts 1) (slice_index before 1) e comes.green tap.green_part.bits_are comes.green_after (characters (λ l. l.green) received (λ k lt. (h.characters k lt).green));
-      red = nineteen (λ l. l.red) ps sent received free j a comes.whole inside (λ k l fits. fits.red) fed.red x.red offset (slice_index skews 2) (slice_index counts 2) (slice_index before 2) f comes.red tap.red_part.bits_are comes.red_after (characters (λ l. l.red) received (λ k lt. (h.characters k lt).red));
+      blue = nineteen (λ l. l.blue) ps sent received h j a comes.whole inside (λ k l fits. fits.blue) fed.blue x.blue offset (slice_index skews 0) (slice_index counts 0) (slice_index before 0) d comes.blue tap.blue_part.bits_are comes.blue_after blues_are;
+      green = nineteen (λ l. l.green) ps sent received h j a comes.whole inside (λ k l fits. fits.green) fed.green x.green offset (slice_index skews 1) (slice_index counts 1) (slice_index before 1) e comes.green tap.green_part.bits_are comes.green_after greens_are;
+      red = nineteen (λ l. l.red) ps sent received h j a comes.whole inside (λ k l fits. fits.red) fed.red x.red offset (slice_index skews 2) (slice_index counts 2) (slice_index before 2) f comes.red tap.red_part.bits_are comes.red_after reds_are;
       blue_green = comes.blue_green;
       green_red = comes.green_red;
       blue_red = comes.blue_red;
       opens = opens;
     }
+
+-- Received with sparse damage.
+
+pub whole_comes_whole : WholeComesWhole
+whole_comes_whole ps sent received offset skews counts x fed before j a d e f comes =
+    let free = free_received ps sent received comes.reception.reception in
+    let whole = spelled_whole ps sent received offset skews counts x fed before j a d e f
+    (record {
+      spelled = spelled_freely ps sent received free;
+      narrow = free.sparse.characters;
+      tap = comes.reception.tapped;
+      blue_after = comes.blue_after;
+      green_after = comes.green_after;
+      red_after = comes.red_after;
+      whole = comes.whole;
+      blue = comes.blue;
+      green = comes.green;
+      red = comes.red;
+      blue_green = comes.blue_green;
+      green_red = comes.green_red;
+      blue_red = comes.blue_red;
+    }) in (
+      record {
+        reception = comes.reception;
+        blue_after = comes.blue_after;
+        green_after = comes.green_after;
+        red_after = comes.red_after;
+        ends = comes.whole.ends;
+        blue = omega (arith, comes.blue.at);
+        green = omega (arith, comes.green.at);
+        red = omega (arith, comes.red.at);
+        blue_whole = whole_before offset (slice_index skews 0) (slice_index before 0) j a d (length fed.blue) comes.whole.long comes.blue;
+        green_whole = whole_before offset (slice_index skews 1) (slice_index before 1) j a e (length fed.green) comes.whole.long comes.green;
+        red_whole = whole_before offset (slice_index skews 2) (slice_index before 2) j a f (length fed.red) comes.whole.long comes.red;
+        good = whole.good.good;
+      },
+      whole,
+    )

@@ -5,3 +5,4 @@ pub mod RefutingLaws
 pub mod RefutingSettled
 pub mod Doubted
 pub mod WholePeriods
+pub mod WholeAmid

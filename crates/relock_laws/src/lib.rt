@@ -17,6 +17,7 @@ ghost use Rattle.relock_laws.specs.Laws.{PayloadIsLastEpoch, UntilIsLastEpoch, L
 ghost use Rattle.relock_laws.specs.Refuted.{EndsOpen, PayloadStands, UntilStands, PeriodRefutes};
 ghost use Rattle.relock_laws.specs.Settled.{EndsOrIsLast, OneEnd, SettlesAtPeriod, SettlesForGood, RecoversAgain, HasAgainExample};
 
+pub mod amid;
 pub mod doubted;
 pub mod refuted;
 
