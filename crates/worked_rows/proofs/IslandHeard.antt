@@ -74,7 +74,7 @@ text_lost = refl
 
 -- the aligned columns are those that were received
 
-abbrev aligned : List Column → List Column
+abbrev pub aligned : List Column → List Column
 aligned cs = aligned_columns (row_bits (blues cs)) (row_bits (greens cs)) (row_bits (reds cs)) 120 120 120
 
 aligned_whole : aligned (columns 0x29c 0x263) ≡ columns 0x29c 0x263
@@ -89,7 +89,7 @@ aligned_lost : aligned (columns 0x263 0x29c) ≡ columns 0x263 0x29c
 unfolding columns aligned_columns columns_of words_of all_words words_from words_in lane_words row_bits number bits_of word_bits window
 aligned_lost = refl
 
-lists : (cs : List Column) (told : List Event) (text : List ℕ) → aligned cs ≡ cs → heard_of cs ≡ told → link_text told ≡ text → Lists cs text
+pub lists : (cs : List Column) (told : List Event) (text : List ℕ) → aligned cs ≡ cs → heard_of cs ≡ told → link_text told ≡ text → Lists cs text
 lists cs told text a h t = ap (λ (ds : List Column). link_text (heard_of ds)) a ∙ ap link_text h ∙ t
 
 pub island_heard : IslandIsHeard

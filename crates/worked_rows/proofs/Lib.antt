@@ -11,3 +11,6 @@ pub mod IslandSpelled
 pub mod IslandHeard
 pub mod Content
 pub mod Taps
+pub mod Refused
+pub mod Slipped
+pub mod Packets

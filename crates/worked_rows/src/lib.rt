@@ -7,7 +7,11 @@
 //! - the characters of black and of white pixels, and the block of a packet's header;
 //! - a Null packet, an AVI InfoFrame, clock numbers and a sample, each written and read;
 //! - a data island and a line: the listing, the columns, and what they report with a mended and with a lost block;
-//! - a tap with an offset and skews, damaged pixels, a capture that ends within an island, and noise: what their columns report;
+//! - an island of two packets, both mended, and one of nineteen: the listings that their columns report;
+//! - a tap with an offset and skews, one that is aligned late, damaged pixels, a capture that ends within an island, and noise: what their
+//!   columns report;
+//! - a lane that loses bits of a line: the text of what comes before the slip and after it;
+//! - listings that are refused, and the note of each;
 //! - two frames: the content listing, the periods of their raster, and the content listing of what the columns report.
 #![tactic(auto)]
 
@@ -15,7 +19,10 @@ ghost use Rattle.worked_rows.specs.Codes.{IsBlackRow, IsHeaderBlock, IsWhiteRow}
 ghost use Rattle.worked_rows.specs.Content.{ContentIsHeard, ContentIsRaster, ContentIsRead};
 ghost use Rattle.worked_rows.specs.Fields.{IsAvi, IsClock, IsNull, IsSampleRow};
 ghost use Rattle.worked_rows.specs.Island.{IslandIsHeard, IslandIsLost, IslandIsMended, IslandIsRead, IslandIsSpelled};
+ghost use Rattle.worked_rows.specs.Packets.{LongIsHeard, TwoAreListed};
+ghost use Rattle.worked_rows.specs.Refused.{AreRefused};
 ghost use Rattle.worked_rows.specs.Row.{IsRead, IsCaptured, IsSpelled, IsHeard, IsMade};
+ghost use Rattle.worked_rows.specs.Slipped.{LateIsHeard, SlippedIsHeard};
 ghost use Rattle.worked_rows.specs.Taps.{CutIsHeard, NoiseIsHeard, PixelIsHeard, SkewedIsHeard};
 
 /// The listing of one red pixel reads as its periods.
@@ -136,4 +143,31 @@ pub fn cut_row()
 /// A column of three characters 0 between control columns is noise.
 pub fn noise_row()
     ensures { NoiseIsHeard }
+{}
+
+/// The listing of an island of two packets reads as its periods. What its columns report has the listing. With a control character at the end
+/// of the first packet and at the beginning of the second, both packets are mended.
+pub fn two_row()
+    ensures { TwoAreListed }
+{}
+
+/// What is reported of an island of nineteen Null packets has them all, and says that they are too many.
+pub fn long_row()
+    ensures { LongIsHeard }
+{}
+
+/// What is reported of a tap with a skew of one bit begins with the second control period, if one lane has only eleven characters of the first.
+pub fn late_row()
+    ensures { LateIsHeard }
+{}
+
+/// One lane loses three bits of a line. What is reported of the lanes before the place where its characters lie otherwise, and after it, has this
+/// text, with the slip's line between.
+pub fn slipped_row()
+    ensures { SlippedIsHeard }
+{}
+
+/// These listings are refused, each at a line, and each note says why.
+pub fn are_refused()
+    ensures { AreRefused }
 {}
