@@ -29,6 +29,7 @@ pub mod LocalPictures
 pub mod TrackLocal
 pub mod RelockLocal
 pub mod RelockWhole
+pub mod RelockAmid
 pub mod WholeStream
 pub mod BurstExample
 pub mod Swapped

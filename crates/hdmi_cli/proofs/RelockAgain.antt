@@ -120,13 +120,13 @@ ends_with listing first events earlier later track_events are is =
     ∙ sym (append_assoc first (track_events_of earlier) (track_events_of later)))
 
 -- what is written of an epoch that is the last: its events are those of its columns
-record IsListed (listing : TrackListing) (columns : List Column) (old new : Option (List ℕ)) : Type 0 where
-  first : List TrackEvent
-  track_events : List TrackEvent
-  are : track_events ≡ first ++ track_events_of (heard columns)
-  written : Appends old new (listing.text track_events)
+pub record IsListed (listing : TrackListing) (columns : List Column) (old new : Option (List ℕ)) : Type 0 where
+  pub first : List TrackEvent
+  pub track_events : List TrackEvent
+  pub are : track_events ≡ first ++ track_events_of (heard columns)
+  pub written : Appends old new (listing.text track_events)
 
-listed : (listing : TrackListing) (fed : Fed) (start p q r : ℕ) → IsStartBy refuting_rule fed start → IsFirst (rest_of start fed).blue (rest_of start fed).green (rest_of start fed).red p q r → IsLastUnrefuted (rest_of start fed)
+pub listed : (listing : TrackListing) (fed : Fed) (start p q r : ℕ) → IsStartBy refuting_rule fed start → IsFirst (rest_of start fed).blue (rest_of start fed).green (rest_of start fed).red p q r → IsLastUnrefuted (rest_of start fed)
     → (o : RunOutcome) (old new : Option (List ℕ)) → TracksLanes refuting_rule listing fed o → Appends old new o.output
     → IsListed listing (aligned_columns (rest_of start fed).blue (rest_of start fed).green (rest_of start fed).red p q r) old new
 listed listing fed start p q r begins first last o old new (epochs, aligned, track_events, track, outcome) written =

@@ -52,7 +52,7 @@ lane_left xs start p n d past at =
     let l = length-drop start xs in
     omega arith
 
-all_left : (t : AgainStream) (start p q r n : ℕ) → IsSettledBy refuting_rule t.lanes t.blue t.green t.red start p q r → HaveSameSkew p q r t.blue t.green t.red → start + p + 10 * n ≡ t.blue
+pub all_left : (t : AgainStream) (start p q r n : ℕ) → IsSettledBy refuting_rule t.lanes t.blue t.green t.red start p q r → HaveSameSkew p q r t.blue t.green t.red → start + p + 10 * n ≡ t.blue
     → length (columns_from t start p q r) - (n + 12) ≡ columns_left t.lanes t.blue t.green t.red
 unfolding aligned_columns
 all_left t start p q r n settled same at =

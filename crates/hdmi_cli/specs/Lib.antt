@@ -19,6 +19,7 @@ pub mod RelayLocal
 pub mod LocalPictures
 pub mod RelockLocal
 pub mod RelockWhole
+pub mod RelockAmid
 pub mod Chain
 pub mod EndToEnd
 pub mod RelayChecked

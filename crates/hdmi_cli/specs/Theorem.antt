@@ -17,6 +17,7 @@ use Rattle.hdmi_cli.specs.TrackPasses.{IsUnnoticed, IsTrackedAsOne}
 use Rattle.hdmi_cli.specs.RelockAgain.{AgainStream}
 use Rattle.hdmi_cli.specs.RelockLocal.{StaysClear, StaysUncontended}
 use Rattle.hdmi_cli.specs.RelockWhole.{ComesWhole, IsListedOn}
+use Rattle.hdmi_cli.specs.RelockAmid.{ComesWholeLocally, AreListedAlone}
 use Rattle.hdmi_cli.specs.RelayClauses.{IsCleanToEnd, IsPassedOn, IsRelayedAgain, IsSentWithin}
 use Rattle.hdmi_cli.specs.RelayLocal.{IsRelayedBy}
 use Rattle.hdmi_cli.specs.RelaySettles.{IsWritten, IsWrittenButBit3}
@@ -159,6 +160,10 @@ pub record Promises (words : List (List ℕ)) (status : ℕ) (before after : Dev
   -- end, it lists all that follows as it was sent.
   pub relock_at_whole : IsCommand words RecoverRelock → (t : AgainStream) → (j : ℕ) → ComesWhole t j → before.left ≡ Some t.bytes
       → Unless (λ _ held holds. IsListedOn t held holds) status before after
+  -- And whatever is received after it: each line and each island that stands alone has its row. No lane may have a stray from there on,
+  -- and near the end of a control period no character may be received as a control or guard character that it was not.
+  pub relock_local_at_whole : IsCommand words RecoverRelock → (t : AgainStream) → (j : ℕ) → ComesWholeLocally t j → before.left ≡ Some t.bytes
+      → Unless (λ _ held holds. AreListedAlone link_track_listing t held holds) status before after
   -- `recover content relock` writes the text of `recover content`, and so the rows, frames and packets that were received.
   pub content_relock_headline : IsCommand words RecoverContentRelock → (t : TappedStream) → IsTapped t → StaysAligned t → before.left ≡ Some t.bytes
       → Unless (λ status held holds. FromFirst t (λ d e f a. IsRecovered content_listing t d e f a status held holds)) status before after
@@ -179,6 +184,9 @@ pub record Promises (words : List (List ℕ)) (status : ℕ) (before after : Dev
   pub content_relock_uncontended : IsCommand words RecoverContentRelock → (t : TappedStream) → (until : ℕ) → IsTappedUntil t until → AlignsBy t until → StaysUncontended t until
       → before.left ≡ Some t.bytes
       → Unless (IsHeardBy content_listing t until) status before after
+  -- After a control period that came whole it lists the content of each line and each island that stands alone, by the same premises.
+  pub content_relock_local_at_whole : IsCommand words RecoverContentRelock → (t : AgainStream) → (j : ℕ) → ComesWholeLocally t j → before.left ≡ Some t.bytes
+      → Unless (λ _ held holds. AreListedAlone content_track_listing t held holds) status before after
   -- Across a slip it writes the content of the events and slips that `recover relock` writes.
   pub content_relock_slip : IsCommand words RecoverContentRelock → (t : TappedStream) → (s : LineSlip) → (y : Fed) → IsSlippedTap t s y → IsNoticed t s
       → before.left ≡ Some t.bytes → Unless (IsTrackedAcross content_track_listing t s y) status before after

@@ -7,6 +7,7 @@ ghost use Rattle.hdmi_cli.specs.RelayChecked.{RelayIsClean, HasCheckedRelay};
 ghost use Rattle.hdmi_cli.specs.RelayExamples.{HasCleanCapture, HasRelayedTwice};
 ghost use Rattle.hdmi_cli.specs.RelockLocal.{ClearIsUncontended, HasBurst};
 ghost use Rattle.hdmi_cli.specs.RelockAgain.{RelocksAgain};
+ghost use Rattle.hdmi_cli.specs.RelockAmid.{HasLocalWholeStream};
 ghost use Rattle.hdmi_cli.specs.RelockWhole.{HasWholeStream};
 ghost use Rattle.capture_commands.specs.TrackListings.{link_track_listing, content_track_listing};
 ghost use Rattle.command_line.specs.declared.command.Command.TheVariants.{RecoverRelock, RecoverContentRelock};
@@ -73,6 +74,11 @@ pub fn relock_again()
 /// A capture of a stream that comes after other bits, a control period of which comes whole.
 pub fn whole_stream()
     ensures { HasWholeStream }
+{}
+
+/// One in which no character of some columns before that control period, and after the line that follows it, was received as it was sent.
+pub fn local_whole_stream()
+    ensures { HasLocalWholeStream }
 {}
 
 /// A capture of which `check` says `clean`, and whose aligned columns end in a control period.

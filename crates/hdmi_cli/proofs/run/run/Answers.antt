@@ -2,6 +2,7 @@ use Rattle.std.proofs.Common.{rules}
 use Rattle.capture_commands.specs.Endings.{note_of, seen}
 use Rattle.command_line.specs.declared.command.Command.TheVariants.{RecoverLink, RecoverContent, RecoverTrack, RecoverRelock, RecoverContentRelock, Check}
 use Rattle.capture_commands.specs.Listings.{link_listing, content_listing, check_listing}
+use Rattle.capture_commands.specs.TrackListings.{link_track_listing, content_track_listing}
 use Rattle.capture_commands.specs.Listers.{after_link, last_link, link_is_text, after_content, content_is_text, after_check, last_check, check_is_text}
 use Rattle.hdmi_cli.specs.Headline.{Aligns, StaysAligned}
 use Rattle.hdmi_cli.proofs.Ends.{says}
@@ -22,6 +23,7 @@ use Rattle.hdmi_cli.proofs.TrackHeadline.{stays_aligns, tracks_as_link, relocks_
 use Rattle.hdmi_cli.proofs.TrackLocal.{tracked_locally}
 use Rattle.hdmi_cli.proofs.TrackSlip.{tracked_across, relocked_across, content_relocked_across}
 use Rattle.hdmi_cli.proofs.TrackPasses.{tracked_as_one, relocked_as_one, content_relocked_as_one}
+use Rattle.hdmi_cli.proofs.RelockAmid.{listed_alone}
 use Rattle.hdmi_cli.proofs.RelockWhole.{listed_at_whole}
 use Rattle.hdmi_cli.proofs.RelockLocal.{clear_is_uncontended, relocked_locally, content_relocked_locally}
 use Rattle.hdmi_cli.proofs.Fields.{fielded}
@@ -90,6 +92,7 @@ returns g c =
             relocked_locally words ending before after status ends known named t until tapped aligns (clear_is_uncontended t until tapped aligns clear);
         relock_uncontended = relocked_locally words ending before after status ends known;
         relock_at_whole = listed_at_whole words ending before after status ends known;
+        relock_local_at_whole = listed_alone link_track_listing RecoverRelock (λ bytes o does. does) words ending before after status ends known;
         content_relock_headline = recovered StaysAligned stays_aligns content_listing RecoverContentRelock relocks_as_content words ending before after status ends known;
         content_relock_pictures = pictured StaysAligned stays_aligns RecoverContentRelock relocks_as_content words ending before after status ends known;
         content_relock_packets = packeted StaysAligned stays_aligns RecoverContentRelock relocks_as_content words ending before after status ends known;
@@ -97,6 +100,7 @@ returns g c =
         content_relock_local = λ named t until tapped aligns clear.
             content_relocked_locally words ending before after status ends known named t until tapped aligns (clear_is_uncontended t until tapped aligns clear);
         content_relock_uncontended = content_relocked_locally words ending before after status ends known;
+        content_relock_local_at_whole = listed_alone content_track_listing RecoverContentRelock (λ bytes o does. does) words ending before after status ends known;
         content_relock_slip = content_relocked_across words ending before after status ends known;
         content_relock_slip_passes = content_relocked_as_one words ending before after status ends known;
         relay_headline = relay_headlined (relayed_account facts) words ending before after status ends known;
