@@ -44,7 +44,7 @@ pub long : length received ≡ 87
 unfolding received values_of video_guard
 long = refl
 
-before_it : columns_of front ≡ 39
+pub before_it : columns_of front ≡ 39
 unfolding columns_of period_columns values_of
 before_it = refl
 

@@ -75,7 +75,7 @@ conforming = refl
 abbrev pub triple : ℕ → ℕ → ℕ → Column
 triple b g r = record { blue = b; green = g; red = r }
 
-abbrev pixel_sent : List Column
+abbrev pub pixel_sent : List Column
 pixel_sent = triple 0x100 0x100 0x100 ∷ []
 
 -- a control word was received in place of a pixel's word
@@ -142,13 +142,13 @@ lane : IsLane (0 ∷ []) (0x100 ∷ [])
 unfolding disparity_of
 lane = record { same_length = refl; coded = λ j lt. let e : 0 ≡ j = omega arith in subst (λ j. Coded (disparity_of (take j (0x100 ∷ []))) (get_or (0 ∷ []) j 0) (get_or (0x100 ∷ []) j 0)) e (sym coded_test) }
 
-spells_pixels : SpellsPixels (pixels_of black) pixel_sent
+pub spells_pixels : SpellsPixels (pixels_of black) pixel_sent
 unfolding pixels_of
 spells_pixels = record { blue = lane; green = lane; red = lane }
 
 -- How a packet of zeros is carried.
 
-unfoldable words : List (List ℕ)
+unfoldable pub words : List (List ℕ)
 words = map column_words packet_sent
 
 no_bytes : (n : ℕ) → All (λ b. b < 256) (replicate n 0)
@@ -242,7 +242,7 @@ each_body P p q r s (suc (suc zero)) lt = r
 each_body P p q r s (suc (suc (suc zero))) lt = s
 each_body P p q r s (suc (suc (suc (suc b)))) lt = absurd (omega arith)
 
-carries : Carries empty true words
+pub carries : Carries empty true words
 carries = record {
   free = record {
     whole = whole;

@@ -1,6 +1,6 @@
 -- Locality: whatever was received before and after it, a period that was received with few words damaged, after control
 -- columns and before one, is reported as its row.
-use Rattle.std.specs.Prelude.{◌≡◌, ℕ, ◌+◌, ◌-◌, ◌*◌, ◌<◌, ◌≤◌, Bool, true, false, List, [], ◌∷◌, ◌++◌, length, map, take, drop}
+use Rattle.std.specs.Prelude.{◌≡◌, ℕ, ◌+◌, ◌-◌, ◌*◌, ◌<◌, ◌≤◌, Bool, true, false, List, [], ◌∷◌, ◌++◌, length, map, take, drop, slice_get, Some}
 use Rattle.tmds_word.specs.Column.{Column}
 use Rattle.tmds_word.specs.Taps.{IsTap, HasSmallSkew}
 use Rattle.terc4.specs.Columns.{is_control_column}
@@ -8,6 +8,7 @@ use Rattle.lane_deskew.specs.Triples.{IsFirst}
 use Rattle.lane_deskew.specs.Aligned.{aligned_columns}
 use Rattle.island_pack.specs.Periods.{DataIsland, Period, control, video, island, period_columns, columns_of}
 use Rattle.island_pack.specs.Conforming.{is_video_period, is_data_island, IsConforming}
+use Rattle.island_pack.specs.declared.packet.Packet.{Packet}
 use Rattle.island_pack.specs.Spelling.{SpellsBy, freely}
 use Rattle.island_pack.specs.Sparse.{IsNarrow, column_at, unlike_at, IsSparse}
 use Rattle.period_grammar.specs.Events.{Event, event_of, all_at, reported_before}
@@ -146,17 +147,26 @@ pub record IsLocalExample (front : List Period) (p : Period) (back : List Period
   pub later : until ≤ columns_of front
   pub within : (a d e f : ℕ) → BeginColumn 7 (0 ∷ 70 ∷ 35 ∷ []) (a + 12) d e f → columns_of front + period_columns p < a + length (aligned_columns blue green red d e f)
 
--- a packet that stands, and is not the first of its island; a control column comes after it, so that the island is broken off
-pub record IsPacketExample (received : List Column) (j k a m : ℕ) : Type 0 where
-  pub stands : PacketStands received j k
+-- periods with an island of which packet k, not the first one, was received as it was sent, after a packet of which no word was, and before a
+-- control column, by which the island is broken off. The packet stands; and the columns of the tap go on past it, wherever in them the first
+-- full alignment is
+pub record IsPacketExample (front : List Period) (x : DataIsland) (back : List Period) (k : ℕ) (p : Packet) (sent received : List Column) (counts : List ℕ) (until : ℕ) (blue green red : List Bool) : Type 0 where
+  pub reception : ReceivedUntil (front ++ (island x ∷ back)) sent received until
+  pub tapped : IsTap received 7 (0 ∷ 70 ∷ 35 ∷ []) counts blue green red
+  pub aligns : AlignsUntil (front ++ (island x ∷ back)) sent received 7 (0 ∷ 70 ∷ 35 ∷ []) counts until
+  pub packet : slice_get x.packets k ≡ Some p
+  pub stands : PacketStands received (columns_of front) k
   pub second : 1 ≤ k
-  pub late : a + 1 ≤ j
-  pub within : j + 34 + 32 * k ≤ a + m
-  pub has : a + m ≤ length received
-  pub broken : is_control_column (column_at received (j + 34 + 32 * k)) ≡ true
+  pub lost : (i : ℕ) → columns_of front + 2 ≤ i → i < columns_of front + 34 → unlike_at sent received i ≡ 3
+  pub as_sent : (i : ℕ) → columns_of front + 2 + 32 * k ≤ i → i < columns_of front + 34 + 32 * k → unlike_at sent received i ≡ 0
+  pub broken : is_control_column (column_at received (columns_of front + 34 + 32 * k)) ≡ true
+  pub later : until ≤ columns_of front
+  pub within : (a d e f : ℕ) → BeginColumn 7 (0 ∷ 70 ∷ 35 ∷ []) (a + 12) d e f → columns_of front + 34 + 32 * k ≤ a + length (aligned_columns blue green red d e f)
 
 abbrev pub HasPacketExample : Type 0
-HasPacketExample = (received : List Column) × (j k a m : ℕ) × IsPacketExample received j k a m
+HasPacketExample =
+    (front : List Period) × (x : DataIsland) × (back : List Period) × (k : ℕ) × (p : Packet) × (sent received : List Column) × (counts : List ℕ) × (until : ℕ) × (blue green red : List Bool)
+    × IsPacketExample front x back k p sent received counts until blue green red
 
 abbrev pub HasLocalExample : Type 0
 HasLocalExample =

@@ -218,7 +218,8 @@ pub fn has_local_example()
     ensures { HasLocalExample }
 {}
 
-/// There is a packet that is reported so, and is not the first of its island, which is broken off after it.
+/// The premises of the last one are met in a stream and a tap of it that is aligned: the packet is the second one of its island. No character of
+/// the first one was received as it was sent, and the island is broken off after the second.
 pub fn has_packet_example()
     ensures { HasPacketExample }
 {}
