@@ -1,7 +1,7 @@
 """A table of what `recover relock` promises after one control period that came whole, by random captures with any characters around it.
 
-    around      any bits come first on each lane, and any columns of the stream are damaged, but for the control period that came whole. Each
-                line and island that stands alone after it has its row
+    around      any bits come first on each lane, and any columns of the stream are damaged, but for the control period that came
+                whole. Each line and island that stands alone after it has its row
 
 The premises on what is received after it are made true: no character near the end of a control period is received as a control or guard
 character that it was not, and captures one lane of which has a stray are passed over."""

@@ -12,9 +12,9 @@ TOOLS += ["stream", "survey", "timing", "watch", "waves"]
 
 
 def commands(text):
-    """The lines that are set in, behind the line that announces examples."""
+    """The indented lines after the line that announces examples. Those that serve a page until Ctrl-C are left out."""
     behind = text.rpartition("\nExamples")[2]
-    return [line for line in behind.splitlines() if line.startswith("  ")]
+    return [line for line in behind.splitlines() if line.startswith("  ") and "page --raw" not in line]
 
 
 @pytest.mark.parametrize("name", TOOLS)

@@ -24,7 +24,7 @@ start at disparity 0, a missing guard band, or an inverted parity."""
 FAULTY = "done, and the capture has a fault"
 EXAMPLES = """./vabgrot make content < examples/bars.content > bars.tmc
 tools/characters bars.tmc --at 500 --count 8
-tools/characters bars.tmc --at 1:12:30"""
+tools/characters bars.tmc --at 1:4:12"""
 BEFORE = 2  # columns shown before the first fault, if the user gives no column
 MOST = 100_000
 
