@@ -29,14 +29,14 @@ the packets in words and the listing, which you can save. The proved receiver ru
 The browser must support WebAssembly with 64-bit memory.
 
 With --raw, the page follows a live link: raw blocks without a header and without an end, as `tools/watch --raw` reads them.
-The tool receives them with the proved receiver of the C library. The page shows the verdict, the last frame, the faults,
-the packets, the sound levels and the last minute. Ctrl-C ends the tool with a summary.
+To try it: `tools/lanes blocks my.tmc --repeat | tools/page --raw`. The tool receives the link with the proved receiver of
+the C library. The page shows the verdict, the last frame, the faults, the packets, the sound levels and the last minute.
+Ctrl-C ends the tool with a summary.
 
 The page is served on 127.0.0.1 only, and a capture is sent nowhere. With -o, the tool writes the page as one file, which a
 browser opens from disk."""
 FAULTY = "done, and the link that --raw follows had a fault, or its lanes were not aligned"
-EXAMPLES = """tools/page -o page.html
-tools/lanes blocks bars.tmc --repeat | tools/page --raw"""
+EXAMPLES = "tools/page -o page.html"
 LIVE = "live.html"  # the page of a live link
 HOST = "127.0.0.1"
 MOST_PORT = 65535
