@@ -148,7 +148,7 @@ def test_speakers_that_are_not_told(report, program, tmp_path, allocation, says,
     """A channel that is sent and that CA does not use is played and saved behind all others."""
     audio = "" if allocation is None else infoframe(0x84, 1, f"030000{allocation:02x}00" + "00" * 5)
     lines = LINK_HEAD + AVI_1 + CLOCKS + audio + WIDE + "e 00\nc 00 12\nend\n"
-    page = report(program("make", "link", source=lines.encode()))
+    page = report(program("make", "link", source=lines.encode()), int(allocation == 0x32))
     assert page.text("sound-says").endswith(says)
     assert page.run("return [...document.querySelectorAll('.wave li')].map((one) => one.textContent)") == names
     assert read_wav(saved(page, tmp_path))[2:] == (mask, [(1, 1, 1, 1)])
@@ -157,13 +157,13 @@ def test_speakers_that_are_not_told(report, program, tmp_path, allocation, says,
 def test_the_rate(report, program):
     """Without a clock packet the rate is the audio InfoFrame's; without both it is supposed; where they are unlike this is said."""
     one = packet_line("020110", "00010000010088")
-    for more, says in (
-        ("", "48,000 Hz, which is supposed, since nothing that was received tells it"),
-        (infoframe(0x84, 1, "0108" + "00" * 8), "44,100 Hz, by the audio InfoFrame"),
-        (CLOCKS + infoframe(0x84, 1, "0108" + "00" * 8), "These do not agree: the clock packets 48,000 Hz, the audio InfoFrame 44,100 Hz."),
+    for status, more, says in (
+        (0, "", "48,000 Hz, which is supposed, since nothing that was received tells it"),
+        (1, infoframe(0x84, 1, "0108" + "00" * 8), "44,100 Hz, by the audio InfoFrame"),
+        (1, CLOCKS + infoframe(0x84, 1, "0108" + "00" * 8), "These do not agree: the clock packets 48,000 Hz, the audio InfoFrame 44,100 Hz."),
     ):
         lines = LINK_HEAD + AVI_1 + more + one + "e 00\nc 00 12\nend\n"
-        page = report(program("make", "link", source=lines.encode()), 1)
+        page = report(program("make", "link", source=lines.encode()), status)
         assert says in page.text("sound-says")
 
 

@@ -259,7 +259,7 @@ function startRules() {
       row.hidden = !isWanted;
     }
   };
-  const verdicts = [["", "all"], ...["fail", "not judged", "pass"].map((one) => [one, one])];
+  const verdicts = [["", "all"], ...["fail", "damaged", "not judged", "pass"].map((one) => [one, one])];
   const [label] = choice("verdict", verdicts, (value) => { wanted.verdict = value; fill(); });
   const input = made("input", { type: "search", oninput: () => { wanted.text = input.value.trim().toLowerCase(); fill(); } });
   const bar = made("div", { className: "bar", role: "group" }, label, made("label", {}, "text ", input));
