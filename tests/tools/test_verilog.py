@@ -76,14 +76,14 @@ def test_the_source(tool, program, core, tmp_path, simulator):
     assert kinds["s"] == [sample(number) for number in range(len(kinds["s"]))]
     others = {line for line in lines if line.split()[0] not in kinds}
     assert others == {"avi 0 0 1 0 8 0 0 0 0 0 0 0 0 0 0 0 0", "acr 6144 25200", "audio 1 0 0 0 0 0 0", "end"}
-    assert b"3 frames, 162 packets, 0 faults" in tool("report", path, "-o", tmp_path / "a.html").stderr
+    assert b"Link clean (" in tool("report", path, "-o", tmp_path / "a.html").stderr
 
 
 @pytest.mark.parametrize("simulator", NEEDED)
 def test_the_source_of_dvi(tool, program, core, tmp_path, simulator):
     """It has pixels alone, and no fault."""
     path = core(dvi="1", simulator=simulator)
-    assert b"3 frames, 0 packets, 0 faults" in tool("report", "--dvi", path, "-o", tmp_path / "a.html").stderr
+    assert b"Link clean (" in tool("report", "--dvi", path, "-o", tmp_path / "a.html").stderr
     lines = program("recover", "dvi", source=path.read_bytes()).decode().splitlines()
     assert {line.split()[0] for line in lines} == {"c", "v", "end"}
     rows = [line for line in lines if line[0] == "v"]
@@ -240,6 +240,6 @@ def test_each_bug_is_named(tool, program, core, bug, name, words, says):
 def test_the_right_source_breaks_no_rule(tool, program, core):
     """Nor does one of DVI have a fault; a clock makes the rules of sound judged."""
     said = tool("conform", core(), "--clock", 25_200_000).stdout.decode()
-    assert "FAIL" not in said and "pass        sample rate " in said and said.endswith(" 0 fail, 7 are not judged\n")
+    assert "FAIL" not in said and "pass        sample rate " in said and said.endswith(" 0 fail, 0 damaged by the link, 7 not judged\n")
     tool("characters", core(dvi="1"), "--dvi")
     tool("errors", core(dvi="1"), "--dvi")
