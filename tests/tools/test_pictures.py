@@ -189,7 +189,7 @@ def test_a_capture_has_the_frames_of_its_listing(tool, program, tmp_path):
     came = [tool("pictures", tmp_path / name, "--mark", source=it, status=1).stderr for name, it in (("capture", capture), ("link", link))]
     assert came[0] == came[1] and came[0].endswith(b"\n1 frames, 1 faults in them, 0 others\n")
     assert (tmp_path / "capture" / "frame0000.png").read_bytes() == (tmp_path / "link" / "frame0000.png").read_bytes()
-    assert b"not a whole capture" in tool("pictures", tmp_path / "none", source=capture[:-1], status=3).stderr
+    assert b"not aligned" in tool("pictures", tmp_path / "none", source=capture[:-1], status=1).stderr  # no whole block is left
 
 
 @pytest.mark.parametrize("line", [b"! slip 1 900\n", b"! relock 900\n"])
