@@ -150,7 +150,7 @@ def test_a_slip_leaves_its_frame_out(tool, tmp_path):
         (b"! code 0 9\nrow 010203\nc 00 12\nend\n", b"line 3: `c 00 12` does not begin a line of a content listing"),
         (b"x\nend\n", b"line 1: `x` does not begin a line of a listing"),
         (b"c 0x 12\nend\n", b"line 1: `0x` is not a hexadecimal number"),
-        (b"c 00 12\n! code\nend\n", b"line 2: a fault line has no place"),
+        (b"c 00 12\n! code\nend\n", b"line 2: the fault has no place"),
         (b"row 01020\nend\n", b"line 1: `01020` is not a row of 6 hexadecimal digits each"),
         (b"row 0102030405\nend\n", b"line 1: `0102030405` is not a row"),
         (b"row x\nend\n", b"line 1"),
