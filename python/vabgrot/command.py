@@ -122,7 +122,7 @@ def run(name: str, work: Callable[[], int]) -> int:
         output = "standard output" if why.errno in FULL else None
         said = ": ".join(str(part) for part in (why.filename or output, why.strerror or str(why)) if part)
     except ModuleNotFoundError as absent:
-        said = missing(absent) or ""
+        said, refused = missing(absent) or "", REFUSED
         if not said:
             raise
     except KeyboardInterrupt:
