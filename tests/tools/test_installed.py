@@ -14,12 +14,23 @@ import pytest
 
 from tests.support import HANGS, TOP, built
 from tests.tools.test_examples import TOOLS, commands
+from vabgrot import library as native
 
 PARTS = ("vabgrot", "build.py", "setup.py", "pyproject.toml", "crates.txt", "README.md", "CONTRIBUTING.md", "CHANGELOG.md")
 PARTS += ("debian", "docs", "examples", "page", "tools", "python", "share")
 
 
-def copied(top, library=None):
+def put_library(top, folder):
+    """Puts the C library, which is built in a folder or in one above it, into a checkout."""
+    folder = next((it for it in (folder, *folder.parents) if (it / "libvabgrot.a").is_file()), folder)
+    shutil.copytree(TOP / "library", top / "library", ignore=shutil.ignore_patterns("out"))
+    for name in ("libvabgrot.a", native.NAME, native.NEWER):
+        if (folder / name).is_file():
+            (top / "library" / "out" / name).parent.mkdir(parents=True, exist_ok=True)
+            shutil.copy(folder / name, top / "library" / "out" / name)
+
+
+def copied(top, library):
     """A checkout with the built program in it, and with the C library of a folder. Its build scripts do nothing."""
     top.mkdir()
     for name in PARTS:
@@ -27,11 +38,9 @@ def copied(top, library=None):
         copy(TOP / name, top / name)
     (top / "crates" / "hdmi_cli" / "out").mkdir(parents=True)
     shutil.copy(built(), top / "crates" / "hdmi_cli" / "out" / "hdmi_cli")
-    if library:
-        shutil.copytree(TOP / "library", top / "library", ignore=shutil.ignore_patterns("out"))
-        shutil.copytree(library, top / "library" / "out", symlinks=True)
-        for script in ("build.py", "library/build"):
-            (top / script).write_text("#!/bin/sh\n")
+    put_library(top, library)
+    for script in ("build.py", "library/build"):
+        (top / script).write_text("#!/bin/sh\n")
     return top
 
 
@@ -62,12 +71,14 @@ def venv_of(folder, wheel):
 
 
 @pytest.fixture(scope="module", params=["install", "package", "wheel"])
-def installed(request, tmp_path_factory):
-    """All of it, installed in one of three ways. The checkout is deleted."""
+def installed(request, tmp_path_factory, hearing):
+    """All of it, installed in one of three ways, with the C library that the tests use. The checkout is deleted."""
+    if hearing:
+        pytest.skip(hearing)
     if not built().is_file():
         pytest.skip(f"there is no program {built()}: `./vabgrot` builds it, or VABGROT_PROGRAM names one")
     folder = tmp_path_factory.mktemp(request.param)
-    top = copied(folder / "top")
+    top = copied(folder / "top", Path(native.find()).parent)
     words = ["package", "--wheel"] if request.param == "wheel" else [request.param]
     made = made_by(top, words, folder / "made")
     shutil.rmtree(top)
@@ -102,13 +113,12 @@ def shell(installed, tmp_path):
 
 
 @pytest.mark.parametrize("name", TOOLS)
-def test_the_examples_of_each_tool(shell, prefix, name, hearing):
+def test_the_examples_of_each_tool(shell, prefix, name):
     """As its --help prints them."""
     lines = commands(shell(f"vabgrot-{name} --help").stdout)
     assert lines and (name == "page" or f"{prefix}/share/doc/vabgrot/" in "\n".join(lines))
     if name == "page" and not (TOP / "page" / "vabgrot.wasm").is_file():
         pytest.skip("there is no page/vabgrot.wasm: page/build makes it")
-    lines.insert(0, f"export VABGROT_LIBRARY={os.environ.get('VABGROT_LIBRARY', '')}")
     came = shell("\n".join(lines))
     if name == "slice":
         assert came.stdout == (TOP / "examples" / "red.link").read_text()
@@ -121,7 +131,7 @@ def test_each_tool_on_a_capture(shell, prefix, tmp_path):
     assert shell("vabgrot check < bars.tmc", 1).stdout.endswith("faulty\n")
     shell("vabgrot-report bars.tmc -o bars.html", 1)
     page = (tmp_path / "bars.html").read_text()
-    assert "Faulty" in page and "vabgrot-report bars.tmc" in page and "tools/report" not in page
+    assert "Link faulty" in page and "vabgrot-report bars.tmc" in page and "tools/report" not in page
     shell("vabgrot recover link < bars.tmc > bars.link || vabgrot-pictures --mark pictures < bars.link", 1)
     shell("vabgrot recover content < bars.tmc > bars.content || vabgrot-sound bars.wav < bars.content")
     shell("vabgrot-content pictures/frame0000.png --mode 32,8,16,64,8,2,2,2,1 --sound bars.wav | vabgrot make content > again.tmc")

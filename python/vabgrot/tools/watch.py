@@ -48,7 +48,7 @@ FAULTY = "done, and there was a fault, or the lanes were not aligned"
 EXAMPLES = """./vabgrot make content < examples/bars.content > bars.tmc
 cat bars.tmc | tools/watch --log faults.csv
 tools/watch --follow --stop-on-fault bars.tmc
-tools/lanes blocks bars.tmc --bits 54000 --repeat 99 | tools/watch --raw --events events.csv --stop-on slip --keep 2"""
+tools/lanes blocks bars.tmc | tools/watch --raw --events events.csv --stop-on slip --keep 2"""
 EACH = 0.25  # seconds between two views, at least
 REST = 40  # times as long as a view takes to draw passes before the next one: drawing has half of the time of what looks
 SECOND = 1.0
