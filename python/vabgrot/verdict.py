@@ -210,8 +210,9 @@ class Verdict:
     def headline(self) -> str:
         """One line: the worst class, its first causes, and how much was judged."""
         link = self.link.words
+        judged = f" ({self.coverage.words})" if self.coverage.words else ""
         if self.word == Word.UNALIGNED:
-            return f"{self.word}: {link}"
+            return f"{self.word}: {link}{judged}"
         if self.encryption:
             return str(self.encryption)
         says = [LINK_CLEAN if self.link.is_clean else f"{Word.LINK}: {link}"]
@@ -223,7 +224,7 @@ class Verdict:
             says.append(f"{CONTENTS_WRONG}: {', '.join(f'{times:,} {kind}' for kind, times in self.wrong_contents.items())}")
         elif self.word == Word.NOTHING:
             says.append(NOTHING_CAME)
-        return "; ".join(says) + (f" ({self.coverage.words})" if self.coverage.words else "")
+        return "; ".join(says) + judged
 
     def cause(self, one: Ruling) -> str:
         """Describes a broken rule in a few words."""

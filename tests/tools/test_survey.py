@@ -2,10 +2,12 @@
 
 import csv
 import json
+import os
 import signal
 import subprocess
 import sys
 import time
+from contextlib import contextmanager, suppress
 from pathlib import Path
 
 import pytest
@@ -14,14 +16,14 @@ from tests.support import HANGS, TOP
 
 EXAMPLES = TOP / "examples"
 RED = (EXAMPLES / "red.link").read_bytes()
-TOTAL = "12 clean, 2 link faulty, 1 not aligned, 1 nothing judged"  # of the folder
+TOTAL = "12 clean, 2 link faulty, 2 not aligned"  # of the folder
 COUNTS = {"columns": "27", "lines": "1", "pixels": "1"}
 CONNECT = "DASK_DISTRIBUTED__COMM__TIMEOUTS__CONNECT"  # how long Dask and the survey wait for a connection
 
 
 @pytest.fixture
 def folder(program, tmp_path):
-    """Twelve clean captures, one of a damaged pixel, one of no alignment, one that breaks off, and one of an island."""
+    """Twelve clean captures, one of a damaged pixel, one of no alignment, one that breaks off in its first block, and one of an island."""
     folder = tmp_path / "captures"
     (folder / "more").mkdir(parents=True)
     red = program("make", "link", source=RED)
@@ -56,7 +58,7 @@ def test_each_capture_is_judged(tool, folder, tmp_path):
     island = {"verdict": "link faulty", "columns": "75", "islands": "1", "packets": "1", "symbols": "1", "mended": "1"}
     assert taken(rows["island.tmc"], island) == island
     assert rows["none.tmc"]["verdict"] == "not aligned" and rows["none.tmc"]["note"].startswith("Not aligned: the three lanes")
-    assert rows["short.tmc"]["verdict"] == "nothing judged" and "the capture is cut off" in rows["short.tmc"]["note"]
+    assert rows["short.tmc"]["verdict"] == "not aligned" and "the capture is cut off" in rows["short.tmc"]["note"]
     page = (tmp_path / "survey.html").read_text()
     assert f"<h1>16 captures: {TOTAL}</h1>" in page and page.count("<tr class=") == 16
 
@@ -119,17 +121,25 @@ def waited(until):
     raise AssertionError("it took too long")
 
 
+@contextmanager
 def begun(words):
-    return subprocess.Popen([str(word) for word in words], stderr=subprocess.PIPE, stdout=subprocess.DEVNULL)
+    """A survey in a process group of its own, of which nothing is left in the end."""
+    pipes = {"stderr": subprocess.PIPE, "stdout": subprocess.DEVNULL}
+    with subprocess.Popen([str(word) for word in words], start_new_session=True, **pipes) as survey:
+        try:
+            yield survey
+        finally:
+            with suppress(ProcessLookupError):
+                os.killpg(survey.pid, signal.SIGKILL)
 
 
 def test_a_stopped_survey_goes_on(tool, folder, tmp_path):
     """It is stopped once a capture is judged; what is in the table is kept."""
     table = tmp_path / "survey.csv"
-    survey = begun([TOP / "tools" / "survey", folder, "-o", table])
-    waited(lambda: table.exists() and table.read_bytes().count(b"\n") > 1)
-    survey.send_signal(signal.SIGKILL)
-    survey.communicate(timeout=HANGS)
+    with begun([TOP / "tools" / "survey", folder, "-o", table]) as survey:
+        waited(lambda: table.exists() and table.read_bytes().count(b"\n") > 1)
+        os.killpg(survey.pid, signal.SIGKILL)
+        survey.communicate(timeout=HANGS)
     kept = table.read_bytes().count(b"\n") - 1
     came = tool("survey", folder, "-o", table, status=1)
     assert came.stderr == f"16 captures, {16 - kept} judged now: {TOTAL}\n".encode() and len(rows_of(table)) == 16
@@ -145,9 +155,10 @@ def address_in(path):
 
 @pytest.fixture
 def cluster(tmp_path, monkeypatch):
-    """A Dask scheduler on the loopback and two workers: its address, and the workers."""
+    """A Dask scheduler on the loopback and two workers, which have the package: its address, and the workers."""
     pytest.importorskip("distributed", reason="Debian's package python3-distributed is missing")
     monkeypatch.setenv(CONNECT, "300s")
+    monkeypatch.setenv("PYTHONPATH", str(TOP / "python"))
     address = tmp_path / "scheduler.json"
     dask = [sys.executable, "-m", "distributed.cli."]
     running = []
@@ -172,11 +183,11 @@ def test_a_worker_that_dies_loses_no_capture(tool, folder, cluster, tmp_path):
     address, workers = cluster
     table = tmp_path / "survey.csv"
     words = [folder, "-o", table, "--scheduler", address]
-    survey = begun([TOP / "tools" / "survey", *words])
-    waited(lambda: table.exists())
-    workers[0].kill()
-    workers[0].wait()
-    _, told = survey.communicate(timeout=HANGS)
+    with begun([TOP / "tools" / "survey", *words]) as survey:
+        waited(lambda: table.exists())
+        workers[0].kill()
+        workers[0].wait()
+        _, told = survey.communicate(timeout=HANGS)
     assert survey.returncode == 1, told
     # if the machine is busy the scheduler's own words on the worker that died may come after it
     assert f"16 captures, 16 judged now: {TOTAL}\n".encode() in told
