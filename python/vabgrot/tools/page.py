@@ -172,6 +172,7 @@ def follow(path: str, is_dvi: bool, number: int) -> int:
                 if not feed.is_stopped:
                     command.say("the link has ended: Ctrl-C ends the page, too")
                     select.select([feed.wake], [], [])
+            print("\n".join(state.summary()))
             return ended(state)
         finally:
             feed.close()
