@@ -76,7 +76,7 @@ def test_the_report_where_nothing_helps(tool, sent, tmp_path):
     (tmp_path / "a.tmc").write_bytes(sent("--skew", "0,300,35"))
     said = json.loads(tool("report", tmp_path / "a.tmc", "--json", status=1).stdout)
     assert not said["relocked"] and said["verdict"]["word"] == "Not aligned"
-    assert len(said["advice"]) == 1 and f"At the skew 0,300,35 {ROWS} openings" in said["advice"][0]
+    assert len(said["advice"]) == 1 and f"At the skew 0,300,35, {ROWS} openings" in said["advice"][0]
 
 
 def test_random_bit_errors(tool, program, sent, chosen, tmp_path):
