@@ -1,5 +1,5 @@
-"""The page and tools/report have one verdict: the same word, by one table. The page judges no rules, and says `Link clean` where none but
-these could be broken."""
+"""The page and tools/report have one verdict: the same word, by one table. The page judges no rules, so it says `Link clean` where only
+rules could be broken, and `Link faulty` where a broken rule explains all faults."""
 
 import json
 import lzma
@@ -60,10 +60,13 @@ def test_one_verdict(driver, served, hearing, program, tmp_path, compare):
             page = pages.Reader(driver, served)
             page.read(path)
             word, says = page.text("word"), page.text("says")
-            is_left_out = word == LINK_CLEAN and (verdict["word"] == Word.CLEAN or verdict["word"] == Word.SOURCE and verdict["broken"])
-            yield f"{name}: {says}, {verdict['headline']}", LINK_CLEAN if is_left_out else word, LINK_CLEAN if is_left_out else verdict[
-                "word"
-            ]
+            by_rules = verdict["word"] == Word.SOURCE and verdict["broken"]
+            allowed = {verdict["word"]}
+            if verdict["word"] == Word.CLEAN or by_rules:
+                allowed = {Word.LINK if verdict["link"]["faults"] else LINK_CLEAN} | (
+                    {Word.SOURCE} if by_rules and verdict["contents"] else set()
+                )
+            yield f"{name}: {says}, {verdict['headline']}", word if word not in allowed else verdict["word"], verdict["word"]
             if meant:
                 yield f"{name} as it is meant", word, meant
             yield f"{name} is cut off", CUT_OFF in says, verdict["coverage"]["cut_off"]
