@@ -157,10 +157,11 @@ def test_speakers_that_are_not_told(report, program, tmp_path, allocation, says,
 def test_the_rate(report, program):
     """Without a clock packet the rate is the audio InfoFrame's; without both it is supposed; where they are unlike this is said."""
     one = packet_line("020110", "00010000010088")
+    told = infoframe(0x84, 1, "0108" + "00" * 8)
     for status, more, says in (
         (0, "", "48,000 Hz, which is supposed, since nothing that was received tells it"),
-        (1, infoframe(0x84, 1, "0108" + "00" * 8), "44,100 Hz, by the audio InfoFrame"),
-        (1, CLOCKS + infoframe(0x84, 1, "0108" + "00" * 8), "These do not agree: the clock packets 48,000 Hz, the audio InfoFrame 44,100 Hz."),
+        (1, told, "44,100 Hz, by the audio InfoFrame"),
+        (1, CLOCKS + told, "These do not agree: the clock packets 48,000 Hz, the audio InfoFrame 44,100 Hz."),
     ):
         lines = LINK_HEAD + AVI_1 + more + one + "e 00\nc 00 12\nend\n"
         page = report(program("make", "link", source=lines.encode()), status)
