@@ -223,7 +223,7 @@ def content_of(rng: random.Random) -> bytes:
         ]
         for _ in range(rng.randrange(1, 5)):
             lines += [f"acr {numbers(rng, (1 << 20) - 1, (1 << 20) - 1)}", *samples(rng)]
-        lines += [f"row {rng.randbytes(3 * sizes[0]).hex()}" for _ in range(sizes[4])] + ["frame"]
+        lines += [f"row {rng.randbytes(3 * sizes[0]).hex()}" for _ in range(sizes[4])] + [f"frame {sizes[0]} {sizes[4]}"]
     return "\n".join([*lines, "end", ""]).encode()
 
 
