@@ -6,7 +6,7 @@ use Rattle.std.specs.Prelude.{nat_le}
 use Rattle.std.proofs.lemmas.List.{append-nil, map-append}
 use Rattle.tmds_word.specs.Column.{Column}
 use Rattle.terc4.specs.Columns.{is_control_column}
-use Rattle.period_grammar.specs.Events.{Event, short, long_line, all_at, event_of}
+use Rattle.period_grammar.specs.Events.{Event, EventAt, short, long_line, all_at, event_of}
 use Rattle.period_grammar.specs.Cut.{Stretch, stretch, stretches, runs}
 use Rattle.period_grammar.specs.Heard.{last_run, reach}
 use Rattle.period_grammar.specs.After.{last}
@@ -69,15 +69,13 @@ pub pushed : (cs : List Column) (c : Column) → dvi_so_far (cs ++ c ∷ []) ≡
 unfolding dvi_so_far
 pushed cs c = push_law dvi_gaps no_gain dvi_grows cs c (start_of cs) (starts cs)
 
-reported_more : (cs ds : List Column) → (us : List Event) × (map event_of (dvi_so_far (cs ++ ds)) ≡ map event_of (dvi_so_far cs) ++ us)
-reported_more cs [] = ([], ap (λ xs. map event_of (dvi_so_far xs)) (append-nil cs) ∙ sym (append-nil (map event_of (dvi_so_far cs))))
+reported_more : (cs ds : List Column) → (us : List EventAt) × (dvi_so_far (cs ++ ds) ≡ dvi_so_far cs ++ us)
+reported_more cs [] = ([], ap dvi_so_far (append-nil cs) ∙ sym (append-nil (dvi_so_far cs)))
 reported_more cs (d ∷ ds) =
-    let one = gains_by dvi_gaps no_gain (is_control_column d) (start_of cs) (length cs) d (last (stretches cs)) in
-    let here = reported_then cs (cs ++ d ∷ []) (length cs) one (pushed cs d) in
+    let one = all_at (length cs) (gains_by dvi_gaps no_gain (is_control_column d) (start_of cs) (length cs) d (last (stretches cs))) in
     let rest = reported_more (cs ++ d ∷ []) ds in (
       one ++ rest.0,
-      ap (λ xs. map event_of (dvi_so_far xs)) (sym (append_assoc cs (d ∷ []) ds)) ∙ rest.1 ∙ ap (λ ts. ts ++ rest.0) here
-          ∙ append_assoc (map event_of (dvi_so_far cs)) one rest.0,
+      ap dvi_so_far (sym (append_assoc cs (d ∷ []) ds)) ∙ rest.1 ∙ ap (λ ts. ts ++ rest.0) (pushed cs d) ∙ append_assoc (dvi_so_far cs) one rest.0,
     )
 
 nothing : dvi_so_far [] ≡ []

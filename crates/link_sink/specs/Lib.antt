@@ -1,3 +1,5 @@
+pub mod Told
+pub mod EventsIn
 pub mod Seen
 pub mod Ears
 pub mod Grammar

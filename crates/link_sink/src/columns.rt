@@ -3,6 +3,7 @@ ghost use Rattle.std.specs.Prelude.{◌≡◌, ◌<◌, ◌≤◌, ◌+◌, ◌+
 ghost use Rattle.outside_io.specs.Causes.{HasCause};
 ghost use Rattle.tmds_word.specs.Column.{Column};
 ghost use Rattle.tmds_word.specs.Lent.{columns_in};
+ghost use Rattle.link_sink.specs.Told.{TookAt, BrokeAt};
 ghost use Rattle.link_sink.specs.Telling.{TookMore, StoppedIn};
 
 use crate::Ear;
@@ -20,8 +21,8 @@ pub fn hear_columns<H: Hears, E: Ear>(
     requires few { H.counted hearing.old + length (columns_in columns) ≤ MOST_COLUMNS }
     requires heard { (cs : List Column) × H.goes_on hearing.old cs }
     ensures heard { OnOk result ((cs : List Column) → H.goes_on hearing.old cs → H.goes_on hearing.new (cs ++ columns_in columns.entry)) }
-    ensures reported { OnOk result ((cs : List Column) → H.goes_on hearing.old cs → TookMore H.grammar E.took_at ear.old ear.new cs (columns_in columns.entry)) }
-    ensures stopped { OnErr result ((cs : List Column) → H.goes_on hearing.old cs → StoppedIn H.grammar E.took E.broke ear.old ear.new cs (columns_in columns.entry)) }
+    ensures reported { OnOk result ((cs : List Column) → H.goes_on hearing.old cs → TookMore H.grammar (TookAt E.took) ear.old ear.new cs (columns_in columns.entry)) }
+    ensures stopped { OnErr result ((cs : List Column) → H.goes_on hearing.old cs → StoppedIn H.grammar (TookAt E.took) (BrokeAt E.broke) ear.old ear.new cs (columns_in columns.entry)) }
     ensures cause { HasCause (E.faults ear.old) (E.faults ear.new) result }
 {
     let mut j = 0;
@@ -43,8 +44,8 @@ fn hear_part<H: Hears, E: Ear>(
     requires heard { (cs : List Column) × H.goes_on hearing.old cs }
     ensures count { IfOk result (λ n. (0 < n) × (n ≤ length (columns_in columns.entry))) }
     ensures heard { IfOk result (λ n. (cs : List Column) → H.goes_on hearing.old cs → H.goes_on hearing.new (cs ++ take n (columns_in columns.entry))) }
-    ensures reported { IfOk result (λ n. (cs : List Column) → H.goes_on hearing.old cs → TookMore H.grammar E.took_at ear.old ear.new cs (take n (columns_in columns.entry))) }
-    ensures stopped { OnErr result ((cs : List Column) → H.goes_on hearing.old cs → StoppedIn H.grammar E.took E.broke ear.old ear.new cs (columns_in columns.entry)) }
+    ensures reported { IfOk result (λ n. (cs : List Column) → H.goes_on hearing.old cs → TookMore H.grammar (TookAt E.took) ear.old ear.new cs (take n (columns_in columns.entry))) }
+    ensures stopped { OnErr result ((cs : List Column) → H.goes_on hearing.old cs → StoppedIn H.grammar (TookAt E.took) (BrokeAt E.broke) ear.old ear.new cs (columns_in columns.entry)) }
     ensures cause { HasCause (E.faults ear.old) (E.faults ear.new) result }
 {
     let went = hearing.hear_while(columns);

@@ -1,48 +1,32 @@
-//! Whoever takes what is reported of a link.
-ghost use Rattle.std.specs.Prelude.{ℕ, List, [], ◌∷◌, ◌++◌, map, OnOk, OnErr};
+//! The trait of what takes everything that is told about lanes.
+ghost use Rattle.std.specs.Prelude.{ℕ, List, [], ◌∷◌, ◌++◌, OnOk, OnErr};
 ghost use Rattle.outside_io.specs.Causes.{HasCause};
-ghost use Rattle.period_grammar.specs.Events.{Event, EventAt, at, event_of};
-ghost use Rattle.period_grammar.specs.Lending.{lent_event};
-ghost use Rattle.period_grammar.specs.Sizes.{IsSized};
+ghost use Rattle.link_sink.specs.Told.{Told, lent_told, IsToldSized};
 
+use crate::told::ToldRef;
 use outside_io::Failed;
-use period_grammar::EventRef;
 
-/// Takes what is reported of a link, one event after another. It keeps no list of what was reported to it.
+/// Takes what is told about lanes, one thing after another. It keeps no list of what it was told.
 pub trait Ear {
     /// How often the ear has failed. The count stops at the greatest u64.
     ghost faults: { Self → ℕ };
 
-    /// From the first state to the second the ear took these events, one after another.
-    ghost took: { Self → Self → List Event → Type 0 };
+    /// From the first state to the second the ear took these things, one after another.
+    ghost took: { Self → Self → List Told → Type 0 };
 
-    /// From the first state to the second the ear took these events, each at its column. An ear that makes nothing of the
-    /// columns took the events alone.
-    ghost took_at: { Self → Self → List EventAt → Type 0 };
+    /// From the first state to the second the ear failed in the midst of this one.
+    ghost broke: { Self → Self → Told → Type 0 };
 
-    /// From the first state to the second the ear failed in the midst of this event.
-    ghost broke: { Self → Self → Event → Type 0 };
-
-    /// Takes one event, which is reported at a column: columns are counted from the first aligned one on, and what is
-    /// reported at the end is reported at their number. The sizes are those of everything that a hearing reports.
-    fn hear(&mut self, column: u64, event: EventRef<'_>) -> Result<(), Failed>
-        requires { IsSized (lent_event event) }
-        ensures ok { OnOk result (took_at self.old self.new (at column (lent_event event.entry) ∷ [])) }
-        ensures err { OnErr result (broke self.old self.new (lent_event event.entry)) }
+    /// Takes one thing. It has the sizes of everything that is told.
+    fn hear(&mut self, told: ToldRef<'_>) -> Result<(), Failed>
+        requires { IsToldSized (lent_told told) }
+        ensures ok { OnOk result (took self.old self.new (lent_told told.entry ∷ [])) }
+        ensures err { OnErr result (broke self.old self.new (lent_told told.entry)) }
         ensures cause { HasCause (faults self.old) (faults self.new) result };
 
     /// To take nothing changes nothing.
     ghost took_none: { (x : Self) → took x x [] };
 
     /// To take some things and then others is to take the ones and the others.
-    ghost took_both: { (x y z : Self) (h k : List Event) → took x y h → took y z k → took x z (h ++ k) };
-
-    /// The same with columns.
-    ghost took_none_at: { (x : Self) → took_at x x [] };
-
-    /// The same with columns.
-    ghost took_both_at: { (x y z : Self) (h k : List EventAt) → took_at x y h → took_at y z k → took_at x z (h ++ k) };
-
-    /// What was taken with columns was taken.
-    ghost forgets: { (x y : Self) (events : List EventAt) → took_at x y events → took x y (map event_of events) };
+    ghost took_both: { (x y z : Self) (h k : List Told) → took x y h → took y z k → took x z (h ++ k) };
 }

@@ -1,11 +1,12 @@
 //! Receives three lanes, feed after feed, and reports what they say. A receiver stores only what is still to be
 //! reported: the last bits of each lane, the characters that wait for those of another lane, and the period
 //! that goes on.
-ghost use Rattle.std.specs.Prelude.{◌≡◌, List, [], true, false, map, IfOk, OnOk, OnErr};
+ghost use Rattle.std.specs.Prelude.{◌≡◌, List, [], true, false, IfOk, OnOk, OnErr};
 ghost use Rattle.outside_io.specs.Causes.{HasCause};
-ghost use Rattle.period_grammar.specs.Events.{Event, EventAt, all_at, event_of};
+ghost use Rattle.period_grammar.specs.Events.{Event, EventAt, all_at};
+ghost use Rattle.link_sink.specs.Told.{TookAt, BrokeAt};
 ghost use Rattle.link_sink.specs.Ears.{StopsIn};
-ghost use Rattle.link_sink.specs.Sinks.{Fed, grown_by, IsGainBy, IsGainAt, IsLastBy};
+ghost use Rattle.link_sink.specs.Sinks.{Fed, grown_by, IsGainAt, IsLastBy};
 ghost use Rattle.link_sink.specs.Pieces.{no_bits};
 ghost use Rattle.link_sink.specs.Received.{CanFeedLanes, AreFedMore, IsFoundAt};
 ghost use Rattle.link_sink.specs.Streams.{StandsBy, IsHeard, IsAfter, bits_fed, most_bits};
@@ -114,12 +115,10 @@ impl<H: Hears> LaneReceiver<H> {
         ensures more { OnOk result (AreFedMore (bits_fed self.old) (bits_fed self.new) lanes.entry) }
         ensures fed { (fed : Fed) → StandsBy H.goes_on self.old fed → OnOk result (StandsBy H.goes_on self.new (grown_by fed lanes.entry)) }
         ensures reported { (fed : Fed) → StandsBy H.goes_on self.old fed
-            → OnOk result ((events : List Event) × IsGainBy H.grammar fed (grown_by fed lanes.entry) events × E.took ear.old ear.new events) }
-        ensures reported_at { (fed : Fed) → StandsBy H.goes_on self.old fed
-            → OnOk result ((events : List EventAt) × IsGainAt H.grammar fed (grown_by fed lanes.entry) events × E.took_at ear.old ear.new events) }
+            → OnOk result ((events : List EventAt) × IsGainAt H.grammar fed (grown_by fed lanes.entry) events × TookAt E.took ear.old ear.new events) }
         ensures spent { OnErr result (self.new.is_open ≡ false) }
         ensures stopped { (fed : Fed) → StandsBy H.goes_on self.old fed
-            → OnErr result ((events : List Event) × IsGainBy H.grammar fed (grown_by fed lanes.entry) events × StopsIn E.took E.broke ear.old ear.new events) }
+            → OnErr result ((events : List EventAt) × IsGainAt H.grammar fed (grown_by fed lanes.entry) events × StopsIn (TookAt E.took) (BrokeAt E.broke) ear.old ear.new events) }
         ensures cause { HasCause (E.faults ear.old) (E.faults ear.new) result }
     {
         self.is_open = false;
@@ -147,12 +146,10 @@ impl<H: Hears> LaneReceiver<H> {
         ensures more { OnOk result (AreFedMore (bits_fed self.old) (bits_fed self.new) lanes.entry) }
         ensures fed { (fed : Fed) → StandsBy H.goes_on self.old fed → OnOk result (StandsBy H.goes_on self.new (grown_by fed lanes.entry)) }
         ensures reported { (fed : Fed) → StandsBy H.goes_on self.old fed
-            → OnOk result ((events : List Event) × IsGainBy H.grammar fed (grown_by fed lanes.entry) events × E.took ear.old ear.new events) }
-        ensures reported_at { (fed : Fed) → StandsBy H.goes_on self.old fed
-            → OnOk result ((events : List EventAt) × IsGainAt H.grammar fed (grown_by fed lanes.entry) events × E.took_at ear.old ear.new events) }
+            → OnOk result ((events : List EventAt) × IsGainAt H.grammar fed (grown_by fed lanes.entry) events × TookAt E.took ear.old ear.new events) }
         ensures spent { OnErr result (self.new.is_open ≡ false) }
         ensures stopped { (fed : Fed) → StandsBy H.goes_on self.old fed
-            → OnErr result ((events : List Event) × IsGainBy H.grammar fed (grown_by fed lanes.entry) events × StopsIn E.took E.broke ear.old ear.new events) }
+            → OnErr result ((events : List EventAt) × IsGainAt H.grammar fed (grown_by fed lanes.entry) events × StopsIn (TookAt E.took) (BrokeAt E.broke) ear.old ear.new events) }
         ensures cause { HasCause (E.faults ear.old) (E.faults ear.new) result }
     {
         self.is_open = false;
@@ -177,11 +174,9 @@ impl<H: Hears> LaneReceiver<H> {
         requires open { self.old.is_open ≡ true }
         ensures closed { self.new.is_open ≡ false }
         ensures reported { (fed : Fed) → StandsBy H.goes_on self.old fed
-            → IfOk result (λ outcome. (events : List Event) × IsLastBy H.grammar fed outcome events × E.took ear.old ear.new events) }
-        ensures reported_at { (fed : Fed) → StandsBy H.goes_on self.old fed
-            → IfOk result (λ outcome. (events : List Event) × IsLastBy H.grammar fed outcome events × E.took_at ear.old ear.new (all_at outcome.columns events)) }
+            → IfOk result (λ outcome. (events : List Event) × IsLastBy H.grammar fed outcome events × TookAt E.took ear.old ear.new (all_at outcome.columns events)) }
         ensures stopped { (fed : Fed) → StandsBy H.goes_on self.old fed
-            → OnErr result ((outcome : Outcome) × (events : List Event) × IsLastBy H.grammar fed outcome events × StopsIn E.took E.broke ear.old ear.new events) }
+            → OnErr result ((outcome : Outcome) × (events : List Event) × IsLastBy H.grammar fed outcome events × StopsIn (TookAt E.took) (BrokeAt E.broke) ear.old ear.new (all_at outcome.columns events)) }
         ensures cause { HasCause (E.faults ear.old) (E.faults ear.new) result }
     {
         self.is_open = false;
@@ -204,10 +199,10 @@ fn hear_parts<H: Hears, E: Ear>(
     ensures heard { (before now : Fed) → IsAfter H.goes_on (record { receiver = receiver.old; hearing = hearing.old; outcome = outcome.old }) before now
         → OnOk result (IsHeard H.goes_on (record { receiver = receiver.new; hearing = hearing.new; outcome = outcome.new }) now) }
     ensures reported { (before now : Fed) → IsAfter H.goes_on (record { receiver = receiver.old; hearing = hearing.old; outcome = outcome.old }) before now
-        → OnOk result ((events : List EventAt) × IsGainAt H.grammar before now events × IsGainBy H.grammar before now (map event_of events)
-        × E.took_at ear.old ear.new events) }
+        → OnOk result ((events : List EventAt) × IsGainAt H.grammar before now events
+        × TookAt E.took ear.old ear.new events) }
     ensures stopped { (before now : Fed) → IsAfter H.goes_on (record { receiver = receiver.old; hearing = hearing.old; outcome = outcome.old }) before now
-        → OnErr result ((events : List Event) × IsGainBy H.grammar before now events × StopsIn E.took E.broke ear.old ear.new events) }
+        → OnErr result ((events : List EventAt) × IsGainAt H.grammar before now events × StopsIn (TookAt E.took) (BrokeAt E.broke) ear.old ear.new events) }
     ensures team { receiver.new.team ≡ receiver.old.team }
     ensures cause { HasCause (E.faults ear.old) (E.faults ear.new) result }
 {

@@ -19,6 +19,7 @@ mod link_hearing;
 mod receiver;
 mod sink;
 mod telling;
+mod told;
 
 pub use ear::Ear;
 pub use hear::Outcome;
@@ -26,3 +27,4 @@ pub use hears::Hears;
 pub use lane_receiver::LaneReceiver;
 pub use receiver::Receiver;
 pub use sink::{LaneSink, LinkSink};
+pub use told::ToldRef;

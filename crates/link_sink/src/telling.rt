@@ -4,18 +4,20 @@ ghost use Rattle.outside_io.specs.Causes.{HasCause};
 ghost use Rattle.tmds_word.specs.Column.{Column};
 ghost use Rattle.period_grammar.specs.Events.{all_at};
 ghost use Rattle.period_grammar.specs.Sizes.{IsSized};
+ghost use Rattle.link_sink.specs.Told.{TookAt, BrokeAt};
 ghost use Rattle.link_sink.specs.Ears.{StopsIn};
 
 use crate::Ear;
 use crate::hears::Hears;
+use crate::told::ToldRef;
 use outside_io::Failed;
 
 /// Reports to an ear what the last call of a hearing reported at a column: mostly nothing.
 #[inline]
 pub fn tell<H: Hears, E: Ear>(hearing: &H, column: u64, ear: &mut E) -> Result<(), Failed>
     requires sized { All IsSized (H.last hearing.now) }
-    ensures ok { OnOk result (E.took_at ear.old ear.new (all_at column (H.last hearing.now))) }
-    ensures err { OnErr result (StopsIn E.took E.broke ear.old ear.new (H.last hearing.now)) }
+    ensures ok { OnOk result (TookAt E.took ear.old ear.new (all_at column (H.last hearing.now))) }
+    ensures err { OnErr result (StopsIn (TookAt E.took) (BrokeAt E.broke) ear.old ear.new (all_at column (H.last hearing.now))) }
     ensures cause { HasCause (E.faults ear.old) (E.faults ear.new) result }
 {
     if hearing.tells() == 0 {
@@ -28,12 +30,15 @@ pub fn tell<H: Hears, E: Ear>(hearing: &H, column: u64, ear: &mut E) -> Result<(
 #[cold]
 fn tell_each<H: Hears, E: Ear>(hearing: &H, column: u64, ear: &mut E) -> Result<(), Failed>
     requires sized { All IsSized (H.last hearing.now) }
-    ensures ok { OnOk result (E.took_at ear.old ear.new (all_at column (H.last hearing.now))) }
-    ensures err { OnErr result (StopsIn E.took E.broke ear.old ear.new (H.last hearing.now)) }
+    ensures ok { OnOk result (TookAt E.took ear.old ear.new (all_at column (H.last hearing.now))) }
+    ensures err { OnErr result (StopsIn (TookAt E.took) (BrokeAt E.broke) ear.old ear.new (all_at column (H.last hearing.now))) }
     ensures cause { HasCause (E.faults ear.old) (E.faults ear.new) result }
 {
     for i in 0..hearing.tells() {
-        ear.hear(column, hearing.reported(i))?;
+        ear.hear(ToldRef::Event {
+            column,
+            event: hearing.reported(i),
+        })?;
     }
     Ok(())
 }
@@ -51,8 +56,8 @@ fn end<H: Hears>(hearing: &mut H)
 pub fn hear_end<H: Hears, E: Ear>(hearing: &mut H, ear: &mut E) -> Result<(), Failed>
     requires heard { (cs : List Column) × H.goes_on hearing.old cs }
     ensures end { (cs : List Column) → H.goes_on hearing.old cs → H.grammar.whole cs ≡ H.grammar.so_far cs ++ H.last hearing.new }
-    ensures reported { OnOk result ((cs : List Column) → H.goes_on hearing.old cs → E.took_at ear.old ear.new (all_at (length cs) (H.last hearing.new))) }
-    ensures stopped { OnErr result (StopsIn E.took E.broke ear.old ear.new (H.last hearing.new)) }
+    ensures reported { OnOk result ((cs : List Column) → H.goes_on hearing.old cs → TookAt E.took ear.old ear.new (all_at (length cs) (H.last hearing.new))) }
+    ensures stopped { OnErr result ((cs : List Column) → H.goes_on hearing.old cs → StopsIn (TookAt E.took) (BrokeAt E.broke) ear.old ear.new (all_at (length cs) (H.last hearing.new))) }
     ensures cause { HasCause (E.faults ear.old) (E.faults ear.new) result }
 {
     let column = hearing.columns();
