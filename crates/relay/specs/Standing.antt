@@ -9,7 +9,7 @@ use Rattle.island_pack.specs.Runs.{longest}
 use Rattle.island_pack.specs.declared.ranges.TheConstants.{COLUMN_LIMIT}
 use Rattle.period_grammar.specs.Events.{Event, event_of}
 use Rattle.period_grammar.specs.Exact.{faultless}
-use Rattle.link_sink.specs.Told.{Told, event, slip, relock, aligned, alone_in}
+use Rattle.link_sink.specs.Told.{Told, event as event_told, slip, relock, aligned, alone_in}
 use Rattle.link_sink.specs.EventsIn.{none_alone, both_alone}
 use Rattle.source_end.specs.Gathering.{Has}
 use Rattle.source_end.specs.Raster.{Part}
@@ -72,7 +72,7 @@ Broke x y event = x.trouble ≡ None → (fault : RelayFault) × (y.trouble ≡ 
 
 -- the same at something that it was told: at what is no event it fails only after it has failed
 abbrev pub BrokeAt : Relay → Relay → Told → Type 0
-BrokeAt x y (event t) = Broke x y (event_of t)
+BrokeAt x y (event_told t) = Broke x y (event_of t)
 BrokeAt x y (slip lane place) = x.trouble ≡ None → ⊥
 BrokeAt x y (relock place) = x.trouble ≡ None → ⊥
 BrokeAt x y (aligned d e f) = x.trouble ≡ None → ⊥
