@@ -60,3 +60,16 @@ pub record Breaks (pair : ℕ) (reported : List Event) (event : Event) (held hol
   pub n : ℕ
   pub missing : n < length bytes
   pub written : Appends held holds (take n bytes)
+
+-- for all that was reported before, a lister took these events
+pub record Takes {N : Type 0} (name again : N) (pair other : ℕ) (past now : Bool) (before after : ℕ) (held holds : Option (List ℕ)) (events : List Event) : Type 0 where
+  pub same : again ≡ name
+  pub pair_is : other ≡ pair
+  pub lists : (reported : List Event) → Recalls past pair reported → Lists pair reported events now before after held holds
+
+-- it failed at an event, and counted nothing
+pub record Loses {N : Type 0} (name again : N) (pair other : ℕ) (past : Bool) (before after : ℕ) (held holds : Option (List ℕ)) (event : Event) : Type 0 where
+  pub same : again ≡ name
+  pub pair_is : other ≡ pair
+  pub counts : after ≡ before
+  pub breaks : (reported : List Event) → Recalls past pair reported → Breaks pair reported event held holds

@@ -6,16 +6,18 @@ ghost use Rattle.outside_io.specs.Causes.{HasCause};
 ghost use Rattle.audio_packets.specs.Samples.{IsSample, IsSamplePacket, packet_with, sample_at};
 ghost use Rattle.audio_packets.specs.declared.sample.Sample.{Sample as SampleType};
 ghost use Rattle.audio_out.specs.Frames.{IsEncoderAfter, biphase};
-ghost use Rattle.period_grammar.specs.Events.{Event, packet as packet_event, event_of};
-ghost use Rattle.link_sink.specs.Ears.{both_alone};
-ghost use Rattle.biphase_listing.specs.StreamText.{Recalls, Lists, Breaks};
+ghost use Rattle.period_grammar.specs.Events.{Event, packet as packet_event};
+ghost use Rattle.period_grammar.specs.Lending.{lent_event};
+ghost use Rattle.link_sink.specs.Told.{alone_in};
+ghost use Rattle.link_sink.specs.EventsIn.{AtEvent};
+ghost use Rattle.biphase_listing.specs.StreamText.{Recalls, Lists, Breaks, Takes, Loses};
 
 use arrayvec::ArrayVec;
 use audio_out::Encoder;
 use audio_packets::laws::read_samples_fit;
 use audio_packets::{SampleIter, pair};
 use island_pack::PacketRef;
-use link_sink::Ear;
+use link_sink::{Ear, ToldRef};
 use outside_io::{Failed, Sink, write_all};
 use period_grammar::EventRef;
 use std::marker::Model;
@@ -175,33 +177,15 @@ fn put_frame(frames: &mut ArrayVec<u8, 64>, frame: &[u8; 16])
     }
 }
 
-impl<'a, K: Sink> Ear for BiphaseLister<'a, K> {
-    ghost use Rattle.std.proofs.Common.{refl, ◌∙◌};
-    ghost use Rattle.biphase_listing.specs.Growing.{lists_none, lists_both};
-
-    ghost faults = { λ l. K.faults l.sink.now };
-
-    // For all that was reported before: the sink grew by the new bytes of the stream, and the count by the
-    // packets that had lost a block.
-    ghost took = { λ x y events.
-        (y.sink.ghost_name ≡ x.sink.ghost_name)
-        × (y.pair ≡ x.pair)
-        × ((reported : List Event) → Recalls x.encoder x.pair reported → Lists x.pair reported events y.encoder x.faults y.faults (K.held x.sink.now) (K.held y.sink.now)) };
-
-    // The columns of events are made nothing of.
-    ghost took_at = { λ x y events.
-        (y.sink.ghost_name ≡ x.sink.ghost_name)
-        × (y.pair ≡ x.pair)
-        × ((reported : List Event) → Recalls x.encoder x.pair reported → Lists x.pair reported (map event_of events) y.encoder x.faults y.faults (K.held x.sink.now) (K.held y.sink.now)) };
-
-    // The sink grew by a part of these bytes, not by all, and nothing was counted.
-    ghost broke = { λ x y event.
-        (y.sink.ghost_name ≡ x.sink.ghost_name)
-        × (y.pair ≡ x.pair)
-        × (y.faults ≡ x.faults)
-        × ((reported : List Event) → Recalls x.encoder x.pair reported → Breaks x.pair reported event (K.held x.sink.now) (K.held y.sink.now)) };
-
-    fn hear(&mut self, _: u64, event: EventRef<'_>) -> Result<(), Failed> {
+impl<'a, K: Sink> BiphaseLister<'a, K> {
+    /// Receives an event: only a packet can have frames.
+    fn event(&mut self, event: EventRef<'_>) -> Result<(), Failed>
+        ensures ok { OnOk result (Takes self.old.sink.ghost_name self.new.sink.ghost_name self.old.pair self.new.pair self.old.encoder self.new.encoder self.old.faults self.new.faults
+            (K.held self.old.sink.now) (K.held self.new.sink.now) (lent_event event.entry ∷ [])) }
+        ensures err { OnErr result (Loses self.old.sink.ghost_name self.new.sink.ghost_name self.old.pair self.new.pair self.old.encoder self.old.faults self.new.faults
+            (K.held self.old.sink.now) (K.held self.new.sink.now) (lent_event event.entry)) }
+        ensures cause { HasCause (K.faults self.old.sink.now) (K.faults self.new.sink.now) result }
+    {
         match event {
             EventRef::Packet { packet, column } => self.packet(packet, column),
             EventRef::Run { value: _, count: _ }
@@ -212,22 +196,31 @@ impl<'a, K: Sink> Ear for BiphaseLister<'a, K> {
             | EventRef::Fault(_) => Ok(()),
         }
     }
+}
 
-    ghost took_none = { λ x. (refl, refl, lists_none x.pair x.encoder x.faults (K.held x.sink.now)) };
+impl<'a, K: Sink> Ear for BiphaseLister<'a, K> {
+    ghost use Rattle.biphase_listing.specs.Growing.{takes_none, takes_both};
 
-    ghost took_both = { λ x y z h k first then. (
-      then.0 ∙ first.0,
-      then.1 ∙ first.1,
-      lists_both x.pair y.pair first.1 x.encoder y.encoder z.encoder x.faults y.faults z.faults (K.held x.sink.now) (K.held y.sink.now) (K.held z.sink.now) h k first.2 then.2,
-    ) };
+    ghost faults = { λ l. K.faults l.sink.now };
 
-    ghost took_none_at = { λ x. (refl, refl, lists_none x.pair x.encoder x.faults (K.held x.sink.now)) };
+    // For all that was reported before: the sink grew by the new bytes of the stream, and the count by the
+    // packets that had lost a block.
+    ghost took = { λ x y told. Takes x.sink.ghost_name y.sink.ghost_name x.pair y.pair x.encoder y.encoder x.faults y.faults (K.held x.sink.now) (K.held y.sink.now) (alone_in told) };
 
-    ghost took_both_at = { λ x y z h k first then. both_alone (λ events. (z.sink.ghost_name ≡ x.sink.ghost_name) × (z.pair ≡ x.pair) × ((reported : List Event) → Recalls x.encoder x.pair reported → Lists x.pair reported events z.encoder x.faults z.faults (K.held x.sink.now) (K.held z.sink.now))) h k (
-      then.0 ∙ first.0,
-      then.1 ∙ first.1,
-      lists_both x.pair y.pair first.1 x.encoder y.encoder z.encoder x.faults y.faults z.faults (K.held x.sink.now) (K.held y.sink.now) (K.held z.sink.now) (map event_of h) (map event_of k) first.2 then.2,
-    ) };
+    // The sink grew by a part of these bytes, not by all, and nothing was counted.
+    ghost broke = { λ x y t. AtEvent (Loses x.sink.ghost_name y.sink.ghost_name x.pair y.pair x.encoder x.faults y.faults (K.held x.sink.now) (K.held y.sink.now)) t };
 
-    ghost forgets = { λ x y events t. t };
+    // What lies between events has no frames.
+    fn hear(&mut self, told: ToldRef<'_>) -> Result<(), Failed> {
+        match told {
+            ToldRef::Event { column: _, event } => self.event(event),
+            ToldRef::Slip { lane: _, place: _ }
+            | ToldRef::Relock { place: _ }
+            | ToldRef::Aligned { places: _ } => Ok(()),
+        }
+    }
+
+    ghost took_none = { λ x. takes_none x.sink.ghost_name x.pair x.encoder x.faults (K.held x.sink.now) };
+
+    ghost took_both = { λ x y z h k first then. takes_both x.sink.ghost_name y.sink.ghost_name z.sink.ghost_name x.pair y.pair z.pair x.encoder y.encoder z.encoder x.faults y.faults z.faults (K.held x.sink.now) (K.held y.sink.now) (K.held z.sink.now) h k first then };
 }

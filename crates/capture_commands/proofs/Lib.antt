@@ -1,11 +1,12 @@
 pub mod Consumed
 pub mod Answered
 pub mod Listings
-pub mod Heard
-pub mod Hearings
+pub mod Hearing
+pub mod Opening
+pub mod Endings
+pub mod Accounts
 pub mod Samples
 pub mod SampleRaster
+pub mod RelayHeard
 pub mod Taken
 pub mod Relaying
-pub mod Trackings
-pub mod Tracked

@@ -23,12 +23,12 @@ use Rattle.relay.specs.declared.relaying.RelayFault.{RelayFault}
 use Rattle.tmds_word.specs.Column.{Column}
 use Rattle.command_line.specs.declared.command.Command.TheVariants.{Relay}
 use Rattle.capture_reading.specs.Blocks.{AreBefore}
-use Rattle.link_sink.specs.Ears.{IsHeardSoFar}
 use Rattle.capture_commands.specs.Endings.{Devices, Ends, RelayEnds, StreamEnds, faulty_end, marked_end, relay_ending}
 use Rattle.capture_commands.specs.Notes.{alignment_note, capture_note, long_note}
 use Rattle.capture_commands.specs.Outcome.{RunOutcome, Relays}
 use Rattle.capture_commands.specs.Relays.{relay_status, whole_tap}
 use Rattle.capture_commands.specs.Taken.{RelayStops}
+use Rattle.capture_commands.proofs.RelayHeard.{IsRelayedSoFar}
 use Rattle.capture_commands.proofs.Taken.{Reported, broken_stops, few_of, passes_limit, refused_stops}
 use Rattle.capture_commands.specs.declared.ending.Ending.{Ending}
 use Rattle.capture_commands.specs.declared.ending.Ending.TheVariants.{Done, Faulty, Usage, Listing, Raster, Capture, Place, Frames, TooLong, ReadFailed, WriteFailed, NoMemory, Unaligned}
@@ -127,7 +127,7 @@ nowhere_sent fed outcome events before after reported not captured ended kept = 
 
 -- bytes that stop being a capture
 pub refused_sent : (fault : CaptureFault) (first now : RelayValue) (before after : Devices) → RelayRepresents first [] → Keeps before.held after.held
-    → ((bytes : List ℕ) → before.left ≡ Some bytes → IsFault bytes fault × ((fed : Fed) × AreBefore bytes (place_of fault) fed × IsHeardSoFar link_grammar Took fed first now))
+    → ((bytes : List ℕ) → before.left ≡ Some bytes → IsFault bytes fault × ((fed : Fed) × AreBefore bytes (place_of fault) fed × IsRelayedSoFar fed first now))
     → Ends Relay (Capture fault) before after
 refused_sent fault first now before after fresh kept bad = (
   λ last. kept,

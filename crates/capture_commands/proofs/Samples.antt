@@ -1,5 +1,5 @@
 -- The capture of a sample is one, its hits lie within its lanes, and damaged it is a capture still.
-use Rattle.std.proofs.Common.{◌≡◌, ℕ, zero, suc, ◌+◌, ◌-◌, ◌*◌, ◌^◌, ◌<◌, ◌≤◌, Bool, List, [], ◌∷◌, length, take, drop, refl, ap, sym, ◌∙◌, subst, inl, arith, length-drop, length-take-le}
+use Rattle.std.proofs.Common.{◌≡◌, ℕ, zero, suc, ◌+◌, ◌-◌, ◌*◌, ◌^◌, ◌<◌, ◌≤◌, Bool, List, [], ◌∷◌, length, take, drop, map, refl, ap, ap₂, sym, ◌∙◌, subst, inl, arith, length-drop, length-take-le}
 use Rattle.std.specs.Prelude.{Option, Some, slice_index}
 use Rattle.std.proofs.lemmas.List.{length-map}
 use Rattle.std.proofs.lemmas.Bool.{cases_lt}
@@ -21,14 +21,21 @@ use Rattle.capture_file.proofs.Halfways.{lane_fits, damaged_all}
 use Rattle.capture_file.proofs.Heads.{same_heads, header_same}
 use Rattle.capture_file.proofs.Marks.{consumed}
 use Rattle.capture_file.proofs.Tapped.{tap_is_captured}
-use Rattle.period_grammar.specs.Events.{Event}
+use Rattle.period_grammar.specs.Events.{Event, event_of}
 use Rattle.link_sink.specs.Alignment.{AreReported}
+use Rattle.link_sink.specs.EventsIn.{alone_in_events}
+use Rattle.link_sink.specs.Grammar.{link_grammar}
+use Rattle.link_sink.specs.LinkHearing.{link_is_grammar}
+use Rattle.link_sink.specs.Receiving.{IsToldWhole}
+use Rattle.link_sink.specs.Sinks.{Fed}
+use Rattle.link_sink.specs.Told.{Told, alone_in}
 use Rattle.link_sink.specs.declared.hear.Outcome.{Outcome}
 use Rattle.sampling.specs.Counts.{counts_of as sample_counts}
 use Rattle.sampling.specs.Sampled.{sample_tap, IsSampled}
 use Rattle.sampling.specs.declared.counts.Counts.{Counts}
 use Rattle.island_pack.specs.declared.ranges.TheConstants.{COLUMN_LIMIT}
 use Rattle.capture_commands.specs.Samples.{IsSampleCapture, IsStruck}
+use Rattle.capture_commands.proofs.Accounts.{plain_whole}
 
 -- a count of faults that stands at 0 did not rise
 pub stands : Rose 0 0 → ⊥
@@ -156,6 +163,14 @@ struck_is_capture bytes hits whole d =
     }
 
 -- what is counted of a damaged capture of the generator's content are the counts of a sample
-pub sampled : (frames : ℕ) (damaged : List ℕ) (blue green red : List Bool) (outcome : Outcome) (events : List Event) (counts : Counts) → IsStruck frames damaged → IsCaptureOf blue green red damaged
+sampled : (frames : ℕ) (damaged : List ℕ) (blue green red : List Bool) (outcome : Outcome) (events : List Event) (counts : Counts) → IsStruck frames damaged → IsCaptureOf blue green red damaged
     → AreReported blue green red outcome events → counts ≡ sample_counts outcome.columns events → IsSampled frames counts
 sampled frames damaged blue green red outcome events counts s captured reported is = grind arith
+
+-- the same of what a tally was told of it
+pub sampled_told : (frames : ℕ) (damaged : List ℕ) (fed : Fed) (columns aligned : ℕ) (told : List Told) (counts : Counts) → IsStruck frames damaged → IsCaptureOf fed.blue fed.green fed.red damaged
+    → IsToldWhole link_grammar fed columns aligned told → counts ≡ sample_counts columns (alone_in told) → IsSampled frames counts
+sampled_told frames damaged fed columns aligned told counts struck captured whole is =
+    let w = plain_whole link_grammar link_is_grammar fed columns aligned told whole in
+    sampled frames damaged fed.blue fed.green fed.red w.outcome (map event_of w.events) counts struck captured w.reported
+    (is ∙ ap₂ (λ (n : ℕ) (ts : List Event). sample_counts n ts) w.columns_are (ap alone_in w.told_are ∙ alone_in_events w.events))

@@ -12,7 +12,6 @@ use Rattle.island_pack.specs.Periods.{columns_of}
 use Rattle.island_pack.specs.declared.ranges.TheConstants.{COLUMN_LIMIT}
 use Rattle.period_grammar.specs.Events.{Event}
 use Rattle.link_sink.specs.Alignment.{AreReported, reported_by, IsAlignedReported}
-use Rattle.link_sink.specs.Ears.{IsBroken, IsHeardSoFar}
 use Rattle.link_sink.specs.Grammar.{link_grammar}
 use Rattle.link_sink.specs.Sinks.{Fed, IsReportedSoFar}
 use Rattle.link_sink.specs.declared.hear.Outcome.{Outcome}
@@ -33,7 +32,8 @@ use Rattle.capture_commands.specs.Relays.{PassesLimit}
 use Rattle.capture_commands.specs.Taken.{AreTaken, PassesAtLast, WantsMemory, RelayStops, FramesStop, StopsOf, EndsRefused}
 use Rattle.capture_commands.specs.declared.ending.Ending.{Ending}
 use Rattle.capture_commands.specs.declared.ending.Ending.TheVariants.{Done, Faulty, Usage, Listing, Raster, Capture, Place, Frames, TooLong, ReadFailed, WriteFailed, NoMemory, Unaligned}
-use Rattle.capture_commands.proofs.Heard.{all_read}
+use Rattle.capture_commands.proofs.Endings.{all_read}
+use Rattle.capture_commands.proofs.RelayHeard.{IsBroken, IsRelayedSoFar}
 
 -- ---- `read biphase`
 
@@ -53,8 +53,8 @@ few_of relay events s = grind (arith, stream_columns)
 
 abbrev pub Reported : Option (List ℕ) → Fed → Fed → List Event → List ℕ → RelayValue → RelayValue → Type 0
 Reported rest before now events read first last =
-    (AreNext before now read × IsReportedSoFar now events × IsBroken link_grammar Took Broke before events first last)
-    ⊎ ((outcome : Outcome) × IsAtEnd rest × IsCaptureOf now.blue now.green now.red read × AreReported now.blue now.green now.red outcome events × IsBroken link_grammar Took Broke now events first last)
+    (AreNext before now read × IsReportedSoFar now events × IsBroken before events first last)
+    ⊎ ((outcome : Outcome) × IsAtEnd rest × IsCaptureOf now.blue now.green now.red read × AreReported now.blue now.green now.red outcome events × IsBroken now events first last)
 
 nothing_more : {A : Type 0} (x : A) (xs : List A) → [] ≡ x ∷ xs → ⊥
 nothing_more x xs h = cc
@@ -95,7 +95,7 @@ ReportsAll left before read events =
     ⊎ ((columns : ℕ) × IsAtEnd left × IsCaptureOf before.blue before.green before.red read × IsAlignedReported before.blue before.green before.red columns events)
 
 broke_at : (from left : Option (List ℕ)) (first last : RelayValue) (before : Fed) (events : List Event) (read : List ℕ) → RelayRepresents first [] → first.trouble ≡ None → Consumes from left read
-    → IsBroken link_grammar Took Broke before events first last → ReportsAll left before read events → IsTroubled from left last
+    → IsBroken before events first last → ReportsAll left before read events → IsTroubled from left last
 broke_at from left first last before events read fresh none took b some =
     let s = b.stops in
     let why = s.broke_then (s.took_some.1 ∙ none) in
@@ -164,7 +164,7 @@ passes_limit from left bytes is p =
 
 -- where bytes stop being a capture
 pub refused_stops : (fault : CaptureFault) (first now : RelayValue) (from left : Option (List ℕ)) → RelayRepresents first []
-    → ((bytes : List ℕ) → from ≡ Some bytes → IsFault bytes fault × ((fed : Fed) × AreBefore bytes (place_of fault) fed × IsHeardSoFar link_grammar Took fed first now))
+    → ((bytes : List ℕ) → from ≡ Some bytes → IsFault bytes fault × ((fed : Fed) × AreBefore bytes (place_of fault) fed × IsRelayedSoFar fed first now))
     → RelayStops (Capture fault) from left
 refused_stops fault first now from left fresh bad = λ bytes reported.
     let b = bad bytes reported in let h = b.1.2 in record { is = b.0; fed = b.1.0; before = b.1.1; events = h.events; reported = h.reported; few = few_of now h.events (h.taken.0 [] fresh) }

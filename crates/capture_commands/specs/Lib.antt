@@ -4,11 +4,9 @@ pub mod Notes
 pub mod Listings
 pub mod Listers
 pub mod Hearings
-pub mod Tracking
-pub mod TrackText
-pub mod ContentTrackText
 pub mod TrackListings
-pub mod TrackListers
+pub mod ToldListings
+pub mod ToldListers
 pub mod Samples
 pub mod Relays
 pub mod Outcome

@@ -2,8 +2,8 @@
 //!
 //! Each command reads its input, writes its output and returns an `Ending`: done, refused, or which device failed. Its contract
 //! compares all three with one definition (`Does`, `Ends`). The program and the C library call the same functions. The caller
-//! chooses who feeds the lanes (`Feeds`): three workers or its own thread. A loop over all blocks drives one lister for each
-//! command. `note` returns the line for standard error of each ending, to the byte.
+//! chooses who feeds the lanes (`Feeds`): three workers or its own thread. One loop over all blocks drives every receiver of lanes and
+//! every lister. `note` returns the line for standard error of each ending, to the byte.
 #![tactic(auto)]
 
 mod block_gate;
@@ -14,10 +14,8 @@ mod hearing;
 mod lister;
 mod listing;
 mod notes;
+mod opening;
 mod slice_source;
-mod track_lister;
-mod track_listing;
-mod tracking;
 mod writing;
 
 pub use block_gate::BlockGate;

@@ -2,29 +2,29 @@
 ghost use Rattle.std.specs.Prelude.{◌≡◌, ℕ, ◌<◌, List, [], take, length, Option, OnOk, OnErr};
 ghost use Rattle.std.specs.Io.KnownBytes.{Appends};
 ghost use Rattle.outside_io.specs.Causes.{HasCause};
-ghost use Rattle.period_grammar.specs.Events.{Event};
+ghost use Rattle.link_sink.specs.Told.{Told};
 ghost use Rattle.listing_writer.specs.Texts.{counted};
 ghost use Rattle.listing_writer.specs.ContentAdded.{Recalls};
-ghost use Rattle.capture_commands.specs.Listers.{IsText, Writes};
-ghost use Rattle.capture_commands.specs.Listings.{Listing};
+ghost use Rattle.capture_commands.specs.ToldListers.{IsToldText, WritesTold};
+ghost use Rattle.capture_commands.specs.ToldListings.{ToldListing};
 
 use biphase_listing::BiphaseLister;
 use link_sink::Ear;
 use listing_writer::{CheckLister, ContentLister, LinkLister};
 use outside_io::{Failed, Sink};
 
-/// Takes what is reported of a link, and writes a listing of it.
+/// Takes what is told about lanes, and writes a listing of it.
 pub(crate) trait Lister: Ear {
     /// What it writes.
-    ghost listing: { Self → Listing };
+    ghost listing: { Self → ToldListing };
 
-    /// What it writes of events after others.
-    ghost after: { Self → List Event → List Event → List ℕ };
+    /// What it writes of some things after others.
+    ghost after: { Self → List Told → List Told → List ℕ };
 
     /// What it writes last.
-    ghost last: { Self → List Event → List ℕ };
+    ghost last: { Self → List Told → List ℕ };
 
-    /// Nothing was reported to it.
+    /// Nothing was told to it.
     ghost fresh: { Self → Type 0 };
 
     /// What its output holds.
@@ -36,35 +36,37 @@ pub(crate) trait Lister: Ear {
     /// Writes the last line.
     fn end(&mut self) -> Result<(), Failed>
         ensures same { name self.new ≡ name self.old }
-        ensures whole { (first : Self) (events : List Event) → fresh first → Self.took first self.old events → OnOk result (Appends (held self.old) (held self.new) (last first events)) }
-        ensures part { (first : Self) (events : List Event) → fresh first → Self.took first self.old events → OnErr result ((n : ℕ) × (n < length (last first events)) × Appends (held self.old) (held self.new) (take n (last first events))) }
+        ensures whole { (first : Self) (told : List Told) → fresh first → Self.took first self.old told → OnOk result (Appends (held self.old) (held self.new) (last first told)) }
+        ensures part { (first : Self) (told : List Told) → fresh first → Self.took first self.old told → OnErr result ((n : ℕ) × (n < length (last first told)) × Appends (held self.old) (held self.new) (take n (last first told))) }
         ensures cause { HasCause (Self.faults self.old) (Self.faults self.new) result };
 
-    /// How many of the lines written are of faults.
+    /// How many of the lines written are of faults, those of slips and alignments that were dropped among them.
     fn fault_lines(&self) -> u64
-        ensures { (first : Self) (events : List Event) → fresh first → Self.took first self.now events → result ≡ counted 0 ((listing first).faults events) };
+        ensures { (first : Self) (told : List Told) → fresh first → Self.took first self.now told → result ≡ counted 0 ((listing first).faults told) };
 
     /// Its text is a listing's.
-    ghost is_text: { (first : Self) → IsText (listing first) (after first) (last first) };
+    ghost is_text: { (first : Self) → IsToldText (listing first) (after first) (last first) };
 
     /// What it takes it writes.
-    ghost writes: { (first : Self) → fresh first → Writes (listing first) (after first) Self.took Self.broke held first };
+    ghost writes: { (first : Self) → fresh first → WritesTold (listing first) (after first) Self.took Self.broke held first };
 
     /// It keeps its output.
-    ghost keeps: { (x y : Self) (h : List Event) → Self.took x y h → name y ≡ name x };
+    ghost keeps: { (x y : Self) (h : List Told) → Self.took x y h → name y ≡ name x };
 
-    ghost keeps_broken: { (x y : Self) (t : Event) → Self.broke x y t → name y ≡ name x };
+    ghost keeps_broken: { (x y : Self) (t : Told) → Self.broke x y t → name y ≡ name x };
 }
 
 impl<'a, K: Sink> Lister for LinkLister<'a, K> {
-    ghost use Rattle.capture_commands.specs.Listings.{link_listing};
-    ghost use Rattle.capture_commands.specs.Listers.{after_link, last_link, link_is_text};
+    ghost use Rattle.listing_writer.specs.Texts.{lines_of};
+    ghost use Rattle.capture_commands.specs.TrackListings.{link_track_listing};
+    ghost use Rattle.capture_commands.specs.ToldListings.{alone_of};
+    ghost use Rattle.capture_commands.specs.ToldListers.{after_link_told, last_end, link_is_told, told_part};
 
-    ghost listing = { λ _. link_listing };
+    ghost listing = { λ _. alone_of link_track_listing };
 
-    ghost after = { λ _. after_link };
+    ghost after = { λ _. after_link_told };
 
-    ghost last = { λ _. last_link };
+    ghost last = { λ _. last_end };
 
     ghost fresh = { λ l. l.faults ≡ 0 };
 
@@ -80,24 +82,28 @@ impl<'a, K: Sink> Lister for LinkLister<'a, K> {
         self.faults()
     }
 
-    ghost is_text = { λ _. link_is_text };
+    ghost is_text = { λ _. link_is_told };
 
-    ghost writes = { λ first none. record { grows = λ x h taken. taken.2; breaks = λ x y h t taken broken. broken.2 } };
+    ghost writes = { λ first none. record {
+      grows = λ x h taken. taken.grows;
+      breaks = λ x y h t taken broken. told_part lines_of x.sink.ghost_name y.sink.ghost_name x.faults y.faults (K.held x.sink.now) (K.held y.sink.now) t broken;
+    } };
 
-    ghost keeps = { λ x y h taken. taken.0 };
+    ghost keeps = { λ x y h taken. taken.same };
 
-    ghost keeps_broken = { λ x y t broken. broken.0 };
+    ghost keeps_broken = { λ x y t broken. broken.same };
 }
 
 impl<'a, K: Sink> Lister for CheckLister<'a, K> {
-    ghost use Rattle.capture_commands.specs.Listings.{check_listing};
-    ghost use Rattle.capture_commands.specs.Listers.{after_check, last_check, check_is_text, checked_part};
+    ghost use Rattle.listing_writer.specs.Checks.{check_lines};
+    ghost use Rattle.capture_commands.specs.ToldListings.{alone_of, check_told_listing};
+    ghost use Rattle.capture_commands.specs.ToldListers.{after_check_told, last_check_told, check_is_told, told_part};
 
-    ghost listing = { λ _. check_listing };
+    ghost listing = { λ _. alone_of check_told_listing };
 
-    ghost after = { λ _. after_check };
+    ghost after = { λ _. after_check_told };
 
-    ghost last = { λ _. last_check };
+    ghost last = { λ _. last_check_told };
 
     ghost fresh = { λ l. l.faults ≡ 0 };
 
@@ -113,27 +119,29 @@ impl<'a, K: Sink> Lister for CheckLister<'a, K> {
         self.faults()
     }
 
-    ghost is_text = { λ _. check_is_text };
+    ghost is_text = { λ _. check_is_told };
 
     ghost writes = { λ first none. record {
-      grows = λ x h taken. taken.2;
-      breaks = λ x y h t taken broken. checked_part t (K.held x.sink.now) (K.held y.sink.now) broken.2;
+      grows = λ x h taken. taken.grows;
+      breaks = λ x y h t taken broken. told_part check_lines x.sink.ghost_name y.sink.ghost_name x.faults y.faults (K.held x.sink.now) (K.held y.sink.now) t broken;
     } };
 
-    ghost keeps = { λ x y h taken. taken.0 };
+    ghost keeps = { λ x y h taken. taken.same };
 
-    ghost keeps_broken = { λ x y t broken. broken.0 };
+    ghost keeps_broken = { λ x y t broken. broken.same };
 }
 
 impl<'a, K: Sink> Lister for ContentLister<'a, K> {
-    ghost use Rattle.capture_commands.specs.Listings.{content_listing};
-    ghost use Rattle.capture_commands.specs.Listers.{after_content, last_link, content_is_text, written_first, recalls_first, broken_after};
+    ghost use Rattle.link_sink.specs.Told.{alone_in, told_alone};
+    ghost use Rattle.capture_commands.specs.TrackListings.{content_track_listing};
+    ghost use Rattle.capture_commands.specs.ToldListings.{alone_of};
+    ghost use Rattle.capture_commands.specs.ToldListers.{after_content_told, last_end, content_is_told, content_part};
 
-    ghost listing = { λ _. content_listing };
+    ghost listing = { λ _. alone_of content_track_listing };
 
-    ghost after = { λ _. after_content };
+    ghost after = { λ _. after_content_told };
 
-    ghost last = { λ _. last_link };
+    ghost last = { λ _. last_end };
 
     ghost fresh = { λ l. Recalls l.past [] × (l.faults ≡ 0) };
 
@@ -149,31 +157,30 @@ impl<'a, K: Sink> Lister for ContentLister<'a, K> {
         self.faults()
     }
 
-    ghost is_text = { λ _. content_is_text };
+    ghost is_text = { λ _. content_is_told };
 
     ghost writes = { λ first none. record {
-      grows = λ x h taken. written_first first.past x.past h first.faults x.faults (K.held first.sink.now) (K.held x.sink.now) (taken.1 [] none.0);
+      grows = λ x h taken. (taken.lists [] none.0).written;
       breaks = λ x y h t taken broken.
-          broken_after x.past h t (K.held x.sink.now) (K.held y.sink.now)
-          (broken.2 h (recalls_first first.past x.past h first.faults x.faults (K.held first.sink.now) (K.held x.sink.now) (taken.1 [] none.0)));
+          content_part (alone_in h) (told_alone t) (K.held x.sink.now) (K.held y.sink.now) (broken.breaks (alone_in h) (taken.lists [] none.0).recalls);
     } };
 
-    ghost keeps = { λ x y h taken. taken.0 };
+    ghost keeps = { λ x y h taken. taken.same };
 
-    ghost keeps_broken = { λ x y t broken. broken.0 };
+    ghost keeps_broken = { λ x y t broken. broken.same };
 }
 
 impl<'a, K: Sink> Lister for BiphaseLister<'a, K> {
-    ghost use Rattle.std.specs.Prelude.{◌++◌};
+    ghost use Rattle.link_sink.specs.Told.{alone_in};
     ghost use Rattle.biphase_listing.specs.StreamText.{Recalls as RecallsSound};
-    ghost use Rattle.capture_commands.specs.Listings.{biphase_listing};
-    ghost use Rattle.capture_commands.specs.Listers.{after_biphase, last_biphase, biphase_is_text, sound_broken, sound_first};
+    ghost use Rattle.capture_commands.specs.ToldListings.{alone_of, biphase_told_listing};
+    ghost use Rattle.capture_commands.specs.ToldListers.{after_biphase, last_none, biphase_is_told, sound_first, sound_part, keeps_sound};
 
-    ghost listing = { λ l. biphase_listing l.pair };
+    ghost listing = { λ l. alone_of (biphase_told_listing l.pair) };
 
     ghost after = { λ l. after_biphase l.pair };
 
-    ghost last = { λ _. last_biphase };
+    ghost last = { λ _. last_none };
 
     ghost fresh = { λ l. RecallsSound l.encoder l.pair [] × (l.faults ≡ 0) };
 
@@ -189,15 +196,15 @@ impl<'a, K: Sink> Lister for BiphaseLister<'a, K> {
         self.faults()
     }
 
-    ghost is_text = { λ l. biphase_is_text l.pair };
+    ghost is_text = { λ l. biphase_is_told l.pair };
 
     ghost writes = { λ first none. record {
-      grows = λ x h taken. sound_first first.pair x.encoder h first.faults x.faults (K.held first.sink.now) (K.held x.sink.now) (taken.2 [] none.0);
+      grows = λ x h taken. sound_first first.pair x.encoder (alone_in h) first.faults x.faults (K.held first.sink.now) (K.held x.sink.now) (taken.lists [] none.0);
       breaks = λ x y h t taken broken.
-          sound_broken first.pair x.pair taken.1 x.encoder h t first.faults x.faults (K.held first.sink.now) (K.held x.sink.now) (K.held y.sink.now) (taken.2 [] none.0) broken.3;
+          sound_part first.sink.ghost_name x.sink.ghost_name y.sink.ghost_name first.pair x.pair y.pair first.encoder x.encoder first.faults x.faults y.faults (K.held first.sink.now) (K.held x.sink.now) (K.held y.sink.now) h t none.0 taken broken;
     } };
 
-    ghost keeps = { λ x y h taken. taken.0 };
+    ghost keeps = { λ x y h taken. taken.same };
 
-    ghost keeps_broken = { λ x y t broken. broken.0 };
+    ghost keeps_broken = { λ x y t broken. keeps_sound x.sink.ghost_name y.sink.ghost_name x.pair y.pair x.encoder x.faults y.faults (K.held x.sink.now) (K.held y.sink.now) t broken };
 }

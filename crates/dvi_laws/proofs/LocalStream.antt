@@ -10,24 +10,20 @@ use Rattle.period_grammar.specs.Heard.{other_words}
 use Rattle.period_grammar.proofs.Hearings.{events_at}
 use Rattle.source_end.specs.DviPeriods.{dvi_columns, dvi_columns_of, DviSpellsPeriod, DviSpells}
 use Rattle.link_laws.specs.Local.{twelve_before}
+use Rattle.link_laws.proofs.Growth.{whole_front}
 use Rattle.link_laws.proofs.LocalStream.{heard_pieces}
 use Rattle.link_laws.proofs.Spelled.{length-spelled}
 use Rattle.link_laws.proofs.Start.{drop_over}
 use Rattle.link_laws.proofs.VideoReported.{pixel_count}
 use Rattle.dvi_hearing.specs.DviHeard.{dvi_so_far, dvi_heard}
-use Rattle.dvi_hearing.specs.DviGrammar.{dvi_is_grammar}
+use Rattle.dvi_hearing.specs.DviGrammar.{dvi_grammar, dvi_is_grammar}
 use Rattle.dvi_laws.specs.DviAccount.{dvi_video_row}
 use Rattle.dvi_laws.specs.DviLocal.{line_part, DviStreamAnywhere}
 use Rattle.dvi_laws.proofs.Local.{dvi_line_anywhere}
 
 -- what is reported of the first columns stands in front of all that is heard
 heard_front : (n : ℕ) (cs : List Column) → (more : List Event) × (dvi_heard cs ≡ map event_of (dvi_so_far (take n cs)) ++ more)
-heard_front n cs =
-    let g = dvi_is_grammar in
-    let on = g.more (take n cs) (drop n cs) in
-    let end = g.ended cs in
-    let all : map event_of (dvi_so_far cs) ≡ map event_of (dvi_so_far (take n cs)) ++ on.0 = ap (λ ds. map event_of (dvi_so_far ds)) (sym (take-append-drop n cs)) ∙ on.1 in
-    (on.0 ++ end.0, end.1 ∙ ap (λ ts. ts ++ end.0) all ∙ append_assoc (map event_of (dvi_so_far (take n cs))) on.0 end.0)
+heard_front n cs = whole_front dvi_grammar dvi_is_grammar n cs
 
 -- how many columns spell a period
 pub period_size : (p : Period) (own : List Column) → DviSpellsPeriod p own → length own ≡ dvi_columns p

@@ -10,7 +10,8 @@ use Rattle.lane_deskew.specs.Aligned.{aligned_columns}
 use Rattle.period_grammar.specs.Events.{Event}
 use Rattle.link_laws.specs.Account.{account_from}
 use Rattle.link_laws.specs.Local.{twelve_before}
-use Rattle.listing_writer.specs.Texts.{link_text}
+use Rattle.listing_writer.specs.Texts.{lines_of, link_text}
+use Rattle.listing_writer.specs.ToldText.{told_lines, told_lines_append, told_text, event_lines, link_by_events}
 use Rattle.command_line.specs.Commands.{IsCommand}
 use Rattle.command_line.specs.declared.command.Command.TheVariants.{RecoverRelock}
 use Rattle.track_sink.specs.Epochs.{rest_of}
@@ -22,7 +23,6 @@ use Rattle.relock_laws.specs.Doubted.{EachIsSpared}
 use Rattle.relock_laws.proofs.WholeColumns.{whole_comes_whole}
 use Rattle.capture_commands.specs.Endings.{Devices, RunEnds, Unless, status_of}
 use Rattle.capture_commands.specs.TrackListings.{link_track_listing}
-use Rattle.capture_commands.specs.TrackText.{track_lines, track_lines_append, track_text, event_lines}
 use Rattle.capture_commands.specs.declared.ending.Ending.{Ending}
 use Rattle.hdmi_cli.specs.RelockAgain.{AgainStream, ComesAgain, columns_from, IsRelockedAgain}
 use Rattle.hdmi_cli.specs.RelockWhole.{ComesWhole, columns_left, IsListedOn}
@@ -30,11 +30,12 @@ use Rattle.hdmi_cli.proofs.Headline.{unless_so}
 use Rattle.hdmi_cli.proofs.RelockAgain.{relocked_again}
 
 -- the text of events after others ends with their link listing
-text_splits : (first : List TrackEvent) (events : List Event) → track_text (first ++ track_events_of events) ≡ track_lines first ++ link_text events
-unfolding track_text link_text
+text_splits : (first : List TrackEvent) (events : List Event) → told_text (first ++ track_events_of events) ≡ told_lines lines_of first ++ link_text events
+unfolding told_text link_text
 text_splits first events =
-    ap (λ (bytes : List ℕ). bytes ++ codes "end\n") (track_lines_append first (track_events_of events) ∙ ap (λ (bytes : List ℕ). track_lines first ++ bytes) (event_lines events))
-    ∙ append_assoc (track_lines first) _ (codes "end\n")
+    ap (λ (bytes : List ℕ). bytes ++ codes "end\n")
+    (told_lines_append lines_of first (track_events_of events) ∙ ap (λ (bytes : List ℕ). told_lines lines_of first ++ bytes) (event_lines lines_of link_by_events events))
+    ∙ append_assoc (told_lines lines_of first) _ (codes "end\n")
 
 -- How many columns there are.
 
@@ -96,10 +97,10 @@ listed_on t j comes old new r =
       later = ends.later;
       are = ends.are;
       upto = ends.upto;
-      first = track_lines ends.first;
+      first = told_lines lines_of ends.first;
       count = n + 12;
       written =
-          subst (λ m. Appends old new (track_lines ends.first ++ link_text (account_from (n + 12) m (twelve_before (t.a + 12) t.received) ends.later (drop (t.a + 12) t.sent) (drop (t.a + 12) t.received)))) many
+          subst (λ m. Appends old new (told_lines lines_of ends.first ++ link_text (account_from (n + 12) m (twelve_before (t.a + 12) t.received) ends.later (drop (t.a + 12) t.sent) (drop (t.a + 12) t.received)))) many
           (subst (λ (bytes : List ℕ). Appends old new bytes) (text_splits ends.first _) ends.written);
     }
 

@@ -24,8 +24,7 @@ use Rattle.track_laws.proofs.Calm.{one_epoch}
 use Rattle.hdmi_cli.specs.Headline.{TappedStream, IsTapped, Aligns, StaysAligned}
 use Rattle.capture_commands.specs.Listings.{Listing, content_listing, link_listing}
 use Rattle.capture_commands.specs.Outcome.{RunOutcome, ListsLanes, ListsCapture, TracksLanes, TracksCapture, status_with}
-use Rattle.capture_commands.specs.TrackText.{event_faults, event_lines, track_text}
-use Rattle.capture_commands.specs.ContentTrackText.{content_events_faults, content_events_text}
+use Rattle.capture_commands.proofs.Accounts.{content_extends, link_extends}
 use Rattle.capture_commands.specs.TrackListings.{TrackListing, content_track_listing, link_track_listing}
 
 -- what is reported of one epoch
@@ -45,15 +44,11 @@ pub record ListsEvents (tracks : TrackListing) (listing : Listing) : Type 0 wher
   pub text : (events : List Event) → tracks.text (track_events_of events) ≡ listing.text events
   pub faults : (events : List Event) → tracks.faults (track_events_of events) ≡ listing.faults events
 
-text_of_events : (events : List Event) → track_text (track_events_of events) ≡ link_text events
-unfolding track_text link_text
-text_of_events events = ap (λ (t : List ℕ). t ++ codes "end\n") (event_lines events)
-
 pub link_events : ListsEvents link_track_listing link_listing
-link_events = record { text = text_of_events; faults = event_faults }
+link_events = record { text = link_extends.text; faults = link_extends.faults }
 
 pub content_events : ListsEvents content_track_listing content_listing
-content_events = record { text = content_events_text; faults = content_events_faults }
+content_events = record { text = content_extends.text; faults = content_extends.faults }
 
 some_aligned : (b : Bool) → 0 < one_if b → b ≡ true
 unfolding one_if

@@ -9,21 +9,18 @@ use Rattle.island_pack.specs.Sparse.{column_at}
 use Rattle.period_grammar.specs.Events.{Event, event_of, all_at}
 use Rattle.period_grammar.specs.Heard.{other_words, heard_so_far, heard}
 use Rattle.period_grammar.proofs.Joined.{reported_before_is}
+use Rattle.link_sink.specs.Grammar.{link_grammar}
 use Rattle.link_sink.specs.LinkHearing.{link_is_grammar}
 use Rattle.link_laws.specs.Literal.{period_placed}
 use Rattle.link_laws.specs.Local.{StandsAnywhere, HeardAnywhere, RowAnywhere, part_at, twelve_before, StreamAnywhere}
+use Rattle.link_laws.proofs.Growth.{whole_front}
 use Rattle.link_laws.proofs.SpelledWords.{period_size_freely}
 use Rattle.link_laws.proofs.Start.{drop_over}
 use Rattle.link_laws.proofs.Local.{video_anywhere, island_anywhere}
 
 -- what is reported of the first columns stands in front of all that is heard
 pub heard_front : (n : ℕ) (cs : List Column) → (more : List Event) × (heard cs ≡ map event_of (heard_so_far (take n cs)) ++ more)
-heard_front n cs =
-    let g = link_is_grammar in
-    let on = g.more (take n cs) (drop n cs) in
-    let end = g.ended cs in
-    let all : map event_of (heard_so_far cs) ≡ map event_of (heard_so_far (take n cs)) ++ on.0 = ap (λ ds. map event_of (heard_so_far ds)) (sym (take-append-drop n cs)) ∙ on.1 in
-    (on.0 ++ end.0, end.1 ∙ ap (λ ts. ts ++ end.0) all ∙ append_assoc (map event_of (heard_so_far (take n cs))) on.0 end.0)
+heard_front n cs = whole_front link_grammar link_is_grammar n cs
 
 heard_of : (p : Period) (sent received : List Column) → StandsAnywhere p sent received → HeardAnywhere p sent received
 heard_of p sent received law earlier before next later c at =

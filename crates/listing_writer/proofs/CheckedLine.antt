@@ -57,8 +57,13 @@ check_took_ok P Q (Err e) a b t s is listed took = tt
 -- a line that was written in part is one of a check
 pub check_broke : {T E : Type 0} (P Q : Type 0) (r : Result T E) (a b : Option (List ℕ)) (t s : Event) → t ≡ s → is_checked s ≡ true
     → OnErr r (P × Q × ((n : ℕ) × (n < length (lines_of (t ∷ []))) × Appends a b (take n (lines_of (t ∷ [])))))
-    → OnErr r (P × Q × ((n : ℕ) × (n < length (lines_of (t ∷ []))) × (is_checked t ≡ true) × Appends a b (take n (lines_of (t ∷ [])))))
-check_broke P Q r a b t s h k l = grind arith
+    → OnErr r (P × Q × ((n : ℕ) × (n < length (check_lines (t ∷ []))) × Appends a b (take n (check_lines (t ∷ [])))))
+check_broke P Q (Ok v) a b t s is listed broke = tt
+check_broke P Q (Err e) a b t s is listed broke = (
+  broke.0,
+  broke.1,
+  subst (λ (text : List ℕ). (n : ℕ) × (n < length text) × Appends a b (take n text)) (sym (checked_line t (ap is_checked is ∙ listed))) broke.2,
+)
 
 -- a check lists a fault
 pub fault_checked : (fault : Fault) → is_checked (fault_event fault) ≡ true

@@ -1,9 +1,7 @@
 -- How the text of a check grows by the lines of events: what the laws of a lister of checks say.
-use Rattle.std.proofs.Common.{◌≡◌, ◌∙◌, ℕ, zero, suc, ◌<◌, Bool, true, false, cond, List, [], ◌∷◌, ◌++◌, Option, refl, ap, sym, subst, arith}
+use Rattle.std.proofs.Common.{◌≡◌, ◌∙◌, ℕ, zero, suc, ◌<◌, Bool, true, false, cond, List, [], ◌∷◌, ◌++◌, refl, ap, arith}
 use Rattle.std.specs.Prelude.{codes, filter}
-use Rattle.std.specs.Io.KnownBytes.{Appends}
 use Rattle.std.proofs.lemmas.List.Elements.{filter-append}
-use Rattle.std.proofs.KnownBytes.{Appends-nil, Appends-trans}
 use Rattle.period_grammar.specs.Events.{Event}
 use Rattle.listing_writer.specs.Texts.{lines_of, counted}
 use Rattle.listing_writer.specs.Growing.{lines_append}
@@ -22,14 +20,6 @@ checked_line t is = ap (λ (b : Bool). lines_of (cond b (t ∷ []) [])) is
 pub unchecked_line : (t : Event) → is_checked t ≡ false → check_lines (t ∷ []) ≡ []
 unfolding check_lines lines_of
 unchecked_line t is = ap (λ (b : Bool). lines_of (cond b (t ∷ []) [])) is
-
-pub checks_none : (a : Option (List ℕ)) → Appends a a (check_lines [])
-unfolding check_lines lines_of
-checks_none a = Appends-nil a
-
-pub checks_both : (a b c : Option (List ℕ)) (h k : List Event) → Appends a b (check_lines h) → Appends b c (check_lines k) → Appends a c (check_lines (h ++ k))
-checks_both a b c h k first then =
-    subst (λ (text : List ℕ). Appends a c text) (sym (check_lines_append h k)) (Appends-trans a b c (check_lines h) (check_lines k) first then)
 
 pub faulty_line : (n : ℕ) → 0 < n → verdict_line n ≡ codes "faulty\n"
 faulty_line zero more = absurd (omega (arith, more))

@@ -3,9 +3,12 @@ pub mod Fields
 pub mod Growing
 pub mod Checks
 pub mod GrowingChecks
+pub mod ToldText
+pub mod ToldTaken
 pub mod ContentText
 pub mod ContentSeen
 pub mod ContentAdded
-pub mod ContentTaken
 pub mod GrowingContent
+pub mod ToldContent
+pub mod ContentTaken
 pub mod Listed

@@ -1,19 +1,18 @@
 //! Writes the check of what is reported.
-ghost use Rattle.std.specs.Prelude.{◌≡◌, ℕ, ◌<◌, List, [], ◌∷◌, length, take, true, OnOk, OnErr, map};
+ghost use Rattle.std.specs.Prelude.{◌≡◌, ℕ, ◌<◌, List, [], ◌∷◌, length, take, OnOk, OnErr};
 ghost use Rattle.std.specs.Io.KnownBytes.{Appends};
 ghost use Rattle.outside_io.specs.Causes.{HasCause};
-ghost use Rattle.period_grammar.specs.Events.{event_of};
-ghost use Rattle.link_sink.specs.Ears.{both_alone};
-ghost use Rattle.listing_writer.specs.Texts.{lines_of, fault_lines, counted};
-ghost use Rattle.listing_writer.specs.Checks.{is_checked, check_lines, verdict_line};
+ghost use Rattle.period_grammar.specs.Lending.{lent_event};
+ghost use Rattle.listing_writer.specs.Texts.{fault_lines, counted};
+ghost use Rattle.listing_writer.specs.Checks.{check_lines, verdict_line};
 
-use crate::lister::{write_cut, write_fault, write_line};
-use link_sink::Ear;
+use crate::line::{relock_line, slip_line};
+use crate::lister::{write_between, write_cut, write_fault, write_line};
+use link_sink::{Ear, ToldRef};
 use outside_io::{Failed, Sink};
 use period_grammar::EventRef;
 
-/// Writes a line for each fault that is reported to it and for the cut, and last whether there was a fault. It
-/// takes no memory.
+/// Writes a line for each fault that it is told and for the cut, and last whether there was a fault. It takes no memory.
 #[derive(Drop)]
 pub struct CheckLister<'a, K: Sink> {
     sink: &'a mut K,
@@ -30,8 +29,8 @@ impl<'a, K: Sink> CheckLister<'a, K> {
         CheckLister { sink, faults: 0 }
     }
 
-    /// How many fault lines were written whole, one for each fault that was reported to it. The count stops at
-    /// the greatest u64.
+    /// How many fault lines were written whole: one for each fault that was reported to it, and one for each slip
+    /// and each alignment that was dropped. The count stops at the greatest u64.
     pub fn faults(&self) -> u64
         ensures { result ≡ self.now.faults }
     {
@@ -51,32 +50,18 @@ impl<'a, K: Sink> CheckLister<'a, K> {
     }
 }
 
-impl<'a, K: Sink> Ear for CheckLister<'a, K> {
-    ghost use Rattle.std.proofs.Common.{refl, ◌∙◌};
-    ghost use Rattle.listing_writer.specs.Growing.{counted_none, counted_both};
-    ghost use Rattle.listing_writer.specs.GrowingChecks.{checks_none, checks_both};
-
-    ghost faults = { λ l. K.faults l.sink.now };
-
-    // The sink grew by the lines of the faults and of the cut among the events, and the count by the faults.
-    ghost took = { λ x y events.
-        (y.sink.ghost_name ≡ x.sink.ghost_name)
-        × (y.faults ≡ counted x.faults (fault_lines events))
-        × Appends (K.held x.sink.now) (K.held y.sink.now) (check_lines events) };
-
-    // The columns of events are made nothing of.
-    ghost took_at = { λ x y events.
-        (y.sink.ghost_name ≡ x.sink.ghost_name)
-        × (y.faults ≡ counted x.faults (fault_lines (map event_of events)))
-        × Appends (K.held x.sink.now) (K.held y.sink.now) (check_lines (map event_of events)) };
-
-    // The sink grew by a part of the line of a fault or of the cut, and nothing was counted.
-    ghost broke = { λ x y event.
-        (y.sink.ghost_name ≡ x.sink.ghost_name)
-        × (y.faults ≡ x.faults)
-        × ((n : ℕ) × (n < length (lines_of (event ∷ []))) × (is_checked event ≡ true) × Appends (K.held x.sink.now) (K.held y.sink.now) (take n (lines_of (event ∷ [])))) };
-
-    fn hear(&mut self, _: u64, event: EventRef<'_>) -> Result<(), Failed> {
+impl<'a, K: Sink> CheckLister<'a, K> {
+    /// Writes the line of a fault or of the cut, and counts a fault. If the sink fails, a part of the line is written, and nothing
+    /// is counted.
+    fn event(&mut self, event: EventRef<'_>) -> Result<(), Failed>
+        ensures ok { OnOk result ((self.new.sink.ghost_name ≡ self.old.sink.ghost_name)
+            × (self.new.faults ≡ counted self.old.faults (fault_lines (lent_event event.entry ∷ [])))
+            × Appends (K.held self.old.sink.now) (K.held self.new.sink.now) (check_lines (lent_event event.entry ∷ []))) }
+        ensures err { OnErr result ((self.new.sink.ghost_name ≡ self.old.sink.ghost_name)
+            × (self.new.faults ≡ self.old.faults)
+            × ((n : ℕ) × (n < length (check_lines (lent_event event.entry ∷ []))) × Appends (K.held self.old.sink.now) (K.held self.new.sink.now) (take n (check_lines (lent_event event.entry ∷ []))))) }
+        ensures cause { HasCause (K.faults self.old.sink.now) (K.faults self.new.sink.now) result }
+    {
         match event {
             EventRef::Run { value: _, count: _ }
             | EventRef::Line { pixels: _ }
@@ -94,24 +79,31 @@ impl<'a, K: Sink> Ear for CheckLister<'a, K> {
             }
         }
     }
+}
 
-    ghost took_none = { λ x. (refl, counted_none x.faults, checks_none (K.held x.sink.now)) };
+impl<'a, K: Sink> Ear for CheckLister<'a, K> {
+    ghost use Rattle.listing_writer.specs.ToldTaken.{ListsTold, BreaksTold, lists_none, lists_both};
 
-    ghost took_both = { λ x y z h k first then. (
-      then.0 ∙ first.0,
-      counted_both x.faults y.faults z.faults h k first.1 then.1,
-      checks_both (K.held x.sink.now) (K.held y.sink.now) (K.held z.sink.now) h k first.2 then.2,
-    ) };
+    ghost faults = { λ l. K.faults l.sink.now };
 
-    ghost took_none_at = { λ x. (refl, counted_none x.faults, checks_none (K.held x.sink.now)) };
+    // The sink grew by the lines of the faults and of the cut, and the count by the faults.
+    ghost took = { λ x y told. ListsTold check_lines x.sink.ghost_name y.sink.ghost_name x.faults y.faults (K.held x.sink.now) (K.held y.sink.now) told };
 
-    ghost took_both_at = { λ x y z h k first then. both_alone (λ events. (z.sink.ghost_name ≡ x.sink.ghost_name) × (z.faults ≡ counted x.faults (fault_lines events)) × Appends (K.held x.sink.now) (K.held z.sink.now) (check_lines events)) h k (
-      then.0 ∙ first.0,
-      counted_both x.faults y.faults z.faults (map event_of h) (map event_of k) first.1 then.1,
-      checks_both (K.held x.sink.now) (K.held y.sink.now) (K.held z.sink.now) (map event_of h) (map event_of k) first.2 then.2,
-    ) };
+    // The sink grew by a part of the line of a fault or of the cut, and nothing was counted.
+    ghost broke = { λ x y t. BreaksTold check_lines x.sink.ghost_name y.sink.ghost_name x.faults y.faults (K.held x.sink.now) (K.held y.sink.now) t };
 
-    ghost forgets = { λ x y events t. t };
+    fn hear(&mut self, told: ToldRef<'_>) -> Result<(), Failed> {
+        match told {
+            ToldRef::Event { column: _, event } => self.event(event),
+            ToldRef::Slip { lane, place } => write_between(self.sink, &mut self.faults, slip_line(lane, place)),
+            ToldRef::Relock { place } => write_between(self.sink, &mut self.faults, relock_line(place)),
+            ToldRef::Aligned { places: _ } => Ok(()),
+        }
+    }
+
+    ghost took_none = { λ x. lists_none check_lines x.sink.ghost_name x.faults (K.held x.sink.now) };
+
+    ghost took_both = { λ x y z h k first then. lists_both check_lines x.sink.ghost_name y.sink.ghost_name z.sink.ghost_name x.faults y.faults z.faults (K.held x.sink.now) (K.held y.sink.now) (K.held z.sink.now) h k first then };
 }
 
 /// The last line, after this many faults.

@@ -1,18 +1,18 @@
 //! Writes what is reported as pictures and sound.
-ghost use Rattle.std.specs.Prelude.{◌≡◌, ℕ, ◌<◌, List, [], length, take, codes, OnOk, OnErr, map};
+ghost use Rattle.std.specs.Prelude.{◌≡◌, ℕ, ◌<◌, List, [], length, take, codes, OnOk, OnErr};
 ghost use Rattle.std.specs.Io.KnownBytes.{Appends};
 ghost use Rattle.outside_io.specs.Causes.{HasCause};
-ghost use Rattle.period_grammar.specs.Events.{Event, event_of};
-ghost use Rattle.link_sink.specs.Ears.{both_alone};
+ghost use Rattle.period_grammar.specs.Events.{Event};
+ghost use Rattle.period_grammar.specs.Lending.{lent_event};
+ghost use Rattle.period_grammar.specs.Sizes.{IsSized};
 ghost use Rattle.listing_writer.specs.ContentAdded.{Recalls};
-ghost use Rattle.listing_writer.specs.ContentTaken.{Lists, Breaks};
-ghost use Rattle.listing_writer.specs.Texts.{counted, slip_text, relock_text};
+ghost use Rattle.listing_writer.specs.ContentTaken.{ListsEvent, BreaksEvent};
 
 use crate::content_lines::Lines;
 use crate::content_state::ContentState;
 use crate::line::{relock_line, slip_line};
-use crate::lister::{write_line, write_short};
-use link_sink::Ear;
+use crate::lister::{write_between, write_line};
+use link_sink::{Ear, ToldRef};
 use outside_io::{Failed, Sink};
 use period_grammar::EventRef;
 
@@ -41,46 +41,13 @@ impl<'a, K: Sink> ContentLister<'a, K> {
         }
     }
 
-    /// How many fault lines there were of events of which every line was written. An event's fault lines are counted once all
-    /// its lines are written: where the sink failed within them none of them counts, also one that was written whole. The
-    /// count stops at the greatest u64.
+    /// How many fault lines there were of events of which every line was written, and of slips and alignments that were dropped. An
+    /// event's fault lines are counted once all its lines are written: if the sink failed within them none of them counts, also
+    /// one that was written whole. The count stops at the greatest u64.
     pub fn faults(&self) -> u64
         ensures { result ≡ self.now.faults }
     {
         self.faults
-    }
-
-    /// Writes the line of a slip, which is a fault line: the lane, and the place of the capture from which on its
-    /// characters are searched again. What is kept of events stays: those reported later are listed after all that was reported.
-    /// Where the sink fails, a part of the line is written, and nothing is counted.
-    pub fn slip(&mut self, lane: u8, place: u64) -> Result<(), Failed>
-        ensures same { self.new.sink.ghost_name ≡ self.old.sink.ghost_name }
-        ensures past { self.new.past ≡ self.old.past }
-        ensures counted { OnOk result (self.new.faults ≡ counted self.old.faults 1) }
-        ensures uncounted { OnErr result (self.new.faults ≡ self.old.faults) }
-        ensures whole { OnOk result (Appends (K.held self.old.sink.now) (K.held self.new.sink.now) (slip_text lane place)) }
-        ensures part { OnErr result ((n : ℕ) × (n < length (slip_text lane place)) × Appends (K.held self.old.sink.now) (K.held self.new.sink.now) (take n (slip_text lane place))) }
-        ensures cause { HasCause (K.faults self.old.sink.now) (K.faults self.new.sink.now) result }
-    {
-        write_short(self.sink, slip_line(lane, place))?;
-        self.faults = self.faults.saturating_add(1);
-        Ok(())
-    }
-
-    /// Writes the line of an alignment that was dropped, which is a fault line: the place of the capture from which on the lanes
-    /// are searched again. What is kept of events stays. Where the sink fails, a part of the line is written, and nothing is counted.
-    pub fn relock(&mut self, place: u64) -> Result<(), Failed>
-        ensures same { self.new.sink.ghost_name ≡ self.old.sink.ghost_name }
-        ensures past { self.new.past ≡ self.old.past }
-        ensures counted { OnOk result (self.new.faults ≡ counted self.old.faults 1) }
-        ensures uncounted { OnErr result (self.new.faults ≡ self.old.faults) }
-        ensures whole { OnOk result (Appends (K.held self.old.sink.now) (K.held self.new.sink.now) (relock_text place)) }
-        ensures part { OnErr result ((n : ℕ) × (n < length (relock_text place)) × Appends (K.held self.old.sink.now) (K.held self.new.sink.now) (take n (relock_text place))) }
-        ensures cause { HasCause (K.faults self.old.sink.now) (K.faults self.new.sink.now) result }
-    {
-        write_short(self.sink, relock_line(place))?;
-        self.faults = self.faults.saturating_add(1);
-        Ok(())
     }
 
     /// Writes the last line.
@@ -96,49 +63,53 @@ impl<'a, K: Sink> ContentLister<'a, K> {
     }
 }
 
-impl<'a, K: Sink> Ear for ContentLister<'a, K> {
-    ghost use Rattle.std.proofs.Common.{refl, ◌∙◌};
-    ghost use Rattle.listing_writer.specs.GrowingContent.{lists_none, lists_both};
-
-    ghost faults = { λ l. K.faults l.sink.now };
-
-    // For all that was reported before: the sink grew by the lines of the events, and the count by the fault lines.
-    ghost took = { λ x y events.
-        (y.sink.ghost_name ≡ x.sink.ghost_name)
-        × ((reported : List Event) → Recalls x.past reported → Lists reported events y.past x.faults y.faults (K.held x.sink.now) (K.held y.sink.now)) };
-
-    // The columns of events are made nothing of.
-    ghost took_at = { λ x y events.
-        (y.sink.ghost_name ≡ x.sink.ghost_name)
-        × ((reported : List Event) → Recalls x.past reported → Lists reported (map event_of events) y.past x.faults y.faults (K.held x.sink.now) (K.held y.sink.now)) };
-
-    // The sink grew by a part of the event's lines, not by all, and nothing was counted.
-    ghost broke = { λ x y event.
-        (y.sink.ghost_name ≡ x.sink.ghost_name)
-        × (y.faults ≡ x.faults)
-        × ((reported : List Event) → Recalls x.past reported → Breaks reported event (K.held x.sink.now) (K.held y.sink.now)) };
-
-    fn hear(&mut self, _: u64, event: EventRef<'_>) -> Result<(), Failed> {
+impl<'a, K: Sink> ContentLister<'a, K> {
+    /// Writes the lines of an event, and counts its fault lines. If the sink fails, a part of the lines is written, and nothing is
+    /// counted.
+    fn event(&mut self, event: EventRef<'_>) -> Result<(), Failed>
+        requires { IsSized (lent_event event) }
+        ensures ok { OnOk result ((self.new.sink.ghost_name ≡ self.old.sink.ghost_name)
+            × ((reported : List Event) → Recalls self.old.past reported
+            → ListsEvent reported (lent_event event.entry) self.new.past self.old.faults self.new.faults (K.held self.old.sink.now) (K.held self.new.sink.now))) }
+        ensures err { OnErr result ((self.new.sink.ghost_name ≡ self.old.sink.ghost_name)
+            × (self.new.faults ≡ self.old.faults)
+            × ((reported : List Event) → Recalls self.old.past reported → BreaksEvent reported (lent_event event.entry) (K.held self.old.sink.now) (K.held self.new.sink.now))) }
+        ensures cause { HasCause (K.faults self.old.sink.now) (K.faults self.new.sink.now) result }
+    {
         self.lines.clear();
         self.past.hear(event, &mut self.lines);
         write_line(self.sink, self.lines.text())?;
         self.faults = self.faults().saturating_add(self.lines.faults());
         Ok(())
     }
+}
 
-    ghost took_none = { λ x. (refl, lists_none x.past x.faults (K.held x.sink.now)) };
+impl<'a, K: Sink> Ear for ContentLister<'a, K> {
+    ghost use Rattle.listing_writer.specs.ContentTaken.{TakesContent, BreaksContent, takes_none, takes_both};
 
-    ghost took_both = { λ x y z h k first then. (
-      then.0 ∙ first.0,
-      lists_both x.past y.past z.past x.faults y.faults z.faults (K.held x.sink.now) (K.held y.sink.now) (K.held z.sink.now) h k first.1 then.1,
-    ) };
+    ghost faults = { λ l. K.faults l.sink.now };
 
-    ghost took_none_at = { λ x. (refl, lists_none x.past x.faults (K.held x.sink.now)) };
+    // For all that was reported before: the sink grew by the lines, and the count by the fault lines.
+    ghost took = { λ x y told. TakesContent x.sink.ghost_name y.sink.ghost_name x.past y.past x.faults y.faults (K.held x.sink.now) (K.held y.sink.now) told };
 
-    ghost took_both_at = { λ x y z h k first then. both_alone (λ events. (z.sink.ghost_name ≡ x.sink.ghost_name) × ((reported : List Event) → Recalls x.past reported → Lists reported events z.past x.faults z.faults (K.held x.sink.now) (K.held z.sink.now))) h k (
-      then.0 ∙ first.0,
-      lists_both x.past y.past z.past x.faults y.faults z.faults (K.held x.sink.now) (K.held y.sink.now) (K.held z.sink.now) (map event_of h) (map event_of k) first.1 then.1,
-    ) };
+    // The sink grew by a part of the lines, not by all, and nothing was counted.
+    ghost broke = { λ x y t. BreaksContent x.sink.ghost_name y.sink.ghost_name x.past x.faults y.faults (K.held x.sink.now) (K.held y.sink.now) t };
 
-    ghost forgets = { λ x y events t. t };
+    // What is kept of events stays between them: those reported later are listed after all that was reported.
+    fn hear(&mut self, told: ToldRef<'_>) -> Result<(), Failed> {
+        match told {
+            ToldRef::Event { column: _, event } => self.event(event),
+            ToldRef::Slip { lane, place } => {
+                write_between(self.sink, &mut self.faults, slip_line(lane, place))
+            }
+            ToldRef::Relock { place } => {
+                write_between(self.sink, &mut self.faults, relock_line(place))
+            }
+            ToldRef::Aligned { places: _ } => Ok(()),
+        }
+    }
+
+    ghost took_none = { λ x. takes_none x.sink.ghost_name x.past x.faults (K.held x.sink.now) };
+
+    ghost took_both = { λ x y z h k first then. takes_both x.sink.ghost_name y.sink.ghost_name z.sink.ghost_name x.past y.past z.past x.faults y.faults z.faults (K.held x.sink.now) (K.held y.sink.now) (K.held z.sink.now) h k first then };
 }

@@ -1,17 +1,17 @@
 //! Writes the listing of what is reported.
-ghost use Rattle.std.specs.Prelude.{◌≡◌, ℕ, ◌+◌, ◌*◌, ◌≤◌, ◌<◌, List, [], ◌∷◌, ◌++◌, length, take, codes, OnOk, OnErr, map};
+ghost use Rattle.std.specs.Prelude.{◌≡◌, ℕ, ◌+◌, ◌*◌, ◌≤◌, ◌<◌, List, [], ◌∷◌, ◌++◌, length, take, codes, OnOk, OnErr};
 ghost use Rattle.std.specs.Io.KnownBytes.{Appends};
 ghost use Rattle.outside_io.specs.Causes.{HasCause};
-ghost use Rattle.period_grammar.specs.Events.{event_of, run as run_event, cut as cut_event};
-ghost use Rattle.period_grammar.specs.Lending.{fault_event};
-ghost use Rattle.link_sink.specs.Ears.{both_alone};
+ghost use Rattle.period_grammar.specs.Events.{run as run_event, cut as cut_event};
+ghost use Rattle.period_grammar.specs.Lending.{lent_event, fault_event};
+ghost use Rattle.period_grammar.specs.Sizes.{IsSized};
 ghost use Rattle.hex.specs.Hex.{encode_lower};
-ghost use Rattle.listing_writer.specs.Texts.{line_words, lines_of, fault_lines, counted, slip_text, relock_text, sync_digits};
+ghost use Rattle.listing_writer.specs.Texts.{line_words, lines_of, fault_lines, counted, sync_digits};
 
 use crate::digit_pairs::DigitPairs;
 use crate::line::{TextLine, fault_line, guard_line, long_line, relock_line, run_line, slip_line};
 use crate::packet_line::packet_line;
-use link_sink::Ear;
+use link_sink::{Ear, ToldRef};
 use outside_io::{Failed, Sink, write_all};
 use period_grammar::{EventRef, Fault};
 
@@ -50,36 +50,6 @@ impl<'a, K: Sink> LinkLister<'a, K> {
         self.faults
     }
 
-    /// Writes the line of a slip, which is a fault line: the lane, and the place of the capture from which on its
-    /// characters are searched again. Where the sink fails, a part of the line is written, and nothing is counted.
-    pub fn slip(&mut self, lane: u8, place: u64) -> Result<(), Failed>
-        ensures same { self.new.sink.ghost_name ≡ self.old.sink.ghost_name }
-        ensures counted { OnOk result (self.new.faults ≡ counted self.old.faults 1) }
-        ensures uncounted { OnErr result (self.new.faults ≡ self.old.faults) }
-        ensures whole { OnOk result (Appends (K.held self.old.sink.now) (K.held self.new.sink.now) (slip_text lane place)) }
-        ensures part { OnErr result ((n : ℕ) × (n < length (slip_text lane place)) × Appends (K.held self.old.sink.now) (K.held self.new.sink.now) (take n (slip_text lane place))) }
-        ensures cause { HasCause (K.faults self.old.sink.now) (K.faults self.new.sink.now) result }
-    {
-        write_short(self.sink, slip_line(lane, place))?;
-        self.faults = self.faults.saturating_add(1);
-        Ok(())
-    }
-
-    /// Writes the line of an alignment that was dropped, which is a fault line: the place of the capture from which on the lanes
-    /// are searched again. Where the sink fails, a part of the line is written, and nothing is counted.
-    pub fn relock(&mut self, place: u64) -> Result<(), Failed>
-        ensures same { self.new.sink.ghost_name ≡ self.old.sink.ghost_name }
-        ensures counted { OnOk result (self.new.faults ≡ counted self.old.faults 1) }
-        ensures uncounted { OnErr result (self.new.faults ≡ self.old.faults) }
-        ensures whole { OnOk result (Appends (K.held self.old.sink.now) (K.held self.new.sink.now) (relock_text place)) }
-        ensures part { OnErr result ((n : ℕ) × (n < length (relock_text place)) × Appends (K.held self.old.sink.now) (K.held self.new.sink.now) (take n (relock_text place))) }
-        ensures cause { HasCause (K.faults self.old.sink.now) (K.faults self.new.sink.now) result }
-    {
-        write_short(self.sink, relock_line(place))?;
-        self.faults = self.faults.saturating_add(1);
-        Ok(())
-    }
-
     /// Writes the last line.
     pub fn end(&mut self) -> Result<(), Failed>
         ensures same { self.new.sink.ghost_name ≡ self.old.sink.ghost_name }
@@ -92,31 +62,18 @@ impl<'a, K: Sink> LinkLister<'a, K> {
     }
 }
 
-impl<'a, K: Sink> Ear for LinkLister<'a, K> {
-    ghost use Rattle.std.proofs.Common.{refl, ◌∙◌};
-    ghost use Rattle.listing_writer.specs.Growing.{counted_none, counted_both, appends_none, appends_both};
-
-    ghost faults = { λ l. K.faults l.sink.now };
-
-    // The sink grew by the lines of the events, and the count by their fault lines.
-    ghost took = { λ x y events.
-        (y.sink.ghost_name ≡ x.sink.ghost_name)
-        × (y.faults ≡ counted x.faults (fault_lines events))
-        × Appends (K.held x.sink.now) (K.held y.sink.now) (lines_of events) };
-
-    // The columns of events are made nothing of.
-    ghost took_at = { λ x y events.
-        (y.sink.ghost_name ≡ x.sink.ghost_name)
-        × (y.faults ≡ counted x.faults (fault_lines (map event_of events)))
-        × Appends (K.held x.sink.now) (K.held y.sink.now) (lines_of (map event_of events)) };
-
-    // The sink grew by a part of the event's line, and nothing was counted.
-    ghost broke = { λ x y event.
-        (y.sink.ghost_name ≡ x.sink.ghost_name)
-        × (y.faults ≡ x.faults)
-        × ((n : ℕ) × (n < length (lines_of (event ∷ []))) × Appends (K.held x.sink.now) (K.held y.sink.now) (take n (lines_of (event ∷ [])))) };
-
-    fn hear(&mut self, _: u64, event: EventRef<'_>) -> Result<(), Failed> {
+impl<'a, K: Sink> LinkLister<'a, K> {
+    /// Writes the line of an event, and counts a fault. If the sink fails, a part of the line is written, and nothing is counted.
+    fn event(&mut self, event: EventRef<'_>) -> Result<(), Failed>
+        requires { IsSized (lent_event event) }
+        ensures ok { OnOk result ((self.new.sink.ghost_name ≡ self.old.sink.ghost_name)
+            × (self.new.faults ≡ counted self.old.faults (fault_lines (lent_event event.entry ∷ [])))
+            × Appends (K.held self.old.sink.now) (K.held self.new.sink.now) (lines_of (lent_event event.entry ∷ []))) }
+        ensures err { OnErr result ((self.new.sink.ghost_name ≡ self.old.sink.ghost_name)
+            × (self.new.faults ≡ self.old.faults)
+            × ((n : ℕ) × (n < length (lines_of (lent_event event.entry ∷ []))) × Appends (K.held self.old.sink.now) (K.held self.new.sink.now) (take n (lines_of (lent_event event.entry ∷ []))))) }
+        ensures cause { HasCause (K.faults self.old.sink.now) (K.faults self.new.sink.now) result }
+    {
         match event {
             EventRef::Run { value, count } => write_run(self.sink, value, count),
             EventRef::Line { pixels } => {
@@ -136,24 +93,31 @@ impl<'a, K: Sink> Ear for LinkLister<'a, K> {
             }
         }
     }
+}
 
-    ghost took_none = { λ x. (refl, counted_none x.faults, appends_none (K.held x.sink.now)) };
+impl<'a, K: Sink> Ear for LinkLister<'a, K> {
+    ghost use Rattle.listing_writer.specs.ToldTaken.{ListsTold, BreaksTold, lists_none, lists_both};
 
-    ghost took_both = { λ x y z h k first then. (
-      then.0 ∙ first.0,
-      counted_both x.faults y.faults z.faults h k first.1 then.1,
-      appends_both (K.held x.sink.now) (K.held y.sink.now) (K.held z.sink.now) h k first.2 then.2,
-    ) };
+    ghost faults = { λ l. K.faults l.sink.now };
 
-    ghost took_none_at = { λ x. (refl, counted_none x.faults, appends_none (K.held x.sink.now)) };
+    // The sink grew by the lines, and the count by those of faults.
+    ghost took = { λ x y told. ListsTold lines_of x.sink.ghost_name y.sink.ghost_name x.faults y.faults (K.held x.sink.now) (K.held y.sink.now) told };
 
-    ghost took_both_at = { λ x y z h k first then. both_alone (λ events. (z.sink.ghost_name ≡ x.sink.ghost_name) × (z.faults ≡ counted x.faults (fault_lines events)) × Appends (K.held x.sink.now) (K.held z.sink.now) (lines_of events)) h k (
-      then.0 ∙ first.0,
-      counted_both x.faults y.faults z.faults (map event_of h) (map event_of k) first.1 then.1,
-      appends_both (K.held x.sink.now) (K.held y.sink.now) (K.held z.sink.now) (map event_of h) (map event_of k) first.2 then.2,
-    ) };
+    // The sink grew by a part of the line, and nothing was counted.
+    ghost broke = { λ x y t. BreaksTold lines_of x.sink.ghost_name y.sink.ghost_name x.faults y.faults (K.held x.sink.now) (K.held y.sink.now) t };
 
-    ghost forgets = { λ x y events t. t };
+    fn hear(&mut self, told: ToldRef<'_>) -> Result<(), Failed> {
+        match told {
+            ToldRef::Event { column: _, event } => self.event(event),
+            ToldRef::Slip { lane, place } => write_between(self.sink, &mut self.faults, slip_line(lane, place)),
+            ToldRef::Relock { place } => write_between(self.sink, &mut self.faults, relock_line(place)),
+            ToldRef::Aligned { places: _ } => Ok(()),
+        }
+    }
+
+    ghost took_none = { λ x. lists_none lines_of x.sink.ghost_name x.faults (K.held x.sink.now) };
+
+    ghost took_both = { λ x y z h k first then. lists_both lines_of x.sink.ghost_name y.sink.ghost_name z.sink.ghost_name x.faults y.faults z.faults (K.held x.sink.now) (K.held y.sink.now) (K.held z.sink.now) h k first then };
 }
 
 /// Puts the line of pixels at the front of `line`, and says how long it is.
@@ -195,6 +159,25 @@ pub(crate) fn write_short<K: Sink>(sink: &mut K, line: TextLine) -> Result<(), F
     ensures cause { HasCause (K.faults sink.old) (K.faults sink.new) result }
 {
     write_line(sink, line.as_slice())
+}
+
+/// Writes a fault line that is not of an event, and counts it. If a write fails, a part of the line is written, and nothing is
+/// counted.
+#[inline(never)]
+pub(crate) fn write_between<K: Sink>(
+    sink: &mut K,
+    faults: &mut u64,
+    line: TextLine,
+) -> Result<(), Failed>
+    ensures counted { OnOk result (faults.new ≡ counted faults.old 1) }
+    ensures uncounted { OnErr result (faults.new ≡ faults.old) }
+    ensures whole { OnOk result (Appends (K.held sink.old) (K.held sink.new) line.items) }
+    ensures part { OnErr result ((n : ℕ) × (n < length line.items) × Appends (K.held sink.old) (K.held sink.new) (take n line.items)) }
+    ensures cause { HasCause (K.faults sink.old) (K.faults sink.new) result }
+{
+    write_short(sink, line)?;
+    *faults = faults.saturating_add(1);
+    Ok(())
 }
 
 // A separate function writes the lines of rare events, so that only these events make room for such a line.

@@ -18,3 +18,4 @@ pub mod Completing
 pub mod Agreeing
 pub mod OneSpelling
 pub mod Local
+pub mod Between

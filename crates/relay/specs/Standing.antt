@@ -1,13 +1,16 @@
 -- What a relay keeps of the events that were reported to it.
 use Rattle.std.specs.Prelude.{◌≡◌, ◌≤◌, ◌<◌, ℕ, ◌+◌, Bool, true, not, List, [], ◌∷◌, ◌++◌, map, take, length, max, Option, Some, None}
 use Rattle.std.specs.List.{list_all}
+use Rattle.std.proofs.Common.{refl, sym, ◌∙◌, subst, append_assoc, append-nil}
 use Rattle.outside_io.specs.Causes.{next}
 use Rattle.island_pack.specs.Periods.{SyncPair, DataIsland, columns_of}
 use Rattle.island_pack.specs.Conforming.{is_sync_pair, is_packet}
 use Rattle.island_pack.specs.Runs.{longest}
 use Rattle.island_pack.specs.declared.ranges.TheConstants.{COLUMN_LIMIT}
-use Rattle.period_grammar.specs.Events.{Event}
+use Rattle.period_grammar.specs.Events.{Event, event_of}
 use Rattle.period_grammar.specs.Exact.{faultless}
+use Rattle.link_sink.specs.Told.{Told, event, slip, relock, aligned, alone_in}
+use Rattle.link_sink.specs.EventsIn.{none_alone, both_alone}
 use Rattle.source_end.specs.Gathering.{Has}
 use Rattle.source_end.specs.Raster.{Part}
 use Rattle.relay.specs.declared.relaying.Relay.{Relay}
@@ -67,6 +70,13 @@ Refuses x event fault = (reported : List Event) → RelayRepresents x reported �
 abbrev pub Broke : Relay → Relay → Event → Type 0
 Broke x y event = x.trouble ≡ None → (fault : RelayFault) × (y.trouble ≡ Some fault) × Refuses x event fault
 
+-- the same at something that it was told: at what is no event it fails only after it has failed
+abbrev pub BrokeAt : Relay → Relay → Told → Type 0
+BrokeAt x y (event t) = Broke x y (event_of t)
+BrokeAt x y (slip lane place) = x.trouble ≡ None → ⊥
+BrokeAt x y (relock place) = x.trouble ≡ None → ⊥
+BrokeAt x y (aligned d e f) = x.trouble ≡ None → ⊥
+
 -- only its count of failures is another
 abbrev pub counted_again : Relay → Relay
 counted_again x = record {
@@ -83,3 +93,14 @@ counted_again x = record {
 -- what a relay stands for takes no more than 20,000,000 columns
 abbrev pub RepresentsFew : Type 0
 RepresentsFew = (relay : Relay) (reported : List Event) → RelayRepresents relay reported → columns_of (relayed reported) ≤ COLUMN_LIMIT
+
+pub took_nothing : (x : Relay) → Took x x []
+took_nothing x = (λ events stands. subst (RelayRepresents x) (sym (append-nil events)) stands, refl)
+
+pub took_none : (x : Relay) → Took x x (alone_in [])
+took_none x = none_alone (Took x x) (took_nothing x)
+
+pub took_both : (x y z : Relay) (h k : List Told) → Took x y (alone_in h) → Took y z (alone_in k) → Took x z (alone_in (h ++ k))
+took_both x y z h k first then =
+    both_alone (Took x z) h k
+    (λ events stands. subst (RelayRepresents z) (append_assoc events (alone_in h) (alone_in k)) (then.0 (events ++ alone_in h) (first.0 events stands)), then.1 ∙ first.1)

@@ -1,27 +1,27 @@
 //! A repeater of what a link says.
-ghost use Rattle.std.specs.Prelude.{◌≡◌, ℕ, ◌+◌, ◌-◌, ◌*◌, ◌/◌, ◌%◌, ◌^◌, ◌<◌, ◌≤◌, ◌++◌, ◌∷◌, [], List, Bool, true, All, length, max, min, nat_lt, take, Option, Some, None, not, OnOk, OnErr, IfOk, IfErr, IsTrue, MatchResult, map};
+ghost use Rattle.std.specs.Prelude.{◌≡◌, ℕ, ◌+◌, ◌-◌, ◌*◌, ◌/◌, ◌%◌, ◌^◌, ◌<◌, ◌≤◌, ◌++◌, ◌∷◌, [], List, Bool, true, All, length, max, min, nat_lt, take, Option, Some, None, not, OnOk, OnErr, IfOk, IfErr, IsTrue, MatchResult};
 ghost use Rattle.std.specs.List.{fold};
 ghost use Rattle.island_pack.specs.Periods.{DataIsland, columns_of};
 ghost use Rattle.island_pack.specs.Conforming.{is_sync_pair};
 ghost use Rattle.island_pack.specs.Packets.{IsPacket};
 ghost use Rattle.island_pack.specs.declared.ranges.TheConstants.{COLUMN_LIMIT};
 ghost use Rattle.outside_io.specs.Causes.{HasCause};
-ghost use Rattle.period_grammar.specs.Events.{Event, line, event_of};
-ghost use Rattle.link_sink.specs.Ears.{both_alone};
+ghost use Rattle.period_grammar.specs.Events.{Event, line};
 ghost use Rattle.period_grammar.specs.Lending.{lent_event};
 ghost use Rattle.period_grammar.specs.Sizes.{IsSized};
+ghost use Rattle.link_sink.specs.Told.{alone_in, lent_told, IsToldSized};
 ghost use Rattle.relay.specs.declared.relaying.RelayFault.{RelayFault};
 ghost use Rattle.source_end.specs.Pairs.{pair_of};
 ghost use Rattle.relay.specs.Relayed.{Begun, Judged, Alternation, a_line, an_island, ended, joined, some_columns, filled, lengthened, with_packet, closed, nulled, relayed};
 ghost use Rattle.relay.specs.Changed.{changed_from};
 ghost use Rattle.relay.specs.Sizes.{size};
-ghost use Rattle.relay.specs.Standing.{IsAt, RelayRepresents, Took, Broke, Refuses, counted_again};
+ghost use Rattle.relay.specs.Standing.{IsAt, RelayRepresents, Took, Broke, BrokeAt, Refuses, counted_again};
 ghost use Rattle.relay.specs.Steps.{Steps, IsSettled};
 
 use crate::packets::sent_on;
 use crate::settling::{at_least_twelve, settle};
 use island_pack::{COLUMN_LIMIT, ISLAND_CTL, Packet, PacketRef, VIDEO_CTL};
-use link_sink::Ear;
+use link_sink::{Ear, ToldRef};
 use outside_io::{Failed, NoMemory};
 use period_grammar::EventRef;
 use source_end::{Gathering, Island, OpenRuns, Stream};
@@ -313,22 +313,9 @@ fn pass_over(event: EventRef<'_>) {
     }
 }
 
-impl Ear for Relay {
-    ghost use Rattle.std.proofs.Common.{refl, sym, ◌∙◌, subst, append_assoc, append-nil};
-
-    ghost faults = { λ r. r.faults };
-
-    // The relay represents each list that it represented before, followed by these events.
-    ghost took = { Took };
-
-    // The columns of events are made nothing of.
-    ghost took_at = { λ x y events. Took x y (map event_of events) };
-
-    // It has failed: what is relayed would be too long, or memory was wanting.
-    ghost broke = { Broke };
-
+impl Relay {
     /// Takes an event. After a failure it takes no more: each further call fails and changes nothing but the count.
-    fn hear(&mut self, _: u64, event: EventRef<'_>) -> Result<(), Failed>
+    fn event(&mut self, event: EventRef<'_>) -> Result<(), Failed>
         requires { IsSized (lent_event event) }
         ensures ok { OnOk result (Took self.old self.new (lent_event event.entry ∷ [])) }
         ensures err { OnErr result (Broke self.old self.new (lent_event event.entry)) }
@@ -350,13 +337,50 @@ impl Ear for Relay {
         }
     }
 
-    ghost took_none = { λ x. (λ event s. subst (RelayRepresents x) (sym (append-nil event)) s, refl) };
+    /// Takes what is no event, and leaves it out. After a failure it fails as for an event.
+    fn between(&mut self) -> Result<(), Failed>
+        ensures ok { OnOk result (self.new ≡ self.old) }
+        ensures err { OnErr result (self.old.trouble ≡ None → ⊥) }
+        ensures cause { HasCause self.old.faults self.new.faults result }
+        ensures spent { (fault : RelayFault) → self.old.trouble ≡ Some fault → OnOk result ⊥ × (self.new ≡ counted_again self.old) }
+    {
+        if self.trouble.is_some() {
+            self.faults = self.faults.saturating_add(1);
+            return Err(Failed);
+        }
+        Ok(())
+    }
+}
 
-    ghost took_both = { λ x y z h k f g. (λ event s. subst (RelayRepresents z) (append_assoc event h k) (g.0 (event ++ h) (f.0 event s)), g.1 ∙ f.1) };
+impl Ear for Relay {
+    ghost use Rattle.relay.specs.Standing.{took_none, took_both};
 
-    ghost took_none_at = { λ x. (λ event s. subst (RelayRepresents x) (sym (append-nil event)) s, refl) };
+    ghost faults = { λ r. r.faults };
 
-    ghost took_both_at = { λ x y z h k f g. both_alone (Took x z) h k (λ event s. subst (RelayRepresents z) (append_assoc event (map event_of h) (map event_of k)) (g.0 (event ++ map event_of h) (f.0 event s)), g.1 ∙ f.1) };
+    // The relay represents each list that it represented before, followed by these events.
+    ghost took = { λ x y told. Took x y (alone_in told) };
 
-    ghost forgets = { λ x y events t. t };
+    // It has failed: what is relayed would be too long, or memory was wanting.
+    ghost broke = { BrokeAt };
+
+    /// Takes an event, and leaves out what lies between events. After a failure it takes no more: each further call fails and
+    /// changes nothing but the count.
+    fn hear(&mut self, told: ToldRef<'_>) -> Result<(), Failed>
+        requires { IsToldSized (lent_told told) }
+        ensures ok { OnOk result (Took self.old self.new (alone_in (lent_told told.entry ∷ []))) }
+        ensures err { OnErr result (BrokeAt self.old self.new (lent_told told.entry)) }
+        ensures cause { HasCause self.old.faults self.new.faults result }
+        ensures spent { (fault : RelayFault) → self.old.trouble ≡ Some fault → OnOk result ⊥ × (self.new ≡ counted_again self.old) }
+    {
+        match told {
+            ToldRef::Event { column: _, event } => self.event(event),
+            ToldRef::Slip { lane: _, place: _ }
+            | ToldRef::Relock { place: _ }
+            | ToldRef::Aligned { places: _ } => self.between(),
+        }
+    }
+
+    ghost took_none = { took_none };
+
+    ghost took_both = { took_both };
 }

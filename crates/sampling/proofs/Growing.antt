@@ -23,10 +23,9 @@ pub with_more : (first : List ℕ) (reported : List Event) (event : Event)
 with_more first reported event = ap (lines_with first) (lines_more reported event) ∙ with_append first (content_lines reported) (lines_at reported event)
 
 -- fault lines
-pub faults_more : (reported events : List Event)
-    → fault_line_count (content_lines (reported ++ events)) ≡ fault_line_count (content_lines reported) + fault_line_count (lines_after reported events)
-unfolding content_lines
-faults_more reported events = ap fault_line_count (lines_after_append [] reported events) ∙ fault_count_append (lines_after [] reported) (lines_after reported events)
+pub faults_more : (reported : List Event) (event : Event)
+    → fault_line_count (content_lines (reported ++ event ∷ [])) ≡ fault_line_count (content_lines reported) + fault_line_count (lines_at reported event)
+faults_more reported event = ap fault_line_count (lines_more reported event) ∙ fault_count_append (content_lines reported) (lines_at reported event)
 
 pub packets_more : (reported : List Event) (event : Event) → count_by is_packet (reported ++ event ∷ []) ≡ count_by is_packet reported + count_by is_packet (event ∷ [])
 packets_more reported event = sum_by-append _ reported (event ∷ [])

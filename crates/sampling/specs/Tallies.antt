@@ -3,6 +3,8 @@ use Rattle.std.proofs.Common.{◌≡◌, ℕ, suc, ◌%◌, List, [], ◌∷◌,
 use Rattle.std.specs.Prelude.{codes, count_by}
 use Rattle.frame_build.specs.FramesRepresent.{FramesRepresent}
 use Rattle.period_grammar.specs.Events.{Event}
+use Rattle.link_sink.specs.Told.{Told, alone_in}
+use Rattle.link_sink.specs.EventsIn.{none_alone, both_alone}
 use Rattle.listing_writer.specs.ContentText.{frame_events, content_lines, fault_line_count}
 use Rattle.listing_writer.specs.ContentAdded.{Recalls}
 use Rattle.listing_writer.specs.Listed.{Listed, row, frame, listed}
@@ -46,11 +48,18 @@ pub record Stands (tally : Tally) (reported : List Event) : Type 0 where
   pub faults : tally.lister.faults ≡ kept (fault_line_count (content_lines reported))
   pub counted : Counted tally.counter reported
 
+-- after all that was reported before it stands for these events, too
+abbrev pub StandsOn : Tally → Tally → List Event → Type 0
+StandsOn x y events = (reported : List Event) → Stands x reported → Stands y (reported ++ events)
+
 -- nothing more was reported
-pub stands_none : (x : Tally) (reported : List Event) → Stands x reported → Stands x (reported ++ [])
-stands_none x reported stands = subst (Stands x) (sym (append-nil reported)) stands
+pub stands_on_none : (x : Tally) → StandsOn x x []
+stands_on_none x reported stands = subst (Stands x) (sym (append-nil reported)) stands
+
+pub stands_none : (x : Tally) → StandsOn x x (alone_in [])
+stands_none x = none_alone (StandsOn x x) (stands_on_none x)
 
 -- some things were reported and then others
-pub stands_both : (x y z : Tally) (h k : List Event) → ((reported : List Event) → Stands x reported → Stands y (reported ++ h)) → ((reported : List Event) → Stands y reported → Stands z (reported ++ k))
-    → (reported : List Event) → Stands x reported → Stands z (reported ++ (h ++ k))
-stands_both x y z h k first then reported stands = subst (Stands z) (append_assoc reported h k) (then (reported ++ h) (first reported stands))
+pub stands_both : (x y z : Tally) (h k : List Told) → StandsOn x y (alone_in h) → StandsOn y z (alone_in k) → StandsOn x z (alone_in (h ++ k))
+stands_both x y z h k first then =
+    both_alone (StandsOn x z) h k (λ reported stands. subst (Stands z) (append_assoc reported (alone_in h) (alone_in k)) (then (reported ++ alone_in h) (first reported stands)))

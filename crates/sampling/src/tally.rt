@@ -1,13 +1,15 @@
 //! Counts what is reported of the generator's content.
-ghost use Rattle.std.specs.Prelude.{◌≡◌, ◌+◌, ◌-◌, ◌++◌, [], List, map};
-ghost use Rattle.period_grammar.specs.Events.{Event, event_of};
-ghost use Rattle.link_sink.specs.Ears.{both_alone};
+ghost use Rattle.std.specs.Prelude.{◌≡◌, ◌+◌, ◌-◌, ◌∷◌, [], List, OnOk, OnErr};
+ghost use Rattle.period_grammar.specs.Events.{Event};
+ghost use Rattle.period_grammar.specs.Lending.{lent_event};
+ghost use Rattle.period_grammar.specs.Sizes.{IsSized};
+ghost use Rattle.link_sink.specs.Told.{alone_in};
 ghost use Rattle.sampling.specs.Counts.{counts_of};
-ghost use Rattle.sampling.specs.Tallies.{Stands};
+ghost use Rattle.sampling.specs.Tallies.{Stands, StandsOn};
 
 use crate::Counts;
 use crate::counter::Counter;
-use link_sink::Ear;
+use link_sink::{Ear, ToldRef};
 use listing_writer::ContentLister;
 use outside_io::{Failed, SteadySink};
 use period_grammar::EventRef;
@@ -63,32 +65,40 @@ impl<'a> Tally<'a> {
     }
 }
 
+impl<'a> Tally<'a> {
+    /// Counts an event.
+    fn event(&mut self, column: u64, event: EventRef<'_>) -> Result<(), Failed>
+        requires { IsSized (lent_event event) }
+        ensures ok { OnOk result (StandsOn self.old self.new (lent_event event.entry ∷ [])) }
+        ensures err { OnErr result ⊥ }
+    {
+        self.counter.hear(&event);
+        self.lister.hear(ToldRef::Event { column, event })
+    }
+}
+
 impl<'a> Ear for Tally<'a> {
     ghost use Rattle.sampling.specs.Tallies.{stands_none, stands_both};
 
     ghost faults = { λ _. 0 };
 
     // The relation to all that was reported before extends to these events.
-    ghost took = { λ x y events. (reported : List Event) → Stands x reported → Stands y (reported ++ events) };
-
-    // The columns of events are made nothing of.
-    ghost took_at = { λ x y events. (reported : List Event) → Stands x reported → Stands y (reported ++ (map event_of events)) };
+    ghost took = { λ x y told. StandsOn x y (alone_in told) };
 
     // A steady sink never fails.
-    ghost broke = { λ x y event. ⊥ };
+    ghost broke = { λ x y t. ⊥ };
 
-    fn hear(&mut self, column: u64, event: EventRef<'_>) -> Result<(), Failed> {
-        self.counter.hear(&event);
-        self.lister.hear(column, event)
+    // What lies between events is not counted.
+    fn hear(&mut self, told: ToldRef<'_>) -> Result<(), Failed> {
+        match told {
+            ToldRef::Event { column, event } => self.event(column, event),
+            ToldRef::Slip { lane: _, place: _ }
+            | ToldRef::Relock { place: _ }
+            | ToldRef::Aligned { places: _ } => Ok(()),
+        }
     }
 
-    ghost took_none = { λ x. stands_none x };
+    ghost took_none = { stands_none };
 
-    ghost took_both = { λ x y z h k first then. stands_both x y z h k first then };
-
-    ghost took_none_at = { λ x. stands_none x };
-
-    ghost took_both_at = { λ x y z h k first then. both_alone (λ events. (reported : List Event) → Stands x reported → Stands z (reported ++ events)) h k (stands_both x y z (map event_of h) (map event_of k) first then) };
-
-    ghost forgets = { λ x y events t. t };
+    ghost took_both = { stands_both };
 }

@@ -7,12 +7,13 @@ ghost use Rattle.command_line.specs.declared.command.Command.TheVariants.{Check}
 use crate::ending::Ending;
 use crate::feeding::Feeds;
 use crate::listing::list_capture;
+use link_sink::LinkSink;
 use listing_writer::CheckLister;
 use outside_io::{Sink, Source};
-use period_grammar::Hearing;
 use std::alloc::Global;
 
 /// Writes what a check of a capture lists, while it is read.
+#[tactic(auto, using(crate::proofs::Accounts::told_check))]
 pub fn check<F: Feeds, S: Source, K: Sink>(
     feeding: &F,
     alloc: Global,
@@ -26,7 +27,7 @@ pub fn check<F: Feeds, S: Source, K: Sink>(
     ensures input_later { S.faults input.old ≤ S.faults input.new }
     ensures output_later { K.faults output.old ≤ K.faults output.new }
 {
-    list_capture::<F, S, Hearing, CheckLister<'_, K>>(
+    list_capture::<F, S, LinkSink, CheckLister<'_, K>>(
         feeding,
         alloc,
         input,

@@ -8,8 +8,8 @@ use crate::ending::Ending;
 use crate::feeding::Feeds;
 use crate::listing::list_capture;
 use biphase_listing::BiphaseLister;
+use link_sink::LinkSink;
 use outside_io::{Sink, Source};
-use period_grammar::Hearing;
 use std::alloc::Global;
 
 /// Writes the biphase stream of a pair of channels of a capture, while it is read.
@@ -28,7 +28,7 @@ pub fn recover_biphase<F: Feeds, S: Source, K: Sink>(
     ensures input_later { S.faults input.old ≤ S.faults input.new }
     ensures output_later { K.faults output.old ≤ K.faults output.new }
 {
-    list_capture::<F, S, Hearing, BiphaseLister<'_, K>>(
+    list_capture::<F, S, LinkSink, BiphaseLister<'_, K>>(
         feeding,
         alloc,
         input,

@@ -7,12 +7,13 @@ ghost use Rattle.command_line.specs.declared.command.Command.TheVariants.{Recove
 use crate::ending::Ending;
 use crate::feeding::Feeds;
 use crate::listing::list_capture;
+use link_sink::LinkSink;
 use listing_writer::ContentLister;
 use outside_io::{Sink, Source};
-use period_grammar::Hearing;
 use std::alloc::Global;
 
 /// Writes the pictures and the sound of a capture, while it is read.
+#[tactic(auto, using(crate::proofs::Accounts::told_content))]
 pub fn recover_content<F: Feeds, S: Source, K: Sink>(
     feeding: &F,
     alloc: Global,
@@ -26,7 +27,7 @@ pub fn recover_content<F: Feeds, S: Source, K: Sink>(
     ensures input_later { S.faults input.old ≤ S.faults input.new }
     ensures output_later { K.faults output.old ≤ K.faults output.new }
 {
-    list_capture::<F, S, Hearing, ContentLister<'_, K>>(
+    list_capture::<F, S, LinkSink, ContentLister<'_, K>>(
         feeding,
         alloc,
         input,

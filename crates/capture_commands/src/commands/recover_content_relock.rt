@@ -6,15 +6,16 @@ ghost use Rattle.command_line.specs.declared.command.Command.TheVariants.{Recove
 
 use crate::ending::Ending;
 use crate::feeding::Feeds;
-use crate::track_lister::ContentTrackLister;
-use crate::track_listing::list_epochs;
+use crate::listing::list_capture;
 use listing_writer::ContentLister;
 use outside_io::{Sink, Source};
 use relock_sink::Refuter;
 use std::alloc::Global;
+use track_sink::EpochSink;
 
 /// Writes the pictures and the sound of a capture whose lanes may lose bits, while it is read: of the events that `recover relock`
 /// lists, as one stream, and a line for each slip and each alignment that is dropped.
+#[tactic(auto, using(crate::proofs::Accounts::told_content_relock))]
 pub fn recover_content_relock<F: Feeds, S: Source, K: Sink>(
     feeding: &F,
     alloc: Global,
@@ -28,12 +29,10 @@ pub fn recover_content_relock<F: Feeds, S: Source, K: Sink>(
     ensures input_later { S.faults input.old ≤ S.faults input.new }
     ensures output_later { K.faults output.old ≤ K.faults output.new }
 {
-    list_epochs::<F, S, Refuter, ContentTrackLister<'_, K>>(
+    list_capture::<F, S, EpochSink<Refuter>, ContentLister<'_, K>>(
         feeding,
         alloc,
         input,
-        &mut ContentTrackLister {
-            lister: ContentLister::open(output),
-        },
+        &mut ContentLister::open(output),
     )
 }

@@ -7,12 +7,13 @@ ghost use Rattle.command_line.specs.declared.command.Command.TheVariants.{Recove
 use crate::ending::Ending;
 use crate::feeding::Feeds;
 use crate::listing::list_capture;
-use dvi_hearing::DviHearing;
+use dvi_hearing::DviSink;
 use listing_writer::LinkLister;
 use outside_io::{Sink, Source};
 use std::alloc::Global;
 
 /// Writes the link listing of a capture of a stream without guard columns, while it is read.
+#[tactic(auto, using(crate::proofs::Accounts::told_dvi))]
 pub fn recover_dvi<F: Feeds, S: Source, K: Sink>(
     feeding: &F,
     alloc: Global,
@@ -26,7 +27,7 @@ pub fn recover_dvi<F: Feeds, S: Source, K: Sink>(
     ensures input_later { S.faults input.old ≤ S.faults input.new }
     ensures output_later { K.faults output.old ≤ K.faults output.new }
 {
-    list_capture::<F, S, DviHearing, LinkLister<'_, K>>(
+    list_capture::<F, S, DviSink, LinkLister<'_, K>>(
         feeding,
         alloc,
         input,

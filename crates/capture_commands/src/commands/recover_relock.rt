@@ -6,15 +6,16 @@ ghost use Rattle.command_line.specs.declared.command.Command.TheVariants.{Recove
 
 use crate::ending::Ending;
 use crate::feeding::Feeds;
-use crate::track_lister::LinkTrackLister;
-use crate::track_listing::list_epochs;
+use crate::listing::list_capture;
 use listing_writer::LinkLister;
 use outside_io::{Sink, Source};
 use relock_sink::Refuter;
 use std::alloc::Global;
+use track_sink::EpochSink;
 
 /// Writes the link listing of a capture whose lanes may lose bits, and whose alignment is used only where a period opens at its
 /// edges and until it is refuted or doubted, while it is read: else the lanes are searched again.
+#[tactic(auto, using(crate::proofs::Accounts::told_relock))]
 pub fn recover_relock<F: Feeds, S: Source, K: Sink>(
     feeding: &F,
     alloc: Global,
@@ -28,12 +29,10 @@ pub fn recover_relock<F: Feeds, S: Source, K: Sink>(
     ensures input_later { S.faults input.old ≤ S.faults input.new }
     ensures output_later { K.faults output.old ≤ K.faults output.new }
 {
-    list_epochs::<F, S, Refuter, LinkTrackLister<'_, K>>(
+    list_capture::<F, S, EpochSink<Refuter>, LinkLister<'_, K>>(
         feeding,
         alloc,
         input,
-        &mut LinkTrackLister {
-            lister: LinkLister::open(output),
-        },
+        &mut LinkLister::open(output),
     )
 }

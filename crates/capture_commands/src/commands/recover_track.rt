@@ -6,15 +6,15 @@ ghost use Rattle.command_line.specs.declared.command.Command.TheVariants.{Recove
 
 use crate::ending::Ending;
 use crate::feeding::Feeds;
-use crate::track_lister::LinkTrackLister;
-use crate::track_listing::list_epochs;
+use crate::listing::list_capture;
 use listing_writer::LinkLister;
 use outside_io::{Sink, Source};
 use std::alloc::Global;
-use track_sink::Strays;
+use track_sink::TrackSink;
 
 /// Writes the link listing of a capture whose lanes may lose bits, while it is read: where a lane's characters begin
 /// elsewhere, the lanes are searched again.
+#[tactic(auto, using(crate::proofs::Accounts::told_track))]
 pub fn recover_track<F: Feeds, S: Source, K: Sink>(
     feeding: &F,
     alloc: Global,
@@ -28,12 +28,10 @@ pub fn recover_track<F: Feeds, S: Source, K: Sink>(
     ensures input_later { S.faults input.old ≤ S.faults input.new }
     ensures output_later { K.faults output.old ≤ K.faults output.new }
 {
-    list_epochs::<F, S, Strays, LinkTrackLister<'_, K>>(
+    list_capture::<F, S, TrackSink, LinkLister<'_, K>>(
         feeding,
         alloc,
         input,
-        &mut LinkTrackLister {
-            lister: LinkLister::open(output),
-        },
+        &mut LinkLister::open(output),
     )
 }

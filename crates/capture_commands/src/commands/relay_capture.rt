@@ -65,7 +65,7 @@ fn relay_lanes<F: Feeds, S: Source, K: Sink>(
 {
     let mut relay = Relay::open(alloc);
     match hear_capture(feeding, sink, input, &mut relay) {
-        Ok(heard) if heard.aligned => write_relayed(alloc, relay, output),
+        Ok(counts) if counts.aligned > 0 => write_relayed(alloc, relay, output),
         Ok(_) => Ending::Unaligned,
         Err(ReadCaptureError::Bad(fault)) => Ending::Capture(fault),
         Err(ReadCaptureError::Read) => Ending::ReadFailed,

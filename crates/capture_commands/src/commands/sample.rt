@@ -1,15 +1,17 @@
 //! The command `sample`: the generator's content is made into a capture, the capture is damaged and recovered, and what results
 //! is counted.
-ghost use Rattle.std.specs.Prelude.{◌≡◌, ◌+◌, ◌*◌, ◌/◌, ◌≤◌, [], Bool, List, true, IfOk, OnErr};
+ghost use Rattle.std.specs.Prelude.{◌≡◌, ◌+◌, ◌*◌, ◌/◌, ◌≤◌, List, true, IfOk, OnErr};
 ghost use Rattle.outside_io.specs.Causes.{Rose};
 ghost use Rattle.island_pack.specs.Spelling.{Spells};
 ghost use Rattle.island_pack.specs.declared.ranges.TheConstants.{COLUMN_LIMIT};
 ghost use Rattle.capture_file.specs.Captures.{IsCapture, IsCaptureOf};
 ghost use Rattle.capture_file.specs.Taps.{tap_count};
-ghost use Rattle.period_grammar.specs.Events.{Event};
-ghost use Rattle.link_sink.specs.Alignment.{AreReported};
+ghost use Rattle.link_sink.specs.Grammar.{link_grammar};
 ghost use Rattle.link_sink.specs.Pieces.{no_bits};
+ghost use Rattle.link_sink.specs.Receiving.{IsToldWhole};
+ghost use Rattle.link_sink.specs.Sinks.{Fed};
 ghost use Rattle.link_sink.specs.Streams.{SinkRepresents, most_bits};
+ghost use Rattle.link_sink.specs.Told.{Told};
 ghost use Rattle.sampling.specs.Sampled.{sample_mode, sample_tap, IsSampled};
 ghost use Rattle.source_end.specs.declared.refusal.RasterFault.{RasterFault};
 ghost use Rattle.capture_commands.specs.Samples.{IsMade, IsSampleSent, IsSampleCapture, IsStruck, SampleEnds};
@@ -20,7 +22,7 @@ use crate::hearing::hear_capture;
 use crate::slice_source::SliceSource;
 use capture_file::{DamageError, Hit, LaneRows, Tap, damage, write_capture};
 use capture_reading::ReadCaptureError;
-use link_sink::{Ear, LinkSink, Outcome};
+use link_sink::{Ear, EndCounts, LinkSink};
 use outside_io::{Failed, MemSink, NoMemory, Sink, SteadySink};
 use sampling::{Counts, Tally, hits_of, write_counts};
 use source_end::{Mode, RasterFault, Stream, generate, raster};
@@ -56,7 +58,7 @@ fn sample<F: Feeds>(feeding: &F, alloc: Global, frames: u32) -> Result<Counts, N
     let mut steady = SteadySink::new();
     let mut tally = Tally::open(&mut steady);
     match hear_bytes(feeding, &mut sink, capture.bytes(), &mut tally) {
-        Ok(outcome) => Ok(tally.counts(outcome.columns)),
+        Ok(counts) => Ok(tally.counts(counts.columns)),
         Err(Failed) => unreachable!(),
     }
 }
@@ -67,16 +69,17 @@ fn hear_bytes<F: Feeds, E: Ear>(
     sink: &mut LinkSink,
     bytes: &[u8],
     ear: &mut E,
-) -> Result<Outcome, Failed>
+) -> Result<EndCounts, Failed>
     requires open { sink.old.is_open ≡ true }
     requires fresh { SinkRepresents sink.old no_bits }
     requires unfed { most_bits sink.old ≡ 0 }
     requires capture { IsCapture bytes.now }
-    ensures heard { IfOk result (λ outcome. (blue green red : List Bool) × IsCaptureOf blue green red bytes.now × ((events : List Event) × AreReported blue green red outcome events × E.took ear.old ear.new events)) }
+    ensures heard { IfOk result (λ counts. (fed : Fed) × IsCaptureOf fed.blue fed.green fed.red bytes.now
+        × ((told : List Told) × IsToldWhole link_grammar fed counts.columns counts.aligned told × E.took ear.old ear.new told)) }
     ensures cause { OnErr result (Rose (E.faults ear.old) (E.faults ear.new)) }
 {
     match hear_capture(feeding, sink, &mut SliceSource::new(bytes), ear) {
-        Ok(outcome) => Ok(outcome),
+        Ok(counts) => Ok(counts),
         Err(ReadCaptureError::Ear) => Err(Failed),
         Err(ReadCaptureError::Bad(_)) => unreachable!(),
         Err(ReadCaptureError::Read) => unreachable!(),

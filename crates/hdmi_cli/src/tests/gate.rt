@@ -4,7 +4,7 @@ ghost use Rattle.std.specs.Prelude.{◌<◌};
 use super::trial::{STEADY, answer_of, answer_through};
 use capture_commands::BlockGate;
 use lane_team::Gate;
-use link_sink::{Ear, Hears, LaneSink, LinkSink};
+use link_sink::{Ear, LinkSink, Receives};
 use listing_writer::LinkLister;
 use outside_io::{Failed, MemSink};
 use std::process::Abort;
@@ -70,14 +70,14 @@ impl Gate for Meeting {
 }
 
 impl BlockGate for Meeting {
-    fn feed<R: Threads, H: Hears, E: Ear>(
+    fn feed<R: Threads, S: Receives, E: Ear>(
         &self,
         rt: &R,
-        sink: &mut LaneSink<H>,
+        sink: &mut S,
         block: LaneBits<'_>,
         ear: &mut E,
     ) -> Result<(), Failed> {
-        sink.feed(rt, block, self, ear)
+        sink.feed_by_workers(rt, block, self, ear)
     }
 }
 

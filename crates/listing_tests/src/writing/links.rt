@@ -19,8 +19,6 @@ fn lists(sink: &mut MemSink, row: &Row) -> bool {
     let mut right = true;
     for (i, step) in steps.iter().enumerate() {
         let answer = match *step {
-            Step::Slip(lane, place) => lister.slip(lane, place),
-            Step::Relock(place) => lister.relock(place),
             Step::End => lister.end(),
             _ => tell(&mut lister, step),
         };

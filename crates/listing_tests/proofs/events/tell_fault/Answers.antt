@@ -1,5 +1,5 @@
 use Rattle.listing_writer.proofs.ReportedSizes.{fault_sized}
 use Rattle.listing_tests.proofs.events.tell_fault.Goals as goal
 
-pub hear-requires : goal.hear-requires
-hear-requires g c = fault_sized c.args.fault
+pub tell_event-requires : goal.hear-requires
+tell_event-requires g c = fault_sized c.args.fault

@@ -1,6 +1,6 @@
 use Rattle.std.proofs.Common.{arith, sym, subst}
 use Rattle.capture_file.specs.Captures.{IsCapture}
-use Rattle.capture_commands.proofs.Samples.{sampled, struck_is_capture}
+use Rattle.capture_commands.proofs.Samples.{sampled_told, struck_is_capture}
 use Rattle.capture_commands.proofs.commands.sample.sample.Goals as goal
 
 pub hear_bytes-requires-clause-capture : goal.hear_bytes-requires-clause-capture
@@ -9,4 +9,4 @@ hear_bytes-requires-clause-capture g c =
     subst IsCapture (sym c.bytes.ensures) (struck_is_capture s.bytes s.hits c.in_ok-capture.capture.held s.damaged_is)
 
 pub returns : goal.returns
-returns g c = grind (arith, sampled)
+returns g c = grind (arith, sampled_told)

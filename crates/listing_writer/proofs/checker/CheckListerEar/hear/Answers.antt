@@ -1,36 +1,35 @@
-use Rattle.std.proofs.Common.{refl, ap, arith}
-use Rattle.std.specs.Prelude.{Err}
-use Rattle.period_grammar.specs.Lending.{lent_event, fault_event}
-use Rattle.listing_writer.specs.Texts.{line_words}
-use Rattle.listing_writer.specs.Checks.{is_cut, is_checked}
-use Rattle.listing_writer.proofs.OneLine.{line_took, line_broke, fault_took, is_fault, always}
-use Rattle.listing_writer.proofs.CheckedLine.{unlisted_passed, check_took, check_took_ok, check_broke, fault_checked}
+use Rattle.std.proofs.Common.{refl, ap}
+use Rattle.period_grammar.specs.Lending.{lent_event}
+use Rattle.link_sink.specs.Told.{lent_told, slip, relock}
+use Rattle.listing_writer.specs.Checks.{check_lines}
+use Rattle.listing_writer.specs.ToldTaken.{lists_event, lists_between, lists_aligned, breaks_event, breaks_between}
 use Rattle.listing_writer.proofs.checker.CheckListerEar.hear.Goals as goal
 
-pub returns-in-Run : goal.returns-in-Run
-returns-in-Run g c = record {
-  ok = unlisted_passed _ c.args.self.now.faults _ c.args.event c.in-Run.is;
-  err = tt;
-  cause = record { later = omega arith; failed = tt };
-}
+pub returns-in-Event-clause-ok : goal.returns-in-Event-clause-ok
+returns-in-Event-clause-ok g c = lists_event check_lines c.event.result _ _ _ _ _ _ (lent_told c.args.told) c.in-Event.column (lent_event c.in-Event.event) (ap lent_told c.in-Event.is) c.event.ensures.ok
 
-pub returns-in-Cut-clause-ok : goal.returns-in-Cut-clause-ok
-unfolding line_words is_checked is_cut
-returns-in-Cut-clause-ok g c = grind (arith, check_took_ok, line_took)
+pub returns-in-Event-clause-err : goal.returns-in-Event-clause-err
+returns-in-Event-clause-err g c = breaks_event check_lines c.event.result _ _ _ _ _ _ (lent_told c.args.told) c.in-Event.column (lent_event c.in-Event.event) (ap lent_told c.in-Event.is) c.event.ensures.err
 
-pub returns-in-Cut-clause-err : goal.returns-in-Cut-clause-err
-unfolding line_words is_checked is_cut
-returns-in-Cut-clause-err g c = grind (arith, check_broke, line_broke)
+pub returns-in-Slip-clause-ok : goal.returns-in-Slip-clause-ok
+returns-in-Slip-clause-ok g c =
+    lists_between check_lines c.write_between.result _ _ _ _ _ _ (lent_told c.args.told) (slip c.in-Slip.lane c.in-Slip.place) _ (ap lent_told c.in-Slip.is) refl c.slip_line.ensures
+    refl c.write_between.ensures.counted c.write_between.ensures.whole
 
-pub returns-in_err-write_fault-in-Fault-clause-err : goal.returns-in_err-write_fault-in-Fault-clause-err
-returns-in_err-write_fault-in-Fault-clause-err g c =
-    always _
-    (check_broke {T = Unit {0}} _ _ (Err c.in_err-write_fault-in-Fault.field-0.0) _ _ (lent_event c.args.event) (fault_event c.in-Fault.fault) (ap lent_event c.in-Fault.is) (fault_checked c.in-Fault.fault)
-    (line_broke {T = Unit {0}} (Err c.in_err-write_fault-in-Fault.field-0.0) _ _ _ _ (lent_event c.args.event) (fault_event c.in-Fault.fault) _ (ap lent_event c.in-Fault.is)
-    refl c.in_err-write_fault-in-Fault.ensures.part))
+pub returns-in-Slip-clause-err : goal.returns-in-Slip-clause-err
+returns-in-Slip-clause-err g c =
+    breaks_between check_lines c.write_between.result _ _ _ _ _ _ (lent_told c.args.told) (slip c.in-Slip.lane c.in-Slip.place) _ (ap lent_told c.in-Slip.is) c.slip_line.ensures
+    refl c.write_between.ensures.uncounted c.write_between.ensures.part
 
-pub returns-in_ok-write_fault-in-Fault-clause-ok : goal.returns-in_ok-write_fault-in-Fault-clause-ok
-returns-in_ok-write_fault-in-Fault-clause-ok g c =
-    check_took _ _ _ _ (lent_event c.args.event) (fault_event c.in-Fault.fault) (ap lent_event c.in-Fault.is) (fault_checked c.in-Fault.fault)
-    (fault_took _ _ _ _ _ (lent_event c.args.event) (fault_event c.in-Fault.fault) _ (ap lent_event c.in-Fault.is) (is_fault c.in-Fault.fault)
-    refl (omega arith) c.in_ok-write_fault-in-Fault.ensures.whole)
+pub returns-in-Relock-clause-ok : goal.returns-in-Relock-clause-ok
+returns-in-Relock-clause-ok g c =
+    lists_between check_lines c.write_between-2.result _ _ _ _ _ _ (lent_told c.args.told) (relock c.in-Relock.place) _ (ap lent_told c.in-Relock.is) refl c.relock_line.ensures
+    refl c.write_between-2.ensures.counted c.write_between-2.ensures.whole
+
+pub returns-in-Relock-clause-err : goal.returns-in-Relock-clause-err
+returns-in-Relock-clause-err g c =
+    breaks_between check_lines c.write_between-2.result _ _ _ _ _ _ (lent_told c.args.told) (relock c.in-Relock.place) _ (ap lent_told c.in-Relock.is) c.relock_line.ensures
+    refl c.write_between-2.ensures.uncounted c.write_between-2.ensures.part
+
+pub returns-in-Aligned-clause-ok : goal.returns-in-Aligned-clause-ok
+returns-in-Aligned-clause-ok g c = lists_aligned check_lines _ _ _ (lent_told c.args.told) _ _ _ (ap lent_told c.in-Aligned.is)

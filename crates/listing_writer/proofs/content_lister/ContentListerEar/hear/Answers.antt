@@ -1,13 +1,34 @@
-use Rattle.std.proofs.Common.{refl, arith}
+use Rattle.std.proofs.Common.{refl, ap}
 use Rattle.period_grammar.specs.Lending.{lent_event}
-use Rattle.listing_writer.proofs.ContentWritten.{lists_one}
+use Rattle.link_sink.specs.Told.{lent_told, slip, relock}
+use Rattle.listing_writer.specs.ContentTaken.{takes_event, takes_between, takes_aligned, breaks_event, breaks_between, slip_is_between, relock_is_between}
 use Rattle.listing_writer.proofs.content_lister.ContentListerEar.hear.Goals as goal
 
-pub returns-clause-ok : goal.returns-clause-ok
-returns-clause-ok g c = (
-  refl,
-  λ reported recalls.
-      lists_one reported (lent_event c.args.event) _ c.clear.new.self c.hear.new.lines c.args.self.now.faults _ _ _ c.text.result.now
-      (c.hear.ensures reported recalls) c.clear.ensures.text c.clear.ensures.faults c.text.ensures
-      (omega (arith, c.saturating_add-self.ensures, c.faults.ensures, c.faults-2.ensures)) c.in_ok-write_line.ensures.whole,
-)
+pub returns-in-Event-clause-ok : goal.returns-in-Event-clause-ok
+returns-in-Event-clause-ok g c = takes_event c.event.result _ _ _ _ _ _ _ _ (lent_told c.args.told) c.in-Event.column (lent_event c.in-Event.event) (ap lent_told c.in-Event.is) c.event.ensures.ok
+
+pub returns-in-Event-clause-err : goal.returns-in-Event-clause-err
+returns-in-Event-clause-err g c = breaks_event c.event.result _ _ _ _ _ _ _ (lent_told c.args.told) c.in-Event.column (lent_event c.in-Event.event) (ap lent_told c.in-Event.is) c.event.ensures.err
+
+pub returns-in-Slip-clause-ok : goal.returns-in-Slip-clause-ok
+returns-in-Slip-clause-ok g c =
+    takes_between c.write_between.result _ _ _ _ _ _ _ _ (lent_told c.args.told) (slip c.in-Slip.lane c.in-Slip.place) _ _ (ap lent_told c.in-Slip.is) (slip_is_between _ _) c.slip_line.ensures
+    refl refl c.write_between.ensures.counted c.write_between.ensures.whole
+
+pub returns-in-Slip-clause-err : goal.returns-in-Slip-clause-err
+returns-in-Slip-clause-err g c =
+    breaks_between c.write_between.result _ _ _ _ _ _ _ (lent_told c.args.told) (slip c.in-Slip.lane c.in-Slip.place) _ _ (ap lent_told c.in-Slip.is) (slip_is_between _ _) c.slip_line.ensures
+    refl c.write_between.ensures.uncounted c.write_between.ensures.part
+
+pub returns-in-Relock-clause-ok : goal.returns-in-Relock-clause-ok
+returns-in-Relock-clause-ok g c =
+    takes_between c.write_between-2.result _ _ _ _ _ _ _ _ (lent_told c.args.told) (relock c.in-Relock.place) _ _ (ap lent_told c.in-Relock.is) (relock_is_between _) c.relock_line.ensures
+    refl refl c.write_between-2.ensures.counted c.write_between-2.ensures.whole
+
+pub returns-in-Relock-clause-err : goal.returns-in-Relock-clause-err
+returns-in-Relock-clause-err g c =
+    breaks_between c.write_between-2.result _ _ _ _ _ _ _ (lent_told c.args.told) (relock c.in-Relock.place) _ _ (ap lent_told c.in-Relock.is) (relock_is_between _) c.relock_line.ensures
+    refl c.write_between-2.ensures.uncounted c.write_between-2.ensures.part
+
+pub returns-in-Aligned-clause-ok : goal.returns-in-Aligned-clause-ok
+returns-in-Aligned-clause-ok g c = takes_aligned _ _ _ _ (lent_told c.args.told) _ _ _ (ap lent_told c.in-Aligned.is)
