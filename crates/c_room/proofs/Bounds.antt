@@ -4,22 +4,22 @@ use Rattle.std.proofs.lemmas.List.{append-nil, length-append, append_cancel_left
 use Rattle.tmds_word.specs.Column.{Column}
 use Rattle.period_grammar.specs.Events.{Event}
 use Rattle.link_sink.specs.Grammar.{Grammar}
-use Rattle.c_room.specs.Rooms.{IsBounded}
-use Rattle.c_room.specs.Written.{link_writing, all_bytes}
-use Rattle.c_room.specs.WrittenLaws.{bytes_append}
+use Rattle.c_room.specs.Bounded.{IsBounded}
+use Rattle.c_room.specs.Written.{events_bytes}
+use Rattle.c_room.specs.WrittenLaws.{events_append}
 
 -- what is reported at a column: eight events, and three bytes but for those that are owed of what was open before
 pub record IsLittle (g : Grammar) (owed : List Column → ℕ) (cs : List Column) (c : Column) : Type 0 where
   pub events : List Event
   pub reported : g.so_far (cs ++ c ∷ []) ≡ g.so_far cs ++ events
   pub few : length events ≤ 8
-  pub bytes : length (all_bytes link_writing events) + owed (cs ++ c ∷ []) ≤ owed cs + 3
+  pub bytes : length (events_bytes events) + owed (cs ++ c ∷ []) ≤ owed cs + 3
 
 abbrev pub IsMore : Grammar → (List Column → ℕ) → List Column → List Column → List Event → Type 0
-IsMore g owed cs ds us = (g.so_far (cs ++ ds) ≡ g.so_far cs ++ us) × (length us ≤ 8 * length ds) × (length (all_bytes link_writing us) + owed (cs ++ ds) ≤ owed cs + 3 * length ds)
+IsMore g owed cs ds us = (g.so_far (cs ++ ds) ≡ g.so_far cs ++ us) × (length us ≤ 8 * length ds) × (length (events_bytes us) + owed (cs ++ ds) ≤ owed cs + 3 * length ds)
 
 pub all_more : (g : Grammar) (owed : List Column → ℕ) → ((cs : List Column) (c : Column) → IsLittle g owed cs c) → (ds cs : List Column) → (us : List Event) × IsMore g owed cs ds us
-unfolding all_bytes
+unfolding events_bytes
 all_more g owed step [] cs =
     let e : cs ++ [] ≡ cs = append-nil cs in
     ([], (ap g.so_far e ∙ sym (append-nil (g.so_far cs)), omega arith, omega (arith, ap owed e)))
@@ -35,12 +35,12 @@ all_more g owed step (c ∷ ds) cs =
       (
         ap g.so_far (sym e) ∙ k.0 ∙ ap (λ ts. ts ++ rest.0) one.reported ∙ append_assoc (g.so_far cs) us rest.0,
         omega (arith, few, k.1, length-append us rest.0),
-        omega (arith, bytes, k.2, ap owed e, ap length (bytes_append link_writing us rest.0), length-append (all_bytes link_writing us) (all_bytes link_writing rest.0)),
+        omega (arith, bytes, k.2, ap owed e, ap length (events_append us rest.0), length-append (events_bytes us) (events_bytes rest.0)),
       ),
     )
 
 pub bounded : (g : Grammar) (owed : List Column → ℕ) → ((cs : List Column) → owed cs ≤ 12288) → ((cs : List Column) (c : Column) → IsLittle g owed cs c)
-    → ((cs : List Column) → (us : List Event) × (g.whole cs ≡ g.so_far cs ++ us) × (length us ≤ 1) × (length (all_bytes link_writing us) ≤ 0))
+    → ((cs : List Column) → (us : List Event) × (g.whole cs ≡ g.so_far cs ++ us) × (length us ≤ 1) × (length (events_bytes us) ≤ 0))
     → IsBounded g
 bounded g owed little step end = record {
   events = λ cs ds us e.
@@ -50,7 +50,7 @@ bounded g owed little step end = record {
   bytes = λ cs ds us e.
       let all = all_more g owed step ds cs in
       let same = append_cancel_left (g.so_far cs) us all.0 (sym e ∙ all.1.0) in
-      omega (arith, all.1.2, little cs, ap (λ ts. length (all_bytes link_writing ts)) same);
+      omega (arith, all.1.2, little cs, ap (λ ts. length (events_bytes ts)) same);
   last_event = λ cs us e.
       let last = end cs in
       let same = append_cancel_left (g.so_far cs) us last.0 (sym e ∙ last.1) in
@@ -58,5 +58,5 @@ bounded g owed little step end = record {
   last_bytes = λ cs us e.
       let last = end cs in
       let same = append_cancel_left (g.so_far cs) us last.0 (sym e ∙ last.1) in
-      omega (arith, last.3, ap (λ ts. length (all_bytes link_writing ts)) same);
+      omega (arith, last.3, ap (λ ts. length (events_bytes ts)) same);
 }

@@ -2,7 +2,7 @@
 use Rattle.std.proofs.Common.{◌≡◌, ℕ, ◌⊎◌, ◌+◌, ◌-◌, ◌%◌, ◌/◌, ◌<◌, min, max, true, false, List, length, refl, ap, sym, subst, ◌∙◌, arith, inl, inr, Some}
 use Rattle.std.proofs.lemmas.Bool.{cases_lt}
 use Rattle.std.proofs.lemmas.List.{length-drop}
-use Rattle.c_room.specs.declared.ended.EndCounts.{EndCounts}
+use Rattle.link_sink.specs.declared.receives.EndCounts.{EndCounts}
 use Rattle.c_room.specs.declared.kept.Kept.{Kept}
 use Rattle.c_room.specs.declared.kind.Kind.{Kind}
 use Rattle.c_room.specs.declared.lanes.BitCounts.{BitCounts}

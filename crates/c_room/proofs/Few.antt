@@ -23,29 +23,29 @@ use Rattle.period_grammar.proofs.Sizes.{length-line_bytes}
 use Rattle.period_grammar.proofs.Step.{heard_push, heard_end, last_push_stretch}
 use Rattle.link_sink.specs.Grammar.{link_grammar}
 use Rattle.link_sink.specs.LinkHearing.{reported_none}
-use Rattle.c_room.specs.Rooms.{IsBounded}
-use Rattle.c_room.specs.Written.{link_writing, event_bytes, all_bytes}
-use Rattle.c_room.specs.WrittenLaws.{bytes_append}
+use Rattle.c_room.specs.Bounded.{IsBounded}
+use Rattle.c_room.specs.Written.{event_bytes, events_bytes}
+use Rattle.c_room.specs.WrittenLaws.{events_append}
 use Rattle.c_room.proofs.Bounds.{IsLittle, all_more, bounded}
 
 -- so many events at most, and so many bytes
 abbrev pub AreFewEvents : ℕ → ℕ → List Event → Type 0
-AreFewEvents n m ts = (length ts ≤ n) × (length (all_bytes link_writing ts) ≤ m)
+AreFewEvents n m ts = (length ts ≤ n) × (length (events_bytes ts) ≤ m)
 
 pub few_append : (n m k l : ℕ) (ts us : List Event) → AreFewEvents n m ts → AreFewEvents k l us → AreFewEvents (n + k) (m + l) (ts ++ us)
 few_append n m k l ts us g h =
-    (omega (arith, g.0, h.0, length-append ts us), omega (arith, g.1, h.1, length-append (all_bytes link_writing ts) (all_bytes link_writing us), ap length (bytes_append link_writing ts us)))
+    (omega (arith, g.0, h.0, length-append ts us), omega (arith, g.1, h.1, length-append (events_bytes ts) (events_bytes us), ap length (events_append ts us)))
 
 pub few_more : (n m k l : ℕ) (ts : List Event) → n ≤ k → m ≤ l → AreFewEvents n m ts → AreFewEvents k l ts
 few_more n m k l ts a b h = (omega (arith, a, h.0), omega (arith, b, h.1))
 
 pub few_none : AreFewEvents 0 0 []
-unfolding all_bytes
+unfolding events_bytes
 few_none = (omega arith, omega arith)
 
 pub few_cons : (n m : ℕ) (t : Event) (ts : List Event) → AreFewEvents n m ts → AreFewEvents (n + 1) (m + length (event_bytes t)) (t ∷ ts)
-unfolding all_bytes
-few_cons n m t ts h = (omega (arith, h.0), omega (arith, h.1, length-append (event_bytes t) (all_bytes link_writing ts)))
+unfolding events_bytes
+few_cons n m t ts h = (omega (arith, h.0), omega (arith, h.1, length-append (event_bytes t) (events_bytes ts)))
 
 pub few_plain : (n m : ℕ) (t : Event) (ts : List Event) → event_bytes t ≡ [] → AreFewEvents n m ts → AreFewEvents (n + 1) m (t ∷ ts)
 few_plain n m t ts e h = let one = few_cons n m t ts h in (one.0, omega (arith, one.1, ap length e))
@@ -297,11 +297,11 @@ nothing_owed : owed_after [] ≡ 0
 unfolding stretches
 nothing_owed = refl
 
-pub link_first : (cs : List Column) → length (all_bytes link_writing (link_grammar.so_far cs)) ≤ 3 * length cs
+pub link_first : (cs : List Column) → length (events_bytes (link_grammar.so_far cs)) ≤ 3 * length cs
 link_first cs =
     let all = all_more link_grammar owed_after one_more cs [] in
     let none : link_grammar.so_far [] ≡ [] = ap (map event_of) reported_none in
-    let e = ap (λ ts. length (all_bytes link_writing ts)) (all.1.0 ∙ ap (λ ts. ts ++ all.0) none) in
+    let e = ap (λ ts. length (events_bytes ts)) (all.1.0 ∙ ap (λ ts. ts ++ all.0) none) in
     omega (arith, all.1.2, e, nothing_owed)
 
 -- what a link's columns report in addition is of such sizes

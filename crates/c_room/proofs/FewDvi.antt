@@ -17,7 +17,7 @@ use Rattle.period_grammar.proofs.Step.{last_push_stretch}
 use Rattle.dvi_hearing.specs.DviHeard.{dvi_line, dvi_closing, dvi_gaps}
 use Rattle.dvi_hearing.specs.DviGains.{no_gain}
 use Rattle.dvi_hearing.specs.DviGrammar.{dvi_grammar, pushed, reported_then, ended_by}
-use Rattle.c_room.specs.Rooms.{IsBounded}
+use Rattle.c_room.specs.Bounded.{IsBounded}
 use Rattle.c_room.proofs.Bounds.{IsLittle, bounded}
 use Rattle.c_room.proofs.Few.{AreFewEvents, few_append, few_more, few_none, few_one, few_if_not, few_words, few_change, few_last, line_owes, few_line_at}
 

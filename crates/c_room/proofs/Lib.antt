@@ -5,6 +5,7 @@ pub mod Few
 pub mod FewDvi
 pub mod Gains
 pub mod Keeping
+pub mod KindBounds
 pub mod Orders
 pub mod Pieces
 pub mod Telling

@@ -1,6 +1,6 @@
 -- No event is reported at a column below that of the event before it.
 use Rattle.std.proofs.Common.{◌≡◌, ℕ, ◌+◌, ◌≤◌, ◌-◌, Bool, true, false, List, [], ◌∷◌, ◌++◌, length, map, refl, ap, sym, ◌∙◌, subst, arith, append_assoc, inl, inr, All, take}
-use Rattle.std.proofs.lemmas.List.{append-nil, length-append, map-append}
+use Rattle.std.proofs.lemmas.List.{append-nil, length-append, map-append, append_cancel_left}
 use Rattle.std.proofs.lemmas.List.Elements.{All-append, All-cons, All-get_or, All-nil}
 use Rattle.std.proofs.lemmas.List.Sorted.{IsNonDecreasingBy-push, IsNonDecreasingBy-short}
 use Rattle.std.specs.List.Sorted.{IsNonDecreasing}
@@ -14,22 +14,23 @@ use Rattle.link_sink.specs.Alignment.{reported_under}
 use Rattle.link_sink.specs.Grammar.{Grammar, link_grammar}
 use Rattle.link_sink.specs.Hearings.{IsGrammar}
 use Rattle.link_sink.specs.LinkHearing.{link_is_grammar}
-use Rattle.link_sink.specs.Sinks.{Fed, IsReportedOf, IsReportedBy, IsGainAt, IsLastBy}
-use Rattle.link_sink.specs.declared.hear.Outcome.{Outcome}
+use Rattle.link_sink.specs.Receiving.{IsToldSoFar, IsToldWhole}
+use Rattle.link_sink.specs.Sinks.{Fed, IsReportedOf, IsReportedBy}
+use Rattle.link_sink.specs.Told.{Told, told_events}
+use Rattle.link_sink.specs.declared.receives.EndCounts.{EndCounts}
+use Rattle.link_sink.proofs.Following.{one_reported}
+use Rattle.link_sink.proofs.Receiving.{events_both}
 use Rattle.dvi_hearing.specs.DviGrammar.{dvi_grammar, dvi_is_grammar, pushed}
-use Rattle.track_sink.specs.TrackEvents.{TrackEventAt}
 use Rattle.c_room.specs.Calls.{CallState, Finishes}
 use Rattle.c_room.specs.declared.kind.Kind.{Kind}
 use Rattle.c_room.specs.declared.kind.Kind.TheVariants.{Link, Dvi, Track, Relock}
-use Rattle.c_room.specs.declared.ended.EndCounts.{EndCounts}
 use Rattle.c_room.specs.declared.record.Record.{Record}
 use Rattle.c_room.specs.declared.status.Status.{Status}
 use Rattle.c_room.specs.declared.status.Status.TheVariants.{Done, Full, Misuse, TooMany, NoMemory}
 use Rattle.c_room.specs.Orders.{column_of, FollowInOrder, FollowInOrderOf}
-use Rattle.c_room.specs.Reports.{IsColumnGain, IsColumnEnd, IsGainOfKind, IsEndOfKind}
-use Rattle.c_room.specs.TrackWritten.{track_writing}
-use Rattle.c_room.specs.TrackWrittenLaws.{rows_of_events}
-use Rattle.c_room.specs.Written.{link_writing, event_bytes, rows_from}
+use Rattle.c_room.specs.Reports.{IsGainOfKind, IsEndOfKind}
+use Rattle.c_room.specs.Written.{event_bytes, rows_from}
+use Rattle.c_room.proofs.Gains.{events_alone, events_after}
 
 -- numbers that never fall, up to one
 record InOrder (n : ℕ) (js : List ℕ) : Type 0 where
@@ -93,24 +94,14 @@ lanes_ordered g is h fed events (inr a) =
     subst (λ (ts : List EventAt). IsNonDecreasing (map column_reported ts)) (sym a.1) o.up
 
 -- the column of a record is that of its event
-columns_of_rows : (o : ℕ) (events : List EventAt) → map column_of (rows_from link_writing o events) ≡ map column_reported events
+columns_of_rows : (o : ℕ) (events : List EventAt) → map column_of (rows_from o (told_events events)) ≡ map column_reported events
 unfolding rows_from
 columns_of_rows o [] = refl
 columns_of_rows o (at j t ∷ ts) = ap (λ js. j ∷ js) (columns_of_rows (o + length (event_bytes t)) ts)
 
-columns_then : (before events : List EventAt) (records : List Record) → records ≡ rows_from link_writing 0 events
+columns_then : (before events : List EventAt) (records : List Record) → records ≡ rows_from 0 (told_events events)
     → map column_reported before ++ map column_reported events ≡ map column_reported before ++ map column_of records
 columns_then before events records are = ap (λ js. map column_reported before ++ js) (sym (ap (map column_of) are ∙ columns_of_rows 0 events))
-
-gain_in_order : (g : Grammar) → IsGrammar g → IsByColumn g → (before after : Fed) (events : List EventAt) (records : List Record)
-    → IsGainAt g before after events → records ≡ rows_from link_writing 0 events → FollowInOrder g before records
-gain_in_order g is h before after events records gain are = λ was reported.
-    subst IsNonDecreasing (map-append column_reported was events ∙ columns_then was events records are) (lanes_ordered g is h after (was ++ events) (gain was reported))
-
--- the events of what is reported with columns
-events_alone : (g : Grammar) → IsGrammar g → (fed : Fed) (events : List EventAt) → IsReportedOf g.so_far_at fed events → IsReportedBy g fed (map event_of events)
-events_alone g is fed events (inl a) = inl (a.0, a.1, a.2, a.3, ap (map event_of) a.4 ∙ sym (is.events (aligned_columns fed.blue fed.green fed.red a.0 a.1 a.2)))
-events_alone g is fed events (inr a) = inr (a.0, ap (map event_of) a.1)
 
 -- what is reported at the end is reported at the number of the columns
 last_ordered : (g : Grammar) → IsGrammar g → IsByColumn g → (fed : Fed) (aligned : Bool) (count : ℕ) (was : List EventAt) (events : List Event)
@@ -131,12 +122,6 @@ last_ordered g is h fed false count was events (inr a) w =
     subst (λ (ts : List EventAt). IsNonDecreasing (map column_reported ts ++ map column_reported (all_at count events))) (sym a.1)
     (subst (λ (us : List Event). IsNonDecreasing (map column_reported (all_at count us))) (sym none) o.up)
 
-last_in_order : (g : Grammar) → IsGrammar g → IsByColumn g → (fed : Fed) (outcome : Outcome) (events : List Event) (records : List Record)
-    → IsLastBy g fed outcome events → records ≡ rows_from link_writing 0 (all_at outcome.columns events) → FollowInOrder g fed records
-last_in_order g is h fed outcome events records last are = λ was reported.
-    subst IsNonDecreasing (columns_then was (all_at outcome.columns events) records are)
-    (last_ordered g is h fed outcome.aligned outcome.columns was events reported (last (map event_of was) (events_alone g is fed was reported)))
-
 -- a refused end writes nothing
 nothing_in_order : (g : Grammar) → IsGrammar g → IsByColumn g → (fed : Fed) (n : ℕ) (records : List Record) → n ≡ 0 → FollowInOrder g fed (take n records)
 nothing_in_order g is h fed n records none = λ was reported.
@@ -153,25 +138,35 @@ end_in_order g is h fed old NoMemory new n m counts records does done = absurd d
 
 -- Of a kind.
 
-columns_in_order : (g : Grammar) → IsGrammar g → IsByColumn g → (before after : Fed) (told : List TrackEventAt) (records : List Record)
-    → IsColumnGain g before after told → records ≡ rows_from track_writing 0 told → FollowInOrder g before records
-columns_in_order g is h before after told records gain are =
-    gain_in_order g is h before after gain.events records gain.gain (are ∙ ap (rows_from track_writing 0) gain.told_are ∙ rows_of_events 0 gain.events)
+-- after what is reported before comes what is told in addition
+columns_in_order : (g : Grammar) → IsGrammar g → IsByColumn g → (before after : Fed) (told : List Told) (records : List Record)
+    → ((was : List Told) → IsToldSoFar g before was → IsToldSoFar g after (was ++ told)) → records ≡ rows_from 0 told → FollowInOrder g before records
+columns_in_order g is h before after told records gain are = λ was reported.
+    let now = gain (told_events was) (record { events = was; reported = reported; told_are = refl }) in
+    let rest = events_after was told now.events now.told_are in
+    subst IsNonDecreasing (map-append column_reported was rest.0 ∙ columns_then was rest.0 records (are ∙ ap (rows_from 0) rest.1))
+    (lanes_ordered g is h after (was ++ rest.0) (subst (IsReportedOf g.so_far_at after) rest.2 now.reported))
 
-pub told_in_order : (kind : Kind) (before after : Fed) (told : List TrackEventAt) (records : List Record) → IsGainOfKind kind before after told → records ≡ rows_from track_writing 0 told → FollowInOrderOf kind before records
+pub told_in_order : (kind : Kind) (before after : Fed) (told : List Told) (records : List Record) → IsGainOfKind kind before after told → records ≡ rows_from 0 told → FollowInOrderOf kind before records
 told_in_order Link before after told records gain are = columns_in_order link_grammar link_is_grammar link_by_column before after told records gain are
 told_in_order Dvi before after told records gain are = columns_in_order dvi_grammar dvi_is_grammar dvi_by_column before after told records gain are
 told_in_order Track before after told records gain are = tt
 told_in_order Relock before after told records gain are = tt
 
-ends_in_order : (g : Grammar) → IsGrammar g → IsByColumn g → (fed : Fed) (counts : EndCounts) (told : List TrackEventAt) (records : List Record)
-    → IsColumnEnd g fed counts told → records ≡ rows_from track_writing 0 told → FollowInOrder g fed records
-ends_in_order g is h fed counts told records end are =
-    last_in_order g is h fed end.outcome end.events records end.last (are ∙ ap (rows_from track_writing 0) end.told_are ∙ rows_of_events 0 (all_at end.outcome.columns end.events))
+-- and at the end what is left, at the number of the columns
+ends_in_order : (g : Grammar) → IsGrammar g → IsByColumn g → (fed : Fed) (columns aligned : ℕ) (told : List Told) (records : List Record)
+    → ((was : List Told) → IsToldSoFar g fed was → IsToldWhole g fed columns aligned (was ++ told)) → records ≡ rows_from 0 told → FollowInOrder g fed records
+ends_in_order g is h fed columns aligned told records end are = λ was reported.
+    let all = end (told_events was) (record { events = was; reported = reported; told_are = refl }) in
+    let ends = all_at all.outcome.columns all.last in
+    let one = one_reported g.so_far_at fed was all.first reported all.reported in
+    let joined : told_events was ++ told ≡ told_events was ++ told_events ends = all.told_are ∙ events_both all.first ends ∙ ap (λ us. told_events us ++ told_events ends) (sym one) in
+    subst IsNonDecreasing (columns_then was ends records (are ∙ ap (rows_from 0) (append_cancel_left (told_events was) told (told_events ends) joined)))
+    (last_ordered g is h fed all.outcome.aligned all.outcome.columns was all.last reported (all.ends (map event_of was) (events_alone g is fed was reported)))
 
-pub ended_in_order : (kind : Kind) (fed : Fed) (counts : EndCounts) (told : List TrackEventAt) (records : List Record) → IsEndOfKind kind fed counts told → records ≡ rows_from track_writing 0 told → FollowInOrderOf kind fed records
-ended_in_order Link fed counts told records end are = ends_in_order link_grammar link_is_grammar link_by_column fed counts told records end are
-ended_in_order Dvi fed counts told records end are = ends_in_order dvi_grammar dvi_is_grammar dvi_by_column fed counts told records end are
+pub ended_in_order : (kind : Kind) (fed : Fed) (counts : EndCounts) (told : List Told) (records : List Record) → IsEndOfKind kind fed counts told → records ≡ rows_from 0 told → FollowInOrderOf kind fed records
+ended_in_order Link fed counts told records end are = ends_in_order link_grammar link_is_grammar link_by_column fed counts.columns counts.aligned told records end are
+ended_in_order Dvi fed counts told records end are = ends_in_order dvi_grammar dvi_is_grammar dvi_by_column fed counts.columns counts.aligned told records end are
 ended_in_order Track fed counts told records end are = tt
 ended_in_order Relock fed counts told records end are = tt
 

@@ -4,21 +4,21 @@ use Rattle.std.proofs.Math.Seq.{take-add}
 use Rattle.std.proofs.lemmas.Bool.{cases_lt}
 use Rattle.std.proofs.lemmas.List.{append-nil, length-append, length-take, length-drop, take-append-drop, take-append-le}
 use Rattle.tmds_word.specs.Bits.{bytes_bits}
-use Rattle.tmds_word.specs.Column.{Column}
 use Rattle.tmds_word.specs.declared.TheConstants.{MOST_BITS}
 use Rattle.tmds_word.proofs.Lists.{length-bytes_bits, bytes_bits-append}
 use Rattle.tmds_word.specs.declared.lane_bits.LaneBits.{LaneBits}
 use Rattle.lane_align.proofs.Feeding.{bytes_drop}
 use Rattle.link_sink.specs.Received.{CanFeed, CanFeedLanes, AreFedMore}
-use Rattle.link_sink.specs.Sinks.{Fed, grown_by, IsReportedOf, IsGainOf}
+use Rattle.link_sink.specs.Sinks.{Fed, grown_by}
+use Rattle.link_sink.specs.Told.{Told, told_alone}
 use Rattle.link_sink.proofs.Parts.{length-take-most}
 use Rattle.c_room.specs.declared.lanes.BitCounts.{BitCounts}
 use Rattle.c_room.specs.declared.lanes.CallerLanes.{CallerLanes}
 use Rattle.c_room.specs.declared.room.EventRoom.{EventRoom}
 use Rattle.c_room.specs.Takes.{most_of, no_counts, counts_to, plus, grown_to, IsPiece, MayTake, MayTakeLanes, AreFew, AreFed}
-use Rattle.c_room.specs.Written.{Writing, all_bytes, HasFilled, HasNoRoom}
-use Rattle.c_room.specs.WrittenLaws.{bytes_append}
-use Rattle.c_room.proofs.Gains.{GrewBy, HaveGrownBy}
+use Rattle.c_room.specs.Bounded.{GrewBy, HaveGrownBy, AreFewTold}
+use Rattle.c_room.specs.Written.{told_bytes, all_bytes, bytes_at, HasTaken, HasNoRoom}
+use Rattle.c_room.specs.WrittenLaws.{bytes_at_append, rows_many}
 
 -- a lane that took its bits before a place may be fed the piece from there on
 pub lane_can : (fed longest x at size now most count : ℕ) (bytes piece : List ℕ) → MayTake fed longest bytes x → fed + x < MOST_BITS → at % 8 ≡ 0 → size ≤ 32768
@@ -118,17 +118,18 @@ piece_grew before lanes at size piece p = record {
   red = lane_grew before.red (bytes_bits piece.red.now) lanes.bits.red at size _ p.red.count_is;
 }
 
--- where there is room for so many events and bytes there is room for the next one of them
-pub has_room : {At T : Type 0} (w : Writing At T) (x y : EventRoom) (events taken : List T) (next : T) (rest : List T) (n m : ℕ) → length events ≤ n → length (all_bytes w events) ≤ m
-    → x.count + n ≤ length x.records.now → x.used + m ≤ length x.bytes.now → events ≡ taken ++ next ∷ rest → HasFilled w x y taken → HasNoRoom w y next → ⊥
+-- where there is room for so many things and bytes there is room for the next one of them
+pub has_room : (x y : EventRoom) (told taken : List Told) (next : Told) (rest : List Told) (n m : ℕ) → AreFewTold n m told
+    → x.count + n ≤ length x.records.now → x.used + m ≤ length x.bytes.now → told ≡ taken ++ next ∷ rest → HasTaken x y taken → HasNoRoom y (told_alone next) → ⊥
 unfolding all_bytes
-has_room w x y events taken next rest n m few small a b are filled none =
+has_room x y told taken next rest n m few a b are filled none =
     let many = ap length are ∙ length-append taken (next ∷ rest) in
-    let bytes = ap (λ ts. length (all_bytes w ts)) are ∙ ap length (bytes_append w taken (next ∷ rest)) ∙ length-append (all_bytes w taken) (all_bytes w (next ∷ rest)) in
-    let first = length-append (w.bytes next) (all_bytes w rest) in
+    let bytes = ap (λ ts. length (bytes_at ts)) are ∙ ap length (bytes_at_append taken (next ∷ rest)) ∙ length-append (bytes_at taken) (bytes_at (next ∷ rest)) in
+    let first = length-append (told_bytes (told_alone next)) (bytes_at rest) in
+    let count = rows_many x.used taken in
     elim none [
-      | inl none ↦ omega (arith, none, few, a, many, filled.count_is, filled.records_long)
-      | inr none ↦ omega (arith, none, small, b, bytes, first, filled.used_is, filled.bytes_long)
+      | inl none ↦ omega (arith, none, few.0, a, many, filled.count_is, filled.records_long, count)
+      | inr none ↦ omega (arith, none, few.1, b, bytes, first, filled.used_is, filled.bytes_long)
     ]
 
 -- the first bits of the bytes from a place on
@@ -153,13 +154,6 @@ none_grown fed lanes taken x y z =
     let g = lane_none fed.green (bytes_bits lanes.green.now) taken.green y in
     let r = lane_none fed.red (bytes_bits lanes.red.now) taken.red z in
     λ i. record { blue = b i; green = g i; red = r i }
-
--- nothing more is no gain, and a gain after another is one
-pub gain_none : {T : Type 0} (so_far : List Column → List T) (fed : Fed) → IsGainOf so_far fed fed []
-gain_none so_far fed = λ reported h. subst (IsReportedOf so_far fed) (sym (append-nil reported)) h
-
-pub gain_both : {T : Type 0} (so_far : List Column → List T) (a b c : Fed) (us vs : List T) → IsGainOf so_far a b us → IsGainOf so_far b c vs → IsGainOf so_far a c (us ++ vs)
-gain_both so_far a b c us vs first then = λ reported h. subst (IsReportedOf so_far c) (append_assoc reported us vs) (then (reported ++ us) (first reported h))
 
 -- a piece is in whole bytes or all that is left, and so begins in whole bytes
 pub part_or_all : (at size rest most : ℕ) → at + rest ≡ most → size ≤ rest → (size < rest → size % 8 ≡ 0) → (at + size ≡ most) ⊎ (size % 8 ≡ 0)

@@ -1,7 +1,7 @@
 -- What a call on a handle may do: one relation for each call, by the status that it answers.
 use Rattle.std.specs.Prelude.{◌≡◌, ℕ, ◌-◌, ◌/◌, ◌%◌, ◌<◌, List, length, drop, Option, None}
 use Rattle.link_sink.specs.Pieces.{no_bits}
-use Rattle.c_room.specs.declared.ended.EndCounts.{EndCounts}
+use Rattle.link_sink.specs.declared.receives.EndCounts.{EndCounts}
 use Rattle.c_room.specs.declared.kept.Kept.{Kept}
 use Rattle.c_room.specs.declared.kind.Kind.{Kind}
 use Rattle.c_room.specs.declared.lanes.BitCounts.{BitCounts}

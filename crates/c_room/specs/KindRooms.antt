@@ -2,7 +2,12 @@
 use Rattle.std.specs.Prelude.{◌⊎◌, ℕ, ◌+◌, ◌<◌, ◌≤◌, length}
 use Rattle.c_room.specs.declared.kind.Kind.{Kind}
 use Rattle.c_room.specs.declared.room.EventRoom.{EventRoom}
-use Rattle.c_room.specs.Kinds.{least_events, least_bytes, last_events, last_bytes}
+use Rattle.c_room.specs.Kinds.{most_events, most_bytes, least_events, least_bytes, last_events, last_bytes}
+
+-- there is room for all that so many bits of each lane can tell
+pub record Fits (kind : Kind) (room : EventRoom) (bits : ℕ) : Type 0 where
+  pub events : room.count + most_events kind bits ≤ length room.records.now
+  pub bytes : room.used + most_bytes kind bits ≤ length room.bytes.now
 
 -- of so many events and bytes of room, of which so many are taken, not even what a byte of each lane wants is left
 abbrev pub IsFullFor : Kind → ℕ → ℕ → ℕ → ℕ → Type 0

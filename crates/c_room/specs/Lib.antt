@@ -1,3 +1,4 @@
+pub mod Bounded
 pub mod Calls
 pub mod Handles
 pub mod KindRooms
@@ -5,14 +6,10 @@ pub mod Kinds
 pub mod Orders
 pub mod Owned
 pub mod Reports
-pub mod Rooms
 pub mod Sinks
 pub mod Stands
 pub mod StatusLaws
 pub mod Statuses
 pub mod Takes
-pub mod TrackRooms
-pub mod TrackWritten
-pub mod TrackWrittenLaws
 pub mod Written
 pub mod WrittenLaws

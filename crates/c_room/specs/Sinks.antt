@@ -1,12 +1,15 @@
 -- What is seen of a sink of any kind.
 use Rattle.std.specs.Prelude.{Bool, List}
+use Rattle.link_sink.specs.Grammar.{link_grammar}
 use Rattle.link_sink.specs.Hearings.{GoesOn as LinkGoesOn}
+use Rattle.link_sink.specs.Receiving.{IsToldSoFar}
 use Rattle.link_sink.specs.Sinks.{Fed}
 use Rattle.link_sink.specs.Streams.{StandsBy, bits_fed}
+use Rattle.link_sink.specs.Told.{Told}
+use Rattle.dvi_hearing.specs.DviGrammar.{dvi_grammar}
 use Rattle.dvi_hearing.specs.DviStands.{GoesOn as DviGoesOn}
 use Rattle.track_sink.specs.Epochs.{stray_rule}
 use Rattle.track_sink.specs.Seeking.{IsSought}
-use Rattle.track_sink.specs.TrackEvents.{TrackEventAt}
 use Rattle.track_sink.specs.TrackSinks.{EpochSinkTells, bits_fed as epoch_bits_fed}
 use Rattle.relock_sink.specs.Refuters.{HasLooked, refuter_passed}
 use Rattle.relock_sink.specs.Refuting.{refuting_rule}
@@ -31,12 +34,16 @@ goes_on (dvi_sink sink) = sink.is_open
 goes_on (track_sink sink) = sink.is_open
 goes_on (relock_sink sink) = sink.is_open
 
--- it stands for these bits, by the grammar of its kind, or by the rule by which its epochs end
+-- it was fed these bits and has told this of them, by the grammar of its kind, or by the rule by which its epochs end
+abbrev pub HasTold : KindSink → Fed → List Told → Type 0
+HasTold (link_sink sink) fed told = StandsBy LinkGoesOn sink fed × IsToldSoFar link_grammar fed told
+HasTold (dvi_sink sink) fed told = StandsBy DviGoesOn sink fed × IsToldSoFar dvi_grammar fed told
+HasTold (track_sink sink) fed told = EpochSinkTells stray_rule IsSought (λ w. w.seen) sink fed told
+HasTold (relock_sink sink) fed told = EpochSinkTells refuting_rule HasLooked refuter_passed sink fed told
+
+-- it stands for these bits
 abbrev pub StandsFor : KindSink → Fed → Type 0
-StandsFor (link_sink sink) fed = StandsBy LinkGoesOn sink fed
-StandsFor (dvi_sink sink) fed = StandsBy DviGoesOn sink fed
-StandsFor (track_sink sink) fed = (reported : List TrackEventAt) × EpochSinkTells stray_rule IsSought (λ w. w.seen) sink fed reported
-StandsFor (relock_sink sink) fed = (reported : List TrackEventAt) × EpochSinkTells refuting_rule HasLooked refuter_passed sink fed reported
+StandsFor sink fed = (told : List Told) × HasTold sink fed told
 
 -- it was fed so many bits of each lane
 abbrev pub HasTakenBits : KindSink → BitCounts → Type 0

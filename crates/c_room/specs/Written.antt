@@ -1,6 +1,7 @@
--- Events as C sees them: a record of each, and the bytes that it has.
+-- What is told as C sees it: a record of each event, of each slip and of each alignment that was let go, and the bytes that it has.
 use Rattle.std.specs.Prelude.{◌≡◌, ◌⊎◌, ℕ, ◌+◌, ◌<◌, ◌≤◌, List, [], ◌∷◌, ◌++◌, length, take, map}
 use Rattle.period_grammar.specs.Events.{Event, EventAt, at, event_of, run, line, word, short, preamble, noise, empty, code, long_line, cut, open_island, packet, close_island, symbols, mended, lost, long_island, broken, guard}
+use Rattle.link_sink.specs.Told.{ToldOf, Told, event, slip, relock, aligned, told_alone}
 use Rattle.c_room.specs.declared.record.Record.{Record}
 use Rattle.c_room.specs.declared.record.Said.{Said}
 use Rattle.c_room.specs.declared.room.EventRoom.{EventRoom}
@@ -44,17 +45,37 @@ row column offset size s = record { column = column; named = s.named; count = s.
 abbrev pub event_row : ℕ → EventAt → Record
 event_row offset (at column t) = row column offset (length (event_bytes t)) (event_said t)
 
--- How events of any type are written.
+-- a slip and an alignment that was let go have no bytes, nor has one that was found
+abbrev pub told_bytes : ToldOf Event → List ℕ
+told_bytes (event t) = event_bytes t
+told_bytes (slip lane place) = []
+told_bytes (relock place) = []
+told_bytes (aligned blue green red) = []
 
--- the event without its column, the bytes that it has, and the record of one whose bytes begin at an offset
-pub record Writing (At T : Type 0) : Type 0 where
-  pub plain : At → T
-  pub bytes : T → List ℕ
-  pub row : ℕ → At → Record
+-- the record of what is told, whose bytes begin at an offset; a slip names its place and its lane, an alignment that was let go its
+-- place, and one that was found, which no receiver tells yet, the place of each lane
+abbrev pub told_row : ℕ → Told → Record
+told_row offset (event t) = event_row offset t
+told_row offset (slip lane place) = row 0 offset 0 (says 19 place 0 lane 0)
+told_row offset (relock place) = row 0 offset 0 (says 20 place 0 0 0)
+told_row offset (aligned blue green red) = row blue offset 0 (says 21 green red 0 0)
 
--- a link's events
-abbrev pub link_writing : Writing EventAt Event
-link_writing = record { plain = event_of; bytes = event_bytes; row = event_row }
+-- the bytes of events
+unfoldable pub events_bytes : List Event → List ℕ
+events_bytes [] = []
+events_bytes (t ∷ ts) = event_bytes t ++ events_bytes ts
+
+-- the bytes of all that is told, one after another, and the records
+unfoldable pub all_bytes : List (ToldOf Event) → List ℕ
+all_bytes [] = []
+all_bytes (t ∷ ts) = told_bytes t ++ all_bytes ts
+
+abbrev pub bytes_at : List Told → List ℕ
+bytes_at told = all_bytes (map told_alone told)
+
+unfoldable pub rows_from : ℕ → List Told → List Record
+rows_from o [] = []
+rows_from o (t ∷ ts) = told_row o t ∷ rows_from (o + length (told_bytes (told_alone t))) ts
 
 -- from one state to another these records and these bytes were written after those before
 pub record Wrote (x y : EventRoom) (rows : List Record) (bytes : List ℕ) : Type 0 where
@@ -67,34 +88,18 @@ pub record Wrote (x y : EventRoom) (rows : List Record) (bytes : List ℕ) : Typ
   pub count_is : y.count ≡ x.count + length rows
   pub used_is : y.used ≡ x.used + length bytes
 
-module _ {At T : Type 0} (w : Writing At T) where
-  -- the bytes of events, one after another, and their records
-  unfoldable pub all_bytes : List T → List ℕ
-  all_bytes [] = []
-  all_bytes (t ∷ ts) = w.bytes t ++ all_bytes ts
+-- this was written
+abbrev pub HasTaken : EventRoom → EventRoom → List Told → Type 0
+HasTaken x y told = Wrote x y (rows_from x.used told) (bytes_at told)
 
-  abbrev pub bytes_at : List At → List ℕ
-  bytes_at events = all_bytes (map w.plain events)
+-- there is no room for it
+abbrev pub HasNoRoom : EventRoom → ToldOf Event → Type 0
+HasNoRoom x t = (length x.records.now ≤ x.count) ⊎ (length x.bytes.now < x.used + length (told_bytes t))
 
-  unfoldable pub rows_from : ℕ → List At → List Record
-  rows_from o [] = []
-  rows_from o (t ∷ ts) = w.row o t ∷ rows_from (o + length (w.bytes (w.plain t))) ts
+-- these are the records of what was told, and the bytes
+abbrev pub AreWritten : List Told → List Record → List ℕ → Type 0
+AreWritten told records bytes = (records ≡ rows_from 0 told) × (bytes ≡ bytes_at told)
 
-  -- these events were written
-  abbrev pub HasTaken : EventRoom → EventRoom → List At → Type 0
-  HasTaken x y events = Wrote x y (rows_from x.used events) (bytes_at events)
-
-  -- so much of the room was taken by events
-  pub record HasFilled (x y : EventRoom) (events : List T) : Type 0 where
-    pub records_long : length y.records.now ≡ length x.records.now
-    pub bytes_long : length y.bytes.now ≡ length x.bytes.now
-    pub count_is : y.count ≡ x.count + length events
-    pub used_is : y.used ≡ x.used + length (all_bytes events)
-
-  -- there is no room for an event
-  abbrev pub HasNoRoom : EventRoom → T → Type 0
-  HasNoRoom x t = (length x.records.now ≤ x.count) ⊎ (length x.bytes.now < x.used + length (w.bytes t))
-
-  -- these are the records of events, and their bytes
-  abbrev pub AreWritten : List At → List Record → List ℕ → Type 0
-  AreWritten events records bytes = (records ≡ rows_from 0 events) × (bytes ≡ bytes_at events)
+-- this was written: the first records are its own, and the first bytes
+abbrev pub AreTold : List Told → ℕ → List Record → ℕ → List ℕ → Type 0
+AreTold told n records m bytes = AreWritten told (take n records) (take m bytes) × (n ≡ length told) × (m ≡ length (bytes_at told))

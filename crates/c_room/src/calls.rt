@@ -1,13 +1,13 @@
 //! Feeds what C keeps, with room that C lends.
 ghost use Rattle.std.specs.Prelude.{◌≡◌, List, Some};
 ghost use Rattle.link_sink.specs.Sinks.{Fed};
-ghost use Rattle.track_sink.specs.TrackEvents.{TrackEventAt};
+ghost use Rattle.link_sink.specs.Told.{Told};
 ghost use Rattle.c_room.specs.Calls.{Feeds, Finishes, state_of};
 ghost use Rattle.c_room.specs.Reports.{IsGainOfKind, IsEndOfKind};
 ghost use Rattle.c_room.specs.Sinks.{kind_of};
 ghost use Rattle.c_room.specs.Stands.{Stands};
 ghost use Rattle.c_room.specs.Takes.{grown_to};
-ghost use Rattle.c_room.specs.TrackWritten.{AreTold};
+ghost use Rattle.c_room.specs.Written.{AreTold};
 ghost use Rattle.c_room.specs.declared.status.Status.TheVariants.{Done};
 
 use crate::ended::Ended;
@@ -46,7 +46,7 @@ pub fn feed_into(
     ensures kind { kind_of kept.new.sink ≡ kind_of kept.old.sink }
     ensures stands { (fed : Fed) → Stands kept.old fed → Stands kept.new (grown_to result.taken fed lanes.entry) }
     ensures reported { (fed : Fed) → Stands kept.old fed
-        → (told : List TrackEventAt) × IsGainOfKind (kind_of kept.old.sink) fed (grown_to result.taken fed lanes.entry) told
+        → (told : List Told) × IsGainOfKind (kind_of kept.old.sink) fed (grown_to result.taken fed lanes.entry) told
         × AreTold told result.events records.new result.bytes bytes.new }
     ensures does { Feeds lanes.entry.blue.now lanes.entry.green.now lanes.entry.red.now lanes.entry.bits (state_of (Some kept.old) records.old bytes.old)
         result.status (state_of (Some kept.new) records.new bytes.new) result.events result.bytes result.taken }
@@ -68,7 +68,7 @@ pub fn finish_into(kept: &mut Kept, records: &mut [Record], bytes: &mut [u8]) ->
     ensures kind { kind_of kept.new.sink ≡ kind_of kept.old.sink }
     ensures stands { (fed : Fed) → Stands kept.old fed → Stands kept.new fed }
     ensures reported { (fed : Fed) → Stands kept.old fed → result.ended.status ≡ Done
-        → (told : List TrackEventAt) × IsEndOfKind (kind_of kept.old.sink) fed result.ended.counts told
+        → (told : List Told) × IsEndOfKind (kind_of kept.old.sink) fed result.ended.counts told
         × AreTold told result.events records.new result.bytes bytes.new }
     ensures does { Finishes (state_of (Some kept.old) records.old bytes.old) result.ended.status (state_of (Some kept.new) records.new bytes.new)
         result.events result.bytes result.ended.counts }

@@ -1,43 +1,9 @@
 //! What is said at the end of the lanes.
-ghost use Rattle.std.specs.Prelude.{◌≡◌, cond};
+ghost use Rattle.std.specs.Prelude.{◌≡◌};
 ghost use Rattle.c_room.specs.Reports.{counted};
 
 use crate::status::Status;
-use link_sink::Outcome;
-use track_sink::TrackOutcome;
-
-/// What is counted at the end.
-#[derive(Clone, Copy, Drop)]
-pub struct EndCounts {
-    /// How many columns there were; of lanes that may lose bits how many epochs.
-    pub columns: u64,
-    /// 1 where the lanes were aligned; of lanes that may lose bits in how many epochs they were.
-    pub aligned: u64,
-}
-
-impl EndCounts {
-    /// Those of columns.
-    pub(crate) fn of_columns(outcome: Outcome) -> EndCounts
-        ensures columns { result.columns ≡ outcome.columns }
-        ensures aligned { result.aligned ≡ cond outcome.aligned 1 0 }
-    {
-        EndCounts {
-            columns: outcome.columns,
-            aligned: u64::from(outcome.aligned),
-        }
-    }
-
-    /// Those of epochs.
-    pub(crate) fn of_epochs(outcome: TrackOutcome) -> EndCounts
-        ensures columns { result.columns ≡ outcome.epochs }
-        ensures aligned { result.aligned ≡ outcome.aligned }
-    {
-        EndCounts {
-            columns: outcome.epochs,
-            aligned: outcome.aligned,
-        }
-    }
-}
+use link_sink::EndCounts;
 
 /// What an end answers: its status, and what is counted where it is `Done`.
 #[derive(Clone, Copy, Drop)]

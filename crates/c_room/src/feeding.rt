@@ -1,71 +1,72 @@
-//! Feeds lanes that are borrowed, piece by piece, as long as there is room for what a piece can report.
-ghost use Rattle.std.specs.Prelude.{◌≡◌, ◌⊎◌, ◌+◌, ◌-◌, ◌*◌, ◌%◌, ◌^◌, ◌<◌, ◌≤◌, ℕ, List, length, min, true, false};
-ghost use Rattle.period_grammar.specs.Events.{Event, EventAt, all_at};
-ghost use Rattle.link_sink.specs.Sinks.{Fed, IsGainAt, IsLastBy};
-ghost use Rattle.link_sink.specs.Streams.{StandsBy, bits_fed};
+//! Feeds lanes that are borrowed, piece by piece, as long as there is room for what a piece can tell.
+ghost use Rattle.std.specs.Prelude.{◌≡◌, ◌+◌, ◌-◌, ◌%◌, ◌<◌, ◌≤◌, ◌++◌, List, true, false};
+ghost use Rattle.link_sink.specs.Sinks.{Fed};
+ghost use Rattle.link_sink.specs.Told.{Told};
+ghost use Rattle.c_room.specs.Bounded.{IsBoundedBy};
 ghost use Rattle.c_room.specs.declared.lanes.BitCounts.{BitCounts as CountsValue};
-ghost use Rattle.c_room.specs.Rooms.{Fits, IsFull, IsBounded};
+ghost use Rattle.c_room.specs.KindRooms.{Fits, IsKindFull, FitsEnd};
 ghost use Rattle.c_room.specs.Takes.{most_of, counts_to, plus, grown_to, MayTakeLanes, AreFew, AreFed};
-ghost use Rattle.c_room.specs.Written.{link_writing, HasTaken};
+ghost use Rattle.c_room.specs.Written.{HasTaken};
 
+use crate::kind::Kind;
 use crate::lanes::CallerLanes;
 use crate::room::EventRoom;
-use link_sink::{Hears, LaneSink, Outcome};
+use link_sink::{EndCounts, Receives};
 
-/// Takes bits of each lane, from the first on, and writes the events that they decide. Answers before which bit of each lane it
-/// stopped: where it is not past the last one the room is full. It cannot fail.
-pub fn feed_lanes<H: Hears>(
-    sink: &mut LaneSink<H>,
+/// Gives a receiver of a kind bits of each lane, from the first on, and writes what they decide. Answers before which bit of each lane
+/// it stopped: where it is not past the last one the room is full. It cannot fail.
+pub(crate) fn feed_lanes<S: Receives>(
+    sink: &mut S,
+    kind: Kind,
     lanes: CallerLanes<'_>,
     room: &mut EventRoom<'_>,
 ) -> u64
-    requires open { sink.old.is_open ≡ true }
-    requires stands { (fed : Fed) × StandsBy H.goes_on sink.old fed }
-    requires bounded { IsBounded H.grammar }
-    requires lanes { (fed : CountsValue) × AreFed (bits_fed sink.old) fed × MayTakeLanes fed lanes × AreFew fed lanes.bits }
-    ensures open { sink.new.is_open ≡ true }
+    requires open { S.is_open sink.old ≡ true }
+    requires stands { (fed : Fed) × (told : List Told) × S.stands sink.old fed told }
+    requires bounded { IsBoundedBy kind S.account S.stands S.bits }
+    requires lanes { (fed : CountsValue) × AreFed (S.bits sink.old) fed × MayTakeLanes fed lanes × AreFew fed lanes.bits }
+    ensures open { S.is_open sink.new ≡ true }
     ensures within { result ≤ most_of lanes.entry.bits }
     ensures whole { result < most_of lanes.entry.bits → result % 8 ≡ 0 }
-    ensures full { result < most_of lanes.entry.bits → IsFull room.new }
-    ensures taken { (fed : CountsValue) → AreFed (bits_fed sink.old) fed → AreFed (bits_fed sink.new) (plus fed (counts_to result lanes.entry.bits)) }
-    ensures stands { (fed : Fed) → StandsBy H.goes_on sink.old fed → StandsBy H.goes_on sink.new (grown_to (counts_to result lanes.entry.bits) fed lanes.entry) }
-    ensures reported { (fed : Fed) → StandsBy H.goes_on sink.old fed
-        → (events : List EventAt) × IsGainAt H.grammar fed (grown_to (counts_to result lanes.entry.bits) fed lanes.entry) events × HasTaken link_writing room.old room.new events }
+    ensures full { result < most_of lanes.entry.bits → IsKindFull kind room.new }
+    ensures taken { (fed : CountsValue) → AreFed (S.bits sink.old) fed → AreFed (S.bits sink.new) (plus fed (counts_to result lanes.entry.bits)) }
+    ensures told { (fed : Fed) (told : List Told) → S.stands sink.old fed told
+        → (more : List Told) × S.stands sink.new (grown_to (counts_to result lanes.entry.bits) fed lanes.entry) (told ++ more)
+        × HasTaken room.old room.new more }
 {
     let most = lanes.bits.most();
     let mut at = 0;
-    let mut size = room.next_bits(most);
+    let mut size = room.next_bits(kind, most);
     while size > 0 {
-        feed_piece(sink, lanes, at, size, room);
+        feed_piece(sink, kind, lanes, at, size, room);
         at += size;
-        size = room.next_bits(most - at);
+        size = room.next_bits(kind, most - at);
     }
     at
 }
 
-/// Takes the next piece of each lane, for which there is room.
-fn feed_piece<H: Hears>(
-    sink: &mut LaneSink<H>,
+/// Gives a receiver the next piece of each lane, for which there is room.
+fn feed_piece<S: Receives>(
+    sink: &mut S,
+    kind: Kind,
     lanes: CallerLanes<'_>,
     at: u64,
     size: u64,
     room: &mut EventRoom<'_>,
 )
-    requires open { sink.old.is_open ≡ true }
-    requires stands { (fed : Fed) × StandsBy H.goes_on sink.old fed }
-    requires bounded { IsBounded H.grammar }
-    requires lanes { (fed : CountsValue) × AreFed (bits_fed sink.old) (plus fed (counts_to at lanes.bits)) × MayTakeLanes fed lanes × AreFew fed lanes.bits }
+    requires open { S.is_open sink.old ≡ true }
+    requires stands { (fed : Fed) × (told : List Told) × S.stands sink.old fed told }
+    requires bounded { IsBoundedBy kind S.account S.stands S.bits }
+    requires lanes { (fed : CountsValue) × AreFed (S.bits sink.old) (plus fed (counts_to at lanes.bits)) × MayTakeLanes fed lanes × AreFew fed lanes.bits }
     requires whole { at % 8 ≡ 0 }
     requires small { size ≤ 32768 }
     requires some { 0 < size }
-    requires room { Fits room.old size }
-    ensures open { sink.new.is_open ≡ true }
-    ensures taken { (fed : CountsValue) → AreFed (bits_fed sink.old) (plus fed (counts_to at lanes.entry.bits)) → AreFed (bits_fed sink.new) (plus fed (counts_to (at + size) lanes.entry.bits)) }
-    ensures stands { (fed : Fed) → StandsBy H.goes_on sink.old (grown_to (counts_to at lanes.entry.bits) fed lanes.entry)
-        → StandsBy H.goes_on sink.new (grown_to (counts_to (at + size) lanes.entry.bits) fed lanes.entry) }
-    ensures reported { (fed : Fed) → StandsBy H.goes_on sink.old (grown_to (counts_to at lanes.entry.bits) fed lanes.entry)
-        → (events : List EventAt) × IsGainAt H.grammar (grown_to (counts_to at lanes.entry.bits) fed lanes.entry) (grown_to (counts_to (at + size) lanes.entry.bits) fed lanes.entry) events
-        × HasTaken link_writing room.old room.new events }
+    requires room { Fits kind room.old size }
+    ensures open { S.is_open sink.new ≡ true }
+    ensures taken { (fed : CountsValue) → AreFed (S.bits sink.old) (plus fed (counts_to at lanes.entry.bits)) → AreFed (S.bits sink.new) (plus fed (counts_to (at + size) lanes.entry.bits)) }
+    ensures told { (fed : Fed) (told : List Told) → S.stands sink.old (grown_to (counts_to at lanes.entry.bits) fed lanes.entry) told
+        → (more : List Told) × S.stands sink.new (grown_to (counts_to (at + size) lanes.entry.bits) fed lanes.entry) (told ++ more)
+        × HasTaken room.old room.new more }
 {
     let piece = lanes.piece(at, size);
     match sink.feed_in_turn(piece, room) {
@@ -74,19 +75,22 @@ fn feed_piece<H: Hears>(
     }
 }
 
-/// Ends the lanes, and writes the event that is left, for which there is room. It cannot fail.
-pub fn finish_sink<H: Hears>(sink: &mut LaneSink<H>, room: &mut EventRoom<'_>) -> Outcome
-    requires open { sink.old.is_open ≡ true }
-    requires stands { (fed : Fed) × StandsBy H.goes_on sink.old fed }
-    requires bounded { IsBounded H.grammar }
-    requires one { room.old.count < length room.old.records.now }
-    requires within { room.old.used ≤ length room.old.bytes.now }
-    ensures closed { sink.new.is_open ≡ false }
-    ensures reported { (fed : Fed) → StandsBy H.goes_on sink.old fed
-        → (events : List Event) × IsLastBy H.grammar fed result events × HasTaken link_writing room.old room.new (all_at result.columns events) }
+/// Ends the lanes, and writes what is left to tell, for which there is room. It cannot fail.
+pub(crate) fn finish_lanes<S: Receives>(
+    sink: &mut S,
+    kind: Kind,
+    room: &mut EventRoom<'_>,
+) -> EndCounts
+    requires open { S.is_open sink.old ≡ true }
+    requires stands { (fed : Fed) × (told : List Told) × S.stands sink.old fed told }
+    requires bounded { IsBoundedBy kind S.account S.stands S.bits }
+    requires room { FitsEnd kind room.old }
+    ensures closed { S.is_open sink.new ≡ false }
+    ensures told { (fed : Fed) (told : List Told) → S.stands sink.old fed told
+        → (last : List Told) × S.account.whole fed result.columns result.aligned (told ++ last) × HasTaken room.old room.new last }
 {
-    match sink.finish(room) {
-        Ok(outcome) => outcome,
+    match sink.finish_in_turn(room) {
+        Ok(counts) => counts,
         Err(_) => unreachable!(),
     }
 }

@@ -2,7 +2,7 @@
 ghost use Rattle.std.specs.Prelude.{◌≡◌, ◌⊎◌, List, take, None};
 ghost use Rattle.link_sink.specs.Sinks.{Fed};
 ghost use Rattle.link_sink.specs.Pieces.{no_bits};
-ghost use Rattle.track_sink.specs.TrackEvents.{TrackEventAt};
+ghost use Rattle.link_sink.specs.Told.{Told};
 ghost use Rattle.c_room.specs.Calls.{Feeds, Finishes, Restarts, state_of};
 ghost use Rattle.c_room.specs.Handles.{IsHandle, Holds};
 ghost use Rattle.c_room.specs.Kinds.{number_of, IsNoKind};
@@ -10,7 +10,7 @@ ghost use Rattle.c_room.specs.Orders.{FollowInOrderOf};
 ghost use Rattle.c_room.specs.Reports.{IsGainOfKind, IsEndOfKind};
 ghost use Rattle.c_room.specs.Statuses.{IsOpenStatus};
 ghost use Rattle.c_room.specs.Takes.{grown_to};
-ghost use Rattle.c_room.specs.TrackWritten.{AreTold};
+ghost use Rattle.c_room.specs.Written.{AreTold};
 ghost use Rattle.c_room.specs.declared.kind.Kind.{Kind as KindValue};
 ghost use Rattle.c_room.specs.declared.status.Status.TheVariants.{Done, Misuse};
 
@@ -77,7 +77,7 @@ impl Handle {
         ensures handle { IsHandle self.new }
         ensures stands { (kind : KindValue) (fed : Fed) → Holds self.old.slot.value kind fed → Holds self.new.slot.value kind (grown_to result.taken fed lanes.entry) }
         ensures reported { (kind : KindValue) (fed : Fed) → Holds self.old.slot.value kind fed
-            → (told : List TrackEventAt) × IsGainOfKind kind fed (grown_to result.taken fed lanes.entry) told
+            → (told : List Told) × IsGainOfKind kind fed (grown_to result.taken fed lanes.entry) told
             × AreTold told result.events records.new result.bytes bytes.new }
         ensures does { Feeds lanes.entry.blue.now lanes.entry.green.now lanes.entry.red.now lanes.entry.bits (state_of self.old.slot.value records.old bytes.old)
             result.status (state_of self.new.slot.value records.new bytes.new) result.events result.bytes result.taken }
@@ -103,7 +103,7 @@ impl Handle {
         ensures handle { IsHandle self.new }
         ensures stands { (kind : KindValue) (fed : Fed) → Holds self.old.slot.value kind fed → Holds self.new.slot.value kind fed }
         ensures reported { (kind : KindValue) (fed : Fed) → Holds self.old.slot.value kind fed → result.ended.status ≡ Done
-            → (told : List TrackEventAt) × IsEndOfKind kind fed result.ended.counts told
+            → (told : List Told) × IsEndOfKind kind fed result.ended.counts told
             × AreTold told result.events records.new result.bytes bytes.new }
         ensures does { Finishes (state_of self.old.slot.value records.old bytes.old) result.ended.status (state_of self.new.slot.value records.new bytes.new)
             result.events result.bytes result.ended.counts }

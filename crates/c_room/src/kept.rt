@@ -2,7 +2,7 @@
 ghost use Rattle.std.specs.Prelude.{◌≡◌, ◌⊎◌, ◌%◌, ◌<◌, ◌≤◌, List, true, false, IfOk};
 ghost use Rattle.link_sink.specs.Sinks.{Fed};
 ghost use Rattle.link_sink.specs.Pieces.{no_bits};
-ghost use Rattle.track_sink.specs.TrackEvents.{TrackEventAt};
+ghost use Rattle.link_sink.specs.Told.{Told};
 ghost use Rattle.c_room.specs.Calls.{IsFirstPart};
 ghost use Rattle.c_room.specs.KindRooms.{IsKindFull, FitsEnd, LacksEnd};
 ghost use Rattle.c_room.specs.Reports.{IsGainOfKind, IsEndOfKind, counted};
@@ -10,7 +10,6 @@ ghost use Rattle.c_room.specs.Sinks.{kind_of, goes_on};
 ghost use Rattle.c_room.specs.Stands.{Stands, IsReady};
 ghost use Rattle.c_room.specs.Statuses.{IsFeedStatus, IsEndStatus};
 ghost use Rattle.c_room.specs.Takes.{no_counts, most_of, counts_to, plus, grown_to, MayTakeLanes, AreFew};
-ghost use Rattle.c_room.specs.TrackWritten.{track_writing};
 ghost use Rattle.c_room.specs.Written.{HasTaken};
 ghost use Rattle.c_room.specs.declared.status.Status.TheVariants.{Done, Full, Misuse, TooMany};
 
@@ -88,7 +87,7 @@ impl Kept {
         ensures kind { kind_of self.new.sink ≡ kind_of self.old.sink }
         ensures stands { (fed : Fed) → Stands self.old fed → Stands self.new (grown_to result.bits fed lanes.entry) }
         ensures reported { (fed : Fed) → Stands self.old fed
-            → (told : List TrackEventAt) × IsGainOfKind (kind_of self.old.sink) fed (grown_to result.bits fed lanes.entry) told × HasTaken track_writing room.old room.new told }
+            → (told : List Told) × IsGainOfKind (kind_of self.old.sink) fed (grown_to result.bits fed lanes.entry) told × HasTaken room.old room.new told }
         ensures ready { (result.status ≡ Done) ⊎ (result.status ≡ Full) → IsReady self.old lanes.entry }
         ensures done { result.status ≡ Done → result.bits ≡ lanes.entry.bits }
         ensures part { result.status ≡ Full → IsFirstPart lanes.entry.bits result.bits }
@@ -122,7 +121,7 @@ impl Kept {
         ensures full { result < most_of lanes.entry.bits → IsKindFull (kind_of self.old.sink) room.new }
         ensures stands { (fed : Fed) → Stands self.old fed → Stands self.new (grown_to (counts_to result lanes.entry.bits) fed lanes.entry) }
         ensures reported { (fed : Fed) → Stands self.old fed
-            → (told : List TrackEventAt) × IsGainOfKind (kind_of self.old.sink) fed (grown_to (counts_to result lanes.entry.bits) fed lanes.entry) told × HasTaken track_writing room.old room.new told }
+            → (told : List Told) × IsGainOfKind (kind_of self.old.sink) fed (grown_to (counts_to result lanes.entry.bits) fed lanes.entry) told × HasTaken room.old room.new told }
     {
         let at = self.sink.feed(lanes, room);
         self.fed = self.fed.plus(lanes.bits.first(at));
@@ -136,7 +135,7 @@ impl Kept {
         ensures kind { kind_of self.new.sink ≡ kind_of self.old.sink }
         ensures stands { (fed : Fed) → Stands self.old fed → Stands self.new fed }
         ensures reported { (fed : Fed) → Stands self.old fed → result.status ≡ Done
-            → (told : List TrackEventAt) × IsEndOfKind (kind_of self.old.sink) fed result.counts told × HasTaken track_writing room.old room.new told }
+            → (told : List Told) × IsEndOfKind (kind_of self.old.sink) fed result.counts told × HasTaken room.old room.new told }
         ensures done { result.status ≡ Done → (goes_on self.old.sink ≡ true) × FitsEnd (kind_of self.old.sink) room.old × (goes_on self.new.sink ≡ false) }
         ensures full { result.status ≡ Full → (goes_on self.old.sink ≡ true) × LacksEnd (kind_of self.old.sink) room.old }
         ensures misuse { result.status ≡ Misuse → goes_on self.old.sink ≡ false }

@@ -1,6 +1,6 @@
 //! Kinds of receivers.
 ghost use Rattle.std.specs.Prelude.{◌≡◌, MatchOption};
-ghost use Rattle.c_room.specs.Kinds.{number_of, IsNoKind};
+ghost use Rattle.c_room.specs.Kinds.{number_of, last_events, last_bytes, IsNoKind};
 
 /// How a receiver receives.
 #[derive(Clone, Copy, Drop)]
@@ -26,6 +26,19 @@ impl Kind {
             2 => Some(Kind::Track),
             3 => Some(Kind::Relock),
             _ => None,
+        }
+    }
+
+    /// With how many events and bytes of room the lanes end.
+    pub(crate) fn last(self) -> (usize, usize)
+        ensures events { result.0 ≡ last_events self }
+        ensures bytes { result.1 ≡ last_bytes self }
+    {
+        match self {
+            Kind::Link => (1, 0),
+            Kind::Dvi => (1, 0),
+            Kind::Track => (392, 12_614),
+            Kind::Relock => (392, 12_614),
         }
     }
 }

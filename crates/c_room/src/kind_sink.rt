@@ -3,23 +3,20 @@ ghost use Rattle.std.specs.Prelude.{◌≡◌, ◌%◌, ◌<◌, List, true, fal
 ghost use Rattle.std.specs.Bool.{OnTrue, OnFalse};
 ghost use Rattle.link_sink.specs.Sinks.{Fed};
 ghost use Rattle.link_sink.specs.Pieces.{no_bits};
-ghost use Rattle.track_sink.specs.TrackEvents.{TrackEventAt};
+ghost use Rattle.link_sink.specs.Told.{Told};
 ghost use Rattle.c_room.specs.declared.lanes.BitCounts.{BitCounts as CountsValue};
 ghost use Rattle.c_room.specs.KindRooms.{IsKindFull, FitsEnd, LacksEnd};
 ghost use Rattle.c_room.specs.Reports.{IsGainOfKind, IsEndOfKind};
 ghost use Rattle.c_room.specs.Sinks.{kind_of, goes_on, StandsFor, HasTakenBits};
 ghost use Rattle.c_room.specs.Takes.{no_counts, most_of, counts_to, plus, grown_to, MayTakeLanes, AreFew};
-ghost use Rattle.c_room.specs.TrackWritten.{track_writing};
 ghost use Rattle.c_room.specs.Written.{HasTaken};
 
-use crate::ended::EndCounts;
-use crate::feeding::{feed_lanes, finish_sink};
+use crate::feeding::{feed_lanes, finish_lanes};
 use crate::kind::Kind;
 use crate::lanes::CallerLanes;
 use crate::room::EventRoom;
-use crate::track_feeding::{feed_epochs, finish_epochs};
 use dvi_hearing::DviSink;
-use link_sink::LinkSink;
+use link_sink::{EndCounts, LinkSink};
 use outside_io::NoMemory;
 use relock_sink::Refuter;
 use std::alloc::Global;
@@ -75,7 +72,7 @@ impl KindSink {
         }
     }
 
-    /// Takes bits of each lane, and writes the events that they decide: `feed_lanes`, `feed_epochs`.
+    /// Takes bits of each lane, and writes what they decide: `feed_lanes`.
     pub fn feed(&mut self, lanes: CallerLanes<'_>, room: &mut EventRoom<'_>) -> u64
         requires open { goes_on self.old ≡ true }
         requires stands { (fed : Fed) × StandsFor self.old fed }
@@ -87,14 +84,26 @@ impl KindSink {
         ensures taken { (fed : CountsValue) → HasTakenBits self.old fed → HasTakenBits self.new (plus fed (counts_to result lanes.entry.bits)) }
         ensures stands { (fed : Fed) → StandsFor self.old fed → StandsFor self.new (grown_to (counts_to result lanes.entry.bits) fed lanes.entry) }
         ensures reported { (fed : Fed) → StandsFor self.old fed
-            → (told : List TrackEventAt) × IsGainOfKind (kind_of self.old) fed (grown_to (counts_to result lanes.entry.bits) fed lanes.entry) told
-            × HasTaken track_writing room.old room.new told }
+            → (told : List Told) × IsGainOfKind (kind_of self.old) fed (grown_to (counts_to result lanes.entry.bits) fed lanes.entry) told
+            × HasTaken room.old room.new told }
     {
         match self {
-            KindSink::Link(sink) => feed_lanes(sink, lanes, room),
-            KindSink::Dvi(sink) => feed_lanes(sink, lanes, room),
-            KindSink::Track(sink) => feed_epochs(sink, lanes, room),
-            KindSink::Relock(sink) => feed_epochs(sink, lanes, room),
+            KindSink::Link(sink) => feed_lanes(sink, Kind::Link, lanes, room),
+            KindSink::Dvi(sink) => feed_lanes(sink, Kind::Dvi, lanes, room),
+            KindSink::Track(sink) => feed_lanes(sink, Kind::Track, lanes, room),
+            KindSink::Relock(sink) => feed_lanes(sink, Kind::Relock, lanes, room),
+        }
+    }
+
+    /// Its kind.
+    fn kind(&self) -> Kind
+        ensures { result ≡ kind_of self.now }
+    {
+        match self {
+            KindSink::Link(_) => Kind::Link,
+            KindSink::Dvi(_) => Kind::Dvi,
+            KindSink::Track(_) => Kind::Track,
+            KindSink::Relock(_) => Kind::Relock,
         }
     }
 
@@ -103,15 +112,10 @@ impl KindSink {
         ensures fits { OnTrue result (FitsEnd (kind_of self.now) room.now) }
         ensures lacks { OnFalse result (LacksEnd (kind_of self.now) room.now) }
     {
-        match self {
-            KindSink::Link(_) => room.has_one(),
-            KindSink::Dvi(_) => room.has_one(),
-            KindSink::Track(_) => room.has_epoch(),
-            KindSink::Relock(_) => room.has_epoch(),
-        }
+        room.has_end(self.kind())
     }
 
-    /// Ends the lanes, and writes what is left, for which there is room: `finish_sink`, `finish_epochs`.
+    /// Ends the lanes, and writes what is left, for which there is room: `finish_lanes`.
     pub fn finish(&mut self, room: &mut EventRoom<'_>) -> EndCounts
         requires open { goes_on self.old ≡ true }
         requires stands { (fed : Fed) × StandsFor self.old fed }
@@ -119,13 +123,13 @@ impl KindSink {
         ensures kind { kind_of self.new ≡ kind_of self.old }
         ensures closed { goes_on self.new ≡ false }
         ensures reported { (fed : Fed) → StandsFor self.old fed
-            → (told : List TrackEventAt) × IsEndOfKind (kind_of self.old) fed result told × HasTaken track_writing room.old room.new told }
+            → (told : List Told) × IsEndOfKind (kind_of self.old) fed result told × HasTaken room.old room.new told }
     {
         match self {
-            KindSink::Link(sink) => EndCounts::of_columns(finish_sink(sink, room)),
-            KindSink::Dvi(sink) => EndCounts::of_columns(finish_sink(sink, room)),
-            KindSink::Track(sink) => EndCounts::of_epochs(finish_epochs(sink, room)),
-            KindSink::Relock(sink) => EndCounts::of_epochs(finish_epochs(sink, room)),
+            KindSink::Link(sink) => finish_lanes(sink, Kind::Link, room),
+            KindSink::Dvi(sink) => finish_lanes(sink, Kind::Dvi, room),
+            KindSink::Track(sink) => finish_lanes(sink, Kind::Track, room),
+            KindSink::Relock(sink) => finish_lanes(sink, Kind::Relock, room),
         }
     }
 }

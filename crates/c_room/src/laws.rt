@@ -1,7 +1,7 @@
 //! Laws of the calls, each the contract of a function with nothing to do.
 ghost use Rattle.std.specs.Prelude.{◌≡◌, ◌⊎◌, ℕ, List, Option};
 ghost use Rattle.c_room.specs.Calls.{CallState, Feeds, Finishes, Restarts};
-ghost use Rattle.c_room.specs.declared.ended.EndCounts.{EndCounts as Counts};
+ghost use Rattle.link_sink.specs.declared.receives.EndCounts.{EndCounts as Counts};
 ghost use Rattle.c_room.specs.declared.kept.Kept.{Kept as KeptValue};
 ghost use Rattle.c_room.specs.declared.lanes.BitCounts.{BitCounts as Bits};
 ghost use Rattle.c_room.specs.declared.status.Status.{Status as StatusValue};

@@ -1,14 +1,17 @@
-//! Writes events to an array and a buffer of the caller's.
+//! Writes what an ear is told to an array and a buffer of the caller's.
 ghost use Rattle.std.specs.Prelude.{◌≡◌, ◌⊎◌, ◌+◌, ◌-◌, ◌*◌, ◌/◌, ◌%◌, ◌<◌, ◌≤◌, ◌++◌, ◌∷◌, [], ℕ, List, length, take, slice_index, OnOk, OnErr};
 ghost use Rattle.std.specs.Bool.{OnTrue, OnFalse};
 ghost use Rattle.outside_io.specs.Causes.{HasCause};
 ghost use Rattle.period_grammar.specs.Events.{at};
 ghost use Rattle.period_grammar.specs.Lending.{lent_event, fault_event};
-ghost use Rattle.c_room.specs.Written.{row, says, event_row, event_said, event_bytes, link_writing, Wrote, HasNoRoom};
-ghost use Rattle.c_room.specs.Rooms.{Fits, IsFull, HasNoOne, columns_of_bits};
+ghost use Rattle.link_sink.specs.Told.{event, lent_told, told_alone, IsToldSized};
+ghost use Rattle.c_room.specs.Kinds.{columns_of_bits};
+ghost use Rattle.c_room.specs.KindRooms.{Fits, IsKindFull, FitsEnd, LacksEnd};
+ghost use Rattle.c_room.specs.Written.{row, says, event_row, event_said, event_bytes, told_row, told_bytes, Wrote, HasNoRoom};
 
+use crate::kind::Kind;
 use crate::record::{Record, Said};
-use link_sink::Ear;
+use link_sink::{Ear, ToldRef};
 use outside_io::Failed;
 use period_grammar::{EventRef, Fault};
 
@@ -78,29 +81,43 @@ impl<'a> EventRoom<'a> {
         self.used = 0;
     }
 
-    /// Whether there is room for an event with no bytes.
-    pub fn has_one(&self) -> bool
-        ensures one { OnTrue result (self.now.count < length self.now.records.now) }
-        ensures within { OnTrue result (self.now.used ≤ length self.now.bytes.now) }
-        ensures none { OnFalse result (HasNoOne self.now) }
-    {
-        self.count < self.records.len() && self.used <= self.bytes.len()
-    }
-
-    /// How many of this many bits of each lane may be fed, so that there is room for all that they can report: all of them or
-    /// whole bytes, and none where the room is full.
-    pub fn next_bits(&self, rest: u64) -> u64
+    /// How many of this many bits of each lane may be fed to a receiver of a kind, so that there is room for all that they can tell:
+    /// all of them or whole bytes, and none where the room is full.
+    pub(crate) fn next_bits(&self, kind: Kind, rest: u64) -> u64
         ensures within { result ≤ rest }
         ensures most { result ≤ 32768 }
         ensures whole { result < rest → result % 8 ≡ 0 }
-        ensures fits { 0 < result → Fits self.now result }
-        ensures full { result ≡ 0 → 0 < rest → IsFull self.now }
+        ensures fits { 0 < result → Fits kind self.now result }
+        ensures full { result ≡ 0 → 0 < rest → IsKindFull kind self.now }
     {
-        rest.min(bits_for(self.columns_left()))
+        rest.min(self.bits_left(kind))
+    }
+
+    /// Whether there is room for what a receiver of a kind may tell at the end.
+    pub(crate) fn has_end(&self, kind: Kind) -> bool
+        ensures fits { OnTrue result (FitsEnd kind self.now) }
+        ensures lacks { OnFalse result (LacksEnd kind self.now) }
+    {
+        let (events, bytes) = kind.last();
+        self.has(events, bytes)
+    }
+
+    /// Whether there is room for this many events and bytes.
+    fn has(&self, events: usize, bytes: usize) -> bool
+        ensures events { OnTrue result (self.now.count + events ≤ length self.now.records.now) }
+        ensures bytes { OnTrue result (self.now.used + bytes ≤ length self.now.bytes.now) }
+        ensures lacks { OnFalse result ((length self.now.records.now < self.now.count + events) ⊎ (length self.now.bytes.now < self.now.used + bytes)) }
+    {
+        let records_long = self.records.len();
+        let bytes_long = self.bytes.len();
+        self.count <= records_long
+            && self.used <= bytes_long
+            && events <= records_long - self.count
+            && bytes <= bytes_long - self.used
     }
 
     /// How many events and bytes have room.
-    pub(crate) fn left(&self) -> (usize, usize)
+    fn left(&self) -> (usize, usize)
         ensures events { result.0 ≡ length self.now.records.now - self.now.count }
         ensures bytes { result.1 ≡ length self.now.bytes.now - self.now.used }
     {
@@ -110,14 +127,43 @@ impl<'a> EventRoom<'a> {
         )
     }
 
-    /// This many columns may report whatever they can.
-    fn columns_left(&self) -> usize
-        ensures events { 8 * result ≤ length self.now.records.now - self.now.count }
-        ensures bytes { 0 < result → 12288 + 3 * result ≤ length self.now.bytes.now - self.now.used }
-        ensures full { result < 13 → IsFull self.now }
+    /// This many bits of each lane may tell a receiver of a kind whatever they can: whole bytes.
+    fn bits_left(&self, kind: Kind) -> u64
+        ensures most { result ≤ 32768 }
+        ensures whole { result % 8 ≡ 0 }
+        ensures fits { 0 < result → Fits kind self.now result }
+        ensures full { result ≡ 0 → IsKindFull kind self.now }
+    {
+        match kind {
+            Kind::Link => self.column_bits(),
+            Kind::Dvi => self.column_bits(),
+            Kind::Track => self.epoch_bits(),
+            Kind::Relock => self.epoch_bits(),
+        }
+    }
+
+    /// The same where a grammar of columns tells of them.
+    fn column_bits(&self) -> u64
+        ensures most { result ≤ 32768 }
+        ensures whole { result % 8 ≡ 0 }
+        ensures events { 0 < result → self.now.count + 8 * columns_of_bits result ≤ length self.now.records.now }
+        ensures bytes { 0 < result → self.now.used + (12288 + 3 * columns_of_bits result) ≤ length self.now.bytes.now }
+        ensures full { result ≡ 0 → (length self.now.records.now < self.now.count + 104) ⊎ (length self.now.bytes.now < self.now.used + 12327) }
     {
         let (events, bytes) = self.left();
-        columns_for(events, bytes)
+        bits_for(columns_for(events, bytes))
+    }
+
+    /// The same where lanes may lose bits.
+    fn epoch_bits(&self) -> u64
+        ensures most { result ≤ 32768 }
+        ensures whole { result % 8 ≡ 0 }
+        ensures events { 0 < result → self.now.count + (result + 392) ≤ length self.now.records.now }
+        ensures bytes { 0 < result → self.now.used + (result + 12614) ≤ length self.now.bytes.now }
+        ensures full { result ≡ 0 → (length self.now.records.now < self.now.count + 400) ⊎ (length self.now.bytes.now < self.now.used + 12622) }
+    {
+        let (events, bytes) = self.left();
+        epoch_bits_for(events, bytes)
     }
 
     /// Puts an event and its bytes.
@@ -151,11 +197,31 @@ impl<'a> EventRoom<'a> {
         Ok(())
     }
 
+    fn hear_told(&mut self, told: ToldRef<'_>) -> Result<(), Failed>
+        requires { IsToldSized (lent_told told) }
+        ensures failed { self.new.failed ≡ self.old.failed }
+        ensures put { OnOk result (Wrote self.old self.new (told_row self.old.used (lent_told told.entry) ∷ []) (told_bytes (told_alone (lent_told told.entry)))) }
+        ensures full { OnErr result (HasNoRoom self.old (told_alone (lent_told told.entry))) }
+    {
+        match told {
+            ToldRef::Event { column, event } => self.hear_event(column, event),
+            // The others end or begin an epoch: they have no column, and no bytes.
+            ToldRef::Slip { lane, place } => {
+                self.put(0, Said::new(19, place, 0, u32::from(lane), 0), b"")
+            }
+            ToldRef::Relock { place } => self.put(0, Said::new(20, place, 0, 0, 0), b""),
+            ToldRef::Aligned { places } => {
+                let [blue, green, red] = places;
+                self.put(blue, Said::new(21, green, red, 0, 0), b"")
+            }
+        }
+    }
+
     fn hear_event(&mut self, column: u64, event: EventRef<'_>) -> Result<(), Failed>
         requires { length (event_bytes (lent_event event)) ≤ 12288 }
         ensures failed { self.new.failed ≡ self.old.failed }
         ensures put { OnOk result (Wrote self.old self.new (event_row self.old.used (at column (lent_event event.entry)) ∷ []) (event_bytes (lent_event event.entry))) }
-        ensures full { OnErr result (HasNoRoom link_writing self.old (lent_event event.entry)) }
+        ensures full { OnErr result (HasNoRoom self.old (event (lent_event event.entry))) }
     {
         match event {
             EventRef::Run { value, count } => {
@@ -179,21 +245,6 @@ impl<'a> EventRoom<'a> {
                 self.put(column, Said::new(5, named, 0, 0, 0), b"")
             }
             EventRef::Fault(fault) => self.put(column, said_of(fault), b""),
-        }
-    }
-
-    /// Puts what ends an epoch of lanes that may lose bits: it has no column, and no bytes.
-    pub(crate) fn put_end(&mut self, said: Said) -> Result<(), Failed>
-        ensures put { OnOk result (Wrote self.old self.new (row 0 self.old.used 0 said ∷ []) []) }
-        ensures full { OnErr result ((length self.old.records.now ≤ self.old.count) ⊎ (length self.old.bytes.now < self.old.used + 0)) }
-        ensures cause { HasCause self.old.failed self.new.failed result }
-    {
-        match self.put(0, said, b"") {
-            Ok(()) => Ok(()),
-            Err(e) => {
-                self.failed = self.failed.saturating_add(1);
-                Err(e)
-            }
         }
     }
 
@@ -254,6 +305,19 @@ fn bits_for(columns: usize) -> u64
     (bits / 8 * 8).min(32768) as u64
 }
 
+/// How many bits of each lane, in whole bytes and at most as many as a feed takes, tell no more than this many events and bytes of
+/// lanes that may lose bits.
+fn epoch_bits_for(events: usize, bytes: usize) -> u64
+    ensures most { result ≤ 32768 }
+    ensures whole { result % 8 ≡ 0 }
+    ensures events { 0 < result → result + 392 ≤ events }
+    ensures bytes { 0 < result → result + 12614 ≤ bytes }
+    ensures full { result ≡ 0 → (events < 400) ⊎ (bytes < 12622) }
+{
+    let bits = events.saturating_sub(392).min(bytes.saturating_sub(12_614));
+    (bits.min(32_768) / 8 * 8) as u64
+}
+
 /// Copies bytes to a place.
 fn copy_at(room: &mut [u8], at: usize, bytes: &[u8])
     requires { at + length bytes.now ≤ length room.old }
@@ -274,20 +338,19 @@ fn put_at(room: &mut [Record], at: usize, entry: Record)
 }
 
 impl<'a> Ear for EventRoom<'a> {
-    ghost use Rattle.c_room.specs.Written.{link_writing, HasTaken, HasFilled, HasNoRoom};
-    ghost use Rattle.c_room.specs.WrittenLaws.{taken_none, taken_both, filled_none, filled_both, filled_by};
+    ghost use Rattle.link_sink.specs.Told.{told_alone};
+    ghost use Rattle.c_room.specs.Written.{HasTaken, HasNoRoom};
+    ghost use Rattle.c_room.specs.WrittenLaws.{taken_none, taken_both};
 
     ghost faults = { λ r. r.failed };
 
-    ghost took = { HasFilled link_writing };
-
-    ghost took_at = { HasTaken link_writing };
+    ghost took = { HasTaken };
 
     // It fails only where there is no room.
-    ghost broke = { λ x _ event. HasNoRoom link_writing x event };
+    ghost broke = { λ x _ told. HasNoRoom x (told_alone told) };
 
-    fn hear(&mut self, column: u64, event: EventRef<'_>) -> Result<(), Failed> {
-        match self.hear_event(column, event) {
+    fn hear(&mut self, told: ToldRef<'_>) -> Result<(), Failed> {
+        match self.hear_told(told) {
             Ok(()) => Ok(()),
             Err(e) => {
                 self.failed = self.failed.saturating_add(1);
@@ -296,13 +359,7 @@ impl<'a> Ear for EventRoom<'a> {
         }
     }
 
-    ghost took_none = { filled_none link_writing };
+    ghost took_none = { taken_none };
 
-    ghost took_both = { filled_both link_writing };
-
-    ghost took_none_at = { taken_none link_writing };
-
-    ghost took_both_at = { taken_both link_writing };
-
-    ghost forgets = { filled_by link_writing };
+    ghost took_both = { taken_both };
 }

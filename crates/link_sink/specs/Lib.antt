@@ -13,3 +13,4 @@ pub mod Streams
 pub mod Progress
 pub mod Pieces
 pub mod Laws
+pub mod Receiving

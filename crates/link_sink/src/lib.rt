@@ -8,6 +8,7 @@
 //! the ear.
 #![tactic(auto)]
 
+mod by_grammar;
 mod columns;
 mod ear;
 mod feeds;
@@ -17,6 +18,7 @@ mod lane_receiver;
 pub mod laws;
 mod link_hearing;
 mod receiver;
+mod receives;
 mod sink;
 mod telling;
 mod told;
@@ -26,5 +28,6 @@ pub use hear::Outcome;
 pub use hears::Hears;
 pub use lane_receiver::LaneReceiver;
 pub use receiver::Receiver;
+pub use receives::{EndCounts, Receives};
 pub use sink::{LaneSink, LinkSink};
 pub use told::ToldRef;

@@ -14,6 +14,7 @@ use crate::feeds::are_few;
 use crate::hear::Outcome;
 use crate::hears::Hears;
 use crate::lane_receiver::LaneReceiver;
+use crate::receives::{EndCounts, Receives};
 use lane_deskew::Aligned;
 use lane_team::{Gate, Open};
 use outside_io::{Failed, NoMemory};
@@ -186,4 +187,45 @@ fn open_lanes<H: Hears>(alloc: Global) -> Result<Box<LaneReceiver<H>>, NoMemory>
     ensures bits { IfOk result (λ lanes. most_bits lanes.value ≡ 0) }
 {
     Ok(Box::new(alloc, LaneReceiver::new())?)
+}
+
+impl<H: Hears> Receives for LaneSink<H> {
+    ghost use Rattle.link_sink.specs.Streams.{StandsBy, bits_fed};
+    ghost use Rattle.link_sink.specs.Receiving.{by_grammar, IsToldSoFar};
+
+    ghost account = { by_grammar H.grammar };
+
+    ghost stands = { λ s fed told. StandsBy H.goes_on s fed × IsToldSoFar H.grammar fed told };
+
+    ghost is_open = { λ s. s.is_open };
+
+    ghost bits = { λ s lane. bits_fed s lane };
+
+    fn feed_by_workers<R: Threads, E: Ear, G: Gate>(
+        &mut self,
+        rt: &R,
+        lanes: LaneBits<'_>,
+        gate: &G,
+        ear: &mut E,
+    ) -> Result<(), Failed> {
+        Receives::feed_by_workers(&mut *self.lanes, rt, lanes, gate, ear)
+    }
+
+    fn feed_in_turn<E: Ear>(&mut self, lanes: LaneBits<'_>, ear: &mut E) -> Result<(), Failed> {
+        Receives::feed_in_turn(&mut *self.lanes, lanes, ear)
+    }
+
+    fn finish_by_workers<R: Threads, E: Ear>(
+        &mut self,
+        rt: &R,
+        ear: &mut E,
+    ) -> Result<EndCounts, Failed> {
+        Receives::finish_by_workers(&mut *self.lanes, rt, ear)
+    }
+
+    fn finish_in_turn<E: Ear>(&mut self, ear: &mut E) -> Result<EndCounts, Failed> {
+        Receives::finish_in_turn(&mut *self.lanes, ear)
+    }
+
+    ghost is_so_far = { λ x fed told h. h.1 };
 }

@@ -12,13 +12,14 @@ use crate::lanes::{Lanes, part};
 use crate::listener::Listener;
 use crate::tell::Tell;
 use ends::Ends;
+use link_sink::Ear;
 use outside_io::Failed;
 use relock_sink::{Refuter, Relock};
 use std::alloc::Global;
 use std::test::*;
 use std::thread::Threads;
 use tmds_word::LaneBits;
-use track_sink::{EpochSink, TrackEar, TrackOutcome, TrackSink, Watch};
+use track_sink::{EpochSink, TrackOutcome, TrackSink, Watch};
 
 /// Lanes that lose bits: how many bits each has, its digits, how many epochs they have, how many of these are aligned, and what is
 /// reported.
@@ -49,7 +50,7 @@ static PIECES: [u32; 4] = [8, 40, 1000, 32768];
 static SHORT_PIECES: [u32; 4] = [8, 40, 200, 32768];
 
 /// Feeds a sink the next bits of three lanes, as many of each as there are up to a number.
-fn feed_next<R: Threads, W: Watch, E: TrackEar>(
+fn feed_next<R: Threads, W: Watch, E: Ear>(
     rt: &R,
     sink: &mut EpochSink<W>,
     lanes: &Lanes,
@@ -90,7 +91,7 @@ fn feed_next<R: Threads, W: Watch, E: TrackEar>(
 }
 
 /// Feeds a sink that was fed nothing all bits of three lanes, and finishes it.
-fn feed_all<R: Threads, W: Watch, E: TrackEar>(
+fn feed_all<R: Threads, W: Watch, E: Ear>(
     rt: &R,
     sink: &mut EpochSink<W>,
     lanes: &Lanes,

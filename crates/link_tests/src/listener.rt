@@ -3,10 +3,8 @@ ghost use Rattle.std.specs.Prelude.{⊤};
 ghost use Rattle.outside_io.specs.Causes.{HasCause};
 
 use crate::tell::{Tell, tell_of};
-use link_sink::Ear;
+use link_sink::{Ear, ToldRef};
 use outside_io::Failed;
-use period_grammar::EventRef;
-use track_sink::TrackEar;
 
 /// Compares the events that are reported to it with those that are wanted, and fails at one of them.
 #[derive(Drop)]
@@ -60,53 +58,18 @@ impl Ear for Listener {
 
     ghost took = { λ _ _ _. ⊤ };
 
-    ghost took_at = { λ _ _ _. ⊤ };
-
     ghost broke = { λ _ _ _. ⊤ };
 
-    fn hear(&mut self, _: u64, event: EventRef<'_>) -> Result<(), Failed> {
-        self.take(tell_of(event))
+    fn hear(&mut self, told: ToldRef<'_>) -> Result<(), Failed> {
+        match told {
+            ToldRef::Event { column: _, event } => self.take(tell_of(event)),
+            ToldRef::Slip { lane, place } => self.take(Tell::Slip(lane, place)),
+            ToldRef::Relock { place } => self.take(Tell::Relock(place)),
+            ToldRef::Aligned { places: _ } => Ok(()),
+        }
     }
 
     ghost took_none = { λ _. tt };
 
     ghost took_both = { λ _ _ _ _ _ _ _. tt };
-
-    ghost took_none_at = { λ _. tt };
-
-    ghost took_both_at = { λ _ _ _ _ _ _ _. tt };
-
-    ghost forgets = { λ _ _ _ _. tt };
-}
-
-impl TrackEar for Listener {
-    ghost tracked = { λ _ _ _. ⊤ };
-
-    ghost tracked_at = { λ _ _ _. ⊤ };
-
-    ghost lost = { λ _ _ _. ⊤ };
-
-    fn slip(&mut self, lane: u8, place: u64) -> Result<(), Failed> {
-        self.take(Tell::Slip(lane, place))
-    }
-
-    fn relock(&mut self, place: u64) -> Result<(), Failed> {
-        self.take(Tell::Relock(place))
-    }
-
-    ghost tracked_none = { λ _. tt };
-
-    ghost tracked_both = { λ _ _ _ _ _ _ _. tt };
-
-    ghost tracked_none_at = { λ _. tt };
-
-    ghost tracked_both_at = { λ _ _ _ _ _ _ _. tt };
-
-    ghost tracked_forgets = { λ _ _ _ _. tt };
-
-    ghost tracked_events_at = { λ _ _ _ _. tt };
-
-    ghost tracked_events = { λ _ _ _. (λ _. tt, λ _. tt) };
-
-    ghost lost_event = { λ _ _ _. (λ _. tt, λ _. tt) };
 }

@@ -1,6 +1,6 @@
 //! The limit: what is relayed of as many columns as there may be, and of one more.
 
-use link_sink::Ear;
+use link_sink::{Ear, ToldRef};
 use period_grammar::EventRef;
 use relay::{Relay, RelayFault};
 use std::alloc::Global;
@@ -26,7 +26,11 @@ fn takes(alloc: Global, counts: &[u64], wanted: bool) -> bool {
                 value: 0,
                 count: *count,
             };
-            taken = relay.hear(0, run).is_ok();
+            let told = ToldRef::Event {
+                column: 0,
+                event: run,
+            };
+            taken = relay.hear(told).is_ok();
         }
     }
     let long = matches!(relay.trouble(), Some(RelayFault::Long));

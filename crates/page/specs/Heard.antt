@@ -13,7 +13,7 @@ use Rattle.link_sink.specs.Grammar.{Grammar}
 use Rattle.link_sink.specs.Sinks.{Fed, IsReportedOf, IsReportedBy}
 use Rattle.link_sink.specs.declared.hear.Outcome.{Outcome}
 use Rattle.listing_writer.specs.Texts.{lines_of, link_text, fault_lines, counted}
-use Rattle.c_room.specs.Written.{link_writing, all_bytes}
+use Rattle.c_room.specs.Written.{events_bytes}
 use Rattle.page.specs.Ears.{EarSeen}
 use Rattle.page.specs.declared.telling.Telling.{Telling}
 use Rattle.page.specs.declared.ending.Ending.{Ending}
@@ -70,7 +70,7 @@ pub record SaysWhole {T : Type 0} (g : Grammar) (told : T → T → List EventAt
 
 -- so many records, or so many bytes, are too few for events
 abbrev pub HaveNoRoom : ℕ → ℕ → List Event → Type 0
-HaveNoRoom records bytes events = (records < length events) ⊎ (bytes < length (all_bytes link_writing events))
+HaveNoRoom records bytes events = (records < length events) ⊎ (bytes < length (events_bytes events))
 
 -- of events that begin with what is reported of the blocks before: these were listed and told, some more were listed, and at the
 -- next one the sink failed in the midst of its line, or its line was written, and the room is too small for it and those some

@@ -1,21 +1,16 @@
-//! Takes what is reported of a capture: it lists each event, and keeps a record of it until it is told.
-ghost use Rattle.std.specs.Prelude.{◌≡◌, ◌≤◌, [], ◌∷◌, map, OnOk, OnErr};
-ghost use Rattle.std.specs.Io.KnownBytes.{Appends};
-ghost use Rattle.period_grammar.specs.Events.{event_of, at};
+//! Takes what is told of a capture: it lists it, and keeps a record of it until it is told on.
+ghost use Rattle.std.specs.Prelude.{◌≡◌, [], ◌∷◌, OnOk, OnErr};
 ghost use Rattle.period_grammar.specs.Lending.{lent_event};
-ghost use Rattle.period_grammar.specs.Sizes.{IsSized};
-ghost use Rattle.link_sink.specs.Ears.{both_alone};
-ghost use Rattle.listing_writer.specs.Texts.{lines_of, fault_lines, counted};
-ghost use Rattle.c_room.specs.Written.{link_writing, HasTaken};
-ghost use Rattle.page.specs.Ears.{StopsAt, seen};
+ghost use Rattle.link_sink.specs.Told.{lent_told, IsToldSized};
+ghost use Rattle.page.specs.Ears.{HasListed, StopsAt, seen};
 
 use c_room::{EventRoom, Record};
-use link_sink::Ear;
+use link_sink::{Ear, ToldRef};
 use listing_writer::LinkLister;
 use outside_io::{Failed, Sink};
 use period_grammar::EventRef;
 
-/// Lists each event that is reported to it, and writes a record of it.
+/// Lists what it is told, and writes a record of it.
 #[derive(Drop)]
 pub struct PageEar<'a, K: Sink> {
     pub(crate) lister: LinkLister<'a, K>,
@@ -39,28 +34,52 @@ impl<'a, K: Sink> PageEar<'a, K> {
         }
     }
 
-    /// Lists an event and writes its record.
-    fn hear_both(&mut self, column: u64, event: EventRef<'_>) -> Result<(), Failed>
-        requires { IsSized (lent_event event) }
+    /// Lists what is told and writes its record.
+    fn hear_both(&mut self, told: ToldRef<'_>) -> Result<(), Failed>
+        requires { IsToldSized (lent_told told) }
         ensures failed { self.new.failed ≡ self.old.failed }
         ensures same { self.new.lister.sink.ghost_name ≡ self.old.lister.sink.ghost_name }
-        ensures faults { OnOk result (self.new.lister.faults ≡ counted self.old.lister.faults (fault_lines (lent_event event.entry ∷ []))) }
-        ensures listed { OnOk result (Appends (K.held self.old.lister.sink.now) (K.held self.new.lister.sink.now) (lines_of (lent_event event.entry ∷ []))) }
-        ensures later { K.faults self.old.lister.sink.now ≤ K.faults self.new.lister.sink.now }
-        ensures room { OnOk result (HasTaken link_writing self.old.room self.new.room (at column (lent_event event.entry) ∷ [])) }
-        ensures stopped { OnErr result (StopsAt (seen K.held K.faults self.old) (seen K.held K.faults self.new) (lent_event event.entry)) }
+        ensures listed { OnOk result (HasListed (seen K.held K.faults self.old) (seen K.held K.faults self.new) (lent_told told.entry ∷ [])) }
+        ensures stopped { OnErr result (StopsAt (seen K.held K.faults self.old) (seen K.held K.faults self.new) (lent_told told.entry)) }
     {
-        let (first, second) = twice(event);
-        let kept = self.room.hear(column, first);
-        match self.lister.hear(column, second) {
+        let (first, second) = twice(told);
+        let kept = self.room.hear(first);
+        match self.lister.hear(second) {
             Ok(()) => kept,
             Err(e) => Err(e),
         }
     }
 }
 
+/// The same again.
+fn twice<'a>(told: ToldRef<'a>) -> (ToldRef<'a>, ToldRef<'a>)
+    ensures first { lent_told result.0 ≡ lent_told told.entry }
+    ensures second { lent_told result.1 ≡ lent_told told.entry }
+{
+    match told {
+        ToldRef::Event { column, event } => {
+            let (first, second) = twice_event(event);
+            (
+                ToldRef::Event {
+                    column,
+                    event: first,
+                },
+                ToldRef::Event {
+                    column,
+                    event: second,
+                },
+            )
+        }
+        ToldRef::Slip { lane, place } => {
+            (ToldRef::Slip { lane, place }, ToldRef::Slip { lane, place })
+        }
+        ToldRef::Relock { place } => (ToldRef::Relock { place }, ToldRef::Relock { place }),
+        ToldRef::Aligned { places } => (ToldRef::Aligned { places }, ToldRef::Aligned { places }),
+    }
+}
+
 /// The same event again.
-fn twice<'a>(event: EventRef<'a>) -> (EventRef<'a>, EventRef<'a>)
+fn twice_event<'a>(event: EventRef<'a>) -> (EventRef<'a>, EventRef<'a>)
     ensures first { lent_event result.0 ≡ lent_event event.entry }
     ensures second { lent_event result.1 ≡ lent_event event.entry }
 {
@@ -83,29 +102,22 @@ fn twice<'a>(event: EventRef<'a>) -> (EventRef<'a>, EventRef<'a>)
 
 impl<'a, K: Sink> Ear for PageEar<'a, K> {
     ghost use Rattle.std.proofs.Common.{refl, ◌∙◌};
-    ghost use Rattle.c_room.specs.WrittenLaws.{taken_none, taken_both};
     ghost use Rattle.page.specs.Ears.{HasListed, StopsAt, listed_none, listed_both, seen};
 
     ghost faults = { λ e. e.failed };
 
-    // The sink grew by the lines of the events, and the count by their fault lines.
-    ghost took = { λ x y events.
+    // The sink grew by the lines, the count by those of faults, and the records were written, too.
+    ghost took = { λ x y told.
         (y.lister.sink.ghost_name ≡ x.lister.sink.ghost_name)
-        × HasListed (seen K.held K.faults x) (seen K.held K.faults y) events };
-
-    // Their records were written, too.
-    ghost took_at = { λ x y events.
-        ((y.lister.sink.ghost_name ≡ x.lister.sink.ghost_name)
-        × HasListed (seen K.held K.faults x) (seen K.held K.faults y) (map event_of events))
-        × HasTaken link_writing x.room y.room events };
+        × HasListed (seen K.held K.faults x) (seen K.held K.faults y) told };
 
     // The sink failed, or there was no room.
-    ghost broke = { λ x y event.
+    ghost broke = { λ x y t.
         (y.lister.sink.ghost_name ≡ x.lister.sink.ghost_name)
-        × StopsAt (seen K.held K.faults x) (seen K.held K.faults y) event };
+        × StopsAt (seen K.held K.faults x) (seen K.held K.faults y) t };
 
-    fn hear(&mut self, column: u64, event: EventRef<'_>) -> Result<(), Failed> {
-        match self.hear_both(column, event) {
+    fn hear(&mut self, told: ToldRef<'_>) -> Result<(), Failed> {
+        match self.hear_both(told) {
             Ok(()) => Ok(()),
             Err(e) => {
                 self.failed = self.failed.saturating_add(1);
@@ -120,16 +132,4 @@ impl<'a, K: Sink> Ear for PageEar<'a, K> {
       then.0 ∙ first.0,
       listed_both (seen K.held K.faults x) (seen K.held K.faults y) (seen K.held K.faults z) h k first.1 then.1,
     ) };
-
-    ghost took_none_at = { λ x. ((refl, listed_none (seen K.held K.faults x)), taken_none link_writing x.room) };
-
-    ghost took_both_at = { λ x y z h k first then. (
-      (
-        then.0.0 ∙ first.0.0,
-        both_alone (λ events. HasListed (seen K.held K.faults x) (seen K.held K.faults z) events) h k (listed_both (seen K.held K.faults x) (seen K.held K.faults y) (seen K.held K.faults z) (map event_of h) (map event_of k) first.0.1 then.0.1),
-      ),
-      taken_both link_writing x.room y.room z.room h k first.1 then.1,
-    ) };
-
-    ghost forgets = { λ x y events t. t.0 };
 }

@@ -1,9 +1,13 @@
 -- What a tracker reported is the beginning of what is reported of any bits that go on with those that it was fed.
-use Rattle.std.proofs.Common.{◌≡◌, ◌⊎◌, ℕ, ◌+◌, ◌<◌, ◌≤◌, Bool, ◌||◌, false, List, [], ◌++◌, length, ap, ◌∙◌, sym, subst, arith, inl, inr, append_assoc, append-nil, length-drop}
+use Rattle.std.proofs.Common.{◌≡◌, ◌⊎◌, ℕ, ◌+◌, ◌<◌, ◌≤◌, Bool, ◌||◌, false, List, [], ◌++◌, length, map, ap, ◌∙◌, sym, subst, arith, inl, inr, append_assoc, append-nil, length-drop}
 use Rattle.std.proofs.lemmas.Bool.{cases_lt}
+use Rattle.std.proofs.lemmas.List.{map-append}
 use Rattle.terc4.specs.Columns.{one_if}
-use Rattle.period_grammar.specs.Events.{Event}
+use Rattle.tmds_word.specs.Column.{Column}
+use Rattle.period_grammar.specs.Events.{Event, event_of}
 use Rattle.link_sink.specs.Alignment.{AreReported}
+use Rattle.link_sink.specs.Grammar.{link_grammar}
+use Rattle.link_sink.specs.LinkHearing.{reported_more}
 use Rattle.link_sink.specs.Sinks.{Fed, IsReportedSoFar}
 use Rattle.track_sink.specs.TrackEvents.{TrackEvent, track_events_of, end_events}
 use Rattle.track_sink.specs.Epochs.{EpochRule, stray_rule, stray_ends, lane_of, most_of, rest_of, front_of, HasNoEnd, IsTrackedBy, IsTrackBy, IsTrack, last_epoch, more_epochs}
@@ -15,10 +19,14 @@ use Rattle.track_sink.specs.declared.watch.Cause.TheVariants.{Slip, Unconfirmed,
 use Rattle.track_sink.specs.Feds.{no_longer, longest_is, fronts_stay, rest_grows, whole_front}
 use Rattle.track_sink.specs.Staying.{was_stray}
 use Rattle.track_sink.proofs.Following.{track_events_both}
-use Rattle.track_sink.proofs.Failing.{some_last}
+use Rattle.track_sink.proofs.Columns.{some_last}
 use Rattle.track_sink.proofs.Reaching.{some_gain, some_track}
 use Rattle.track_laws.specs.Laws.{IsShown}
 use Rattle.track_laws.proofs.One.{one_track_by}
+
+-- what is reported of columns is reported whatever follows them, also without the columns
+more_alone : (cs ds : List Column) → (us : List Event) × (link_grammar.so_far (cs ++ ds) ≡ link_grammar.so_far cs ++ us)
+more_alone cs ds = let more = reported_more cs ds in (map event_of more.0, ap (map event_of) more.1 ∙ map-append event_of (link_grammar.so_far_at cs) more.0)
 
 -- it has handed on nothing, or no more than is there, and nothing that can be of a next epoch
 handed_within : {r : EpochRule} (fed : Fed) (start handed : ℕ) (begun : Bool) (reported : List TrackEvent) → TracksBy r fed start handed begun reported
@@ -75,7 +83,7 @@ module _ {r : EpochRule} (is : IsRule r) (shown : IsShown r) (fed later : Fed) (
   by_end : ((cause : Cause) × (place : ℕ) × r.ends (rest_of start later) cause place) ⊎ r.none (rest_of start later) → (epochs aligned : ℕ) × (more : List TrackEvent) × IsTrackBy r later epochs aligned (reported ++ more)
   by_end (inl h) =
       let le = end_after shown fed later start handed begun reported h.0 h.1 t grows h.2 in
-      let us = some_gain (rest_of start later) handed h.1 le in
+      let us = some_gain link_grammar.so_far more_alone (rest_of start later) handed h.1 le in
       let here = us.1 t.events so_far in
       let last = some_last (front_of h.1 (rest_of start later)) (t.events ++ us.0) here in
       let are = last.2 (t.events ++ us.0) here in
@@ -86,7 +94,7 @@ module _ {r : EpochRule} (is : IsRule r) (shown : IsShown r) (fed later : Fed) (
       begins (1 + rest.0) (one_if last.0.aligned + rest.1) (us.0 ++ last.1) tail (subst Q (append_assoc t.events us.0 last.1) tracked)
   by_end (inr never) =
       let n = handed + most_of later in
-      let us = some_gain (rest_of start later) handed n (omega arith) in
+      let us = some_gain link_grammar.so_far more_alone (rest_of start later) handed n (omega arith) in
       let here = us.1 t.events so_far in
       let last = some_last (front_of n (rest_of start later)) (t.events ++ us.0) here in
       let all = whole_front later start n (omega arith) in

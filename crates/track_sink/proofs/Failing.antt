@@ -1,123 +1,97 @@
 -- What was reported to an ear where it failed: the first events of those that were to be reported.
-use Rattle.std.proofs.Common.{◌≡◌, ◌↔◌, ℕ, ◌+◌, ◌-◌, ◌*◌, ◌/◌, ◌%◌, ◌≤◌, max, Bool, true, false, ◌||◌, List, [], ◌∷◌, ◌++◌, length, refl, ap, ◌∙◌, sym, subst, arith, inl, inr, append_assoc, append-nil}
+use Rattle.std.proofs.Common.{◌≡◌, ℕ, ◌+◌, ◌-◌, ◌*◌, ◌/◌, ◌%◌, ◌≤◌, max, Bool, true, ◌||◌, List, [], ◌∷◌, ◌++◌, length, refl, ap, ◌∙◌, sym, subst, arith, inl, inr, append_assoc}
 use Rattle.std.specs.Prelude.{Result, Ok, Err, OnErr}
 use Rattle.std.proofs.lemmas.List.{map-append}
 use Rattle.lane_align.specs.declared.TheConstants.{FEED_BITS}
 use Rattle.terc4.specs.Columns.{one_if}
-use Rattle.lane_deskew.specs.Aligned.{aligned_columns}
-use Rattle.period_grammar.specs.Events.{Event}
+use Rattle.period_grammar.specs.Events.{EventAt}
+use Rattle.link_sink.specs.Told.{Told, told_events, TookAt, BrokeAt}
 use Rattle.link_sink.specs.Ears.{StopsIn}
 use Rattle.link_sink.specs.Grammar.{link_grammar}
-use Rattle.link_sink.specs.LinkHearing.{link_is_grammar}
-use Rattle.link_sink.specs.Sinks.{Fed, IsReportedSoFar, IsGain, IsLast}
+use Rattle.link_sink.specs.Sinks.{Fed, IsGainAt}
 use Rattle.link_sink.specs.declared.hear.Outcome.{Outcome}
-use Rattle.link_sink.proofs.Following.{reported_one, reported_at_first}
-use Rattle.track_sink.specs.TrackEvents.{TrackEvent, event, slip, relock, track_events_of, slip_if, relock_if, end_events}
-use Rattle.track_sink.specs.Epochs.{EpochRule, most_of, rest_of, front_of, IsTrackBy}
+use Rattle.link_sink.proofs.Stops.{stops_after}
+use Rattle.track_sink.specs.TrackEvents.{event, slip, relock, track_events_of, slip_if, relock_if, end_events}
+use Rattle.track_sink.specs.Epochs.{EpochRule, at_columns, most_of, rest_of, front_of, IsTrackAt}
 use Rattle.track_sink.specs.Rules.{IsRule, IsWatch}
-use Rattle.track_sink.specs.Trackers.{HasReported, Carries, HasLooked, CanClose, CanTurn, IsSettled, Stops, Passes}
+use Rattle.track_sink.specs.Trackers.{HasReportedAt, Carries, HasLooked, CanClose, CanTurn, IsSettled, Passes}
 use Rattle.track_sink.specs.declared.tracker.Tracker.{Tracker}
 use Rattle.track_sink.specs.declared.watch.Cause.{Cause}
 use Rattle.track_sink.specs.declared.watch.End.{End}
 use Rattle.track_sink.specs.Feds.{most_rest}
-use Rattle.track_sink.proofs.Following.{follows_handed, follows_closed}
+use Rattle.track_sink.proofs.Columns.{none_told, some_ends}
+use Rattle.track_sink.proofs.Following.{Ends, follows_handed, follows_closed}
 use Rattle.track_sink.proofs.Turning.{end_place}
-use Rattle.track_sink.proofs.Settling.{can_settle, tracks_all}
+use Rattle.track_sink.proofs.Settling.{can_settle, tells_all}
 
 -- what was reported to an ear that failed, of bits that were handed on, of some of them, of more events, and at the end
-abbrev pub LostGain : {A : Type 0} → (A → A → List Event → Type 0) → (A → A → Event → Type 0) → A → A → Fed → ℕ → ℕ → Type 0
-LostGain took broke x z fed from upto = (events : List Event) × IsGain (front_of from fed) (front_of upto fed) events × StopsIn took broke x z events
+abbrev pub LostGain : {A : Type 0} → (A → A → List EventAt → Type 0) → (A → A → EventAt → Type 0) → A → A → Fed → ℕ → ℕ → Type 0
+LostGain took broke x z fed from upto = (events : List EventAt) × IsGainAt link_grammar (front_of from fed) (front_of upto fed) events × StopsIn took broke x z events
 
-abbrev pub LostSome : {A : Type 0} → (A → A → List Event → Type 0) → (A → A → Event → Type 0) → A → A → Fed → ℕ → ℕ → Type 0
-LostSome took broke x z fed from bits = (some : ℕ) × (some ≤ bits) × (events : List Event) × IsGain (front_of from fed) (front_of (from + some) fed) events × StopsIn took broke x z events
+abbrev pub LostSome : {A : Type 0} → (A → A → List EventAt → Type 0) → (A → A → EventAt → Type 0) → A → A → Fed → ℕ → ℕ → Type 0
+LostSome took broke x z fed from bits = (some : ℕ) × (some ≤ bits) × (events : List EventAt) × IsGainAt link_grammar (front_of from fed) (front_of (from + some) fed) events × StopsIn took broke x z events
 
 -- where all of them were handed on at once
-pub lost_some : {A T E : Type 0} (took : A → A → List Event → Type 0) (broke : A → A → Event → Type 0) (x z : A) (fed : Fed) (from bits : ℕ) (r : Result T E)
+pub lost_some : {A T E : Type 0} (took : A → A → List EventAt → Type 0) (broke : A → A → EventAt → Type 0) (x z : A) (fed : Fed) (from bits : ℕ) (r : Result T E)
     → OnErr r (LostGain took broke x z fed from (from + bits)) → OnErr r (LostSome took broke x z fed from bits)
 lost_some took broke x z fed from bits (Ok y) lost = tt
 lost_some took broke x z fed from bits (Err e) lost = (bits, omega arith, lost.0, lost.1, lost.2)
 
-abbrev pub LostMore : EpochRule → {A : Type 0} → (A → A → List TrackEvent → Type 0) → (A → A → TrackEvent → Type 0) → A → A → Fed → List TrackEvent → Type 0
-LostMore r tracked lost x z fed reported = (more : List TrackEvent) × Stops tracked lost x z more × Passes r fed (reported ++ more)
+abbrev pub LostMore : EpochRule → {A : Type 0} → (A → A → List Told → Type 0) → (A → A → Told → Type 0) → A → A → Fed → List Told → Type 0
+LostMore r took broke x z fed reported = (more : List Told) × StopsIn took broke x z more × Passes r fed (reported ++ more)
 
-abbrev pub LostLast : EpochRule → {A : Type 0} → (A → A → List TrackEvent → Type 0) → (A → A → TrackEvent → Type 0) → A → A → Fed → List TrackEvent → Type 0
-LostLast r tracked lost x z fed reported = (epochs aligned : ℕ) × (last : List TrackEvent) × Stops tracked lost x z last × IsTrackBy r fed epochs aligned (reported ++ last)
+abbrev pub LostLast : EpochRule → {A : Type 0} → (A → A → List Told → Type 0) → (A → A → Told → Type 0) → A → A → Fed → List Told → Type 0
+LostLast r took broke x z fed reported = (epochs aligned : ℕ) × (last : List Told) × StopsIn took broke x z last × IsTrackAt r fed epochs aligned (reported ++ last)
 
 -- it failed in what is reported alone
-stops_alone : {A T E : Type 0} (tracked : A → A → List TrackEvent → Type 0) (lost : A → A → TrackEvent → Type 0) → ((x : A) → tracked x x []) → (x z : A) (t : TrackEvent) (told : List TrackEvent) (r : Result T E) → told ≡ t ∷ []
-    → OnErr r (lost x z t) → OnErr r (Stops tracked lost x z told)
-stops_alone tracked lost none x z t told (Ok y) are l = tt
-stops_alone tracked lost none x z t told (Err e) are l = record {
+stops_alone : {A T E : Type 0} (took : A → A → List Told → Type 0) (broke : A → A → Told → Type 0) → ((x : A) → took x x []) → (x z : A) (t : Told) (told : List Told) (r : Result T E) → told ≡ t ∷ []
+    → OnErr r (broke x z t) → OnErr r (StopsIn took broke x z told)
+stops_alone took broke none x z t told (Ok y) are l = tt
+stops_alone took broke none x z t told (Err e) are l = record {
   taken = [];
   next = t;
   rest = [];
-  track_events_are = are;
+  events_are = are;
   between = x;
   took_some = none x;
-  lost_then = l;
+  broke_then = l;
 }
 
 -- in a slip, where one is reported
-pub stops_slip : {A T E : Type 0} (tracked : A → A → List TrackEvent → Type 0) (lost : A → A → TrackEvent → Type 0) → ((x : A) → tracked x x []) → (x z : A) (begun : Bool) (lane place : ℕ) (r : Result T E) → begun ≡ true
-    → OnErr r (lost x z (slip lane place)) → OnErr r (Stops tracked lost x z (slip_if begun lane place))
-stops_slip tracked lost none x z begun lane place r some l = stops_alone tracked lost none x z (slip lane place) (slip_if begun lane place) r (ap (λ b. slip_if b lane place) some) l
+pub stops_slip : {A T E : Type 0} (took : A → A → List Told → Type 0) (broke : A → A → Told → Type 0) → ((x : A) → took x x []) → (x z : A) (begun : Bool) (lane place : ℕ) (r : Result T E) → begun ≡ true
+    → OnErr r (broke x z (slip lane place)) → OnErr r (StopsIn took broke x z (slip_if begun lane place))
+stops_slip took broke none x z begun lane place r some l = stops_alone took broke none x z (slip lane place) (slip_if begun lane place) r (ap (λ b. slip_if b lane place) some) l
 
 -- in a refuted alignment, where one is reported
-pub stops_relock : {A T E : Type 0} (tracked : A → A → List TrackEvent → Type 0) (lost : A → A → TrackEvent → Type 0) → ((x : A) → tracked x x []) → (x z : A) (begun : Bool) (place : ℕ) (r : Result T E) → begun ≡ true
-    → OnErr r (lost x z (relock place)) → OnErr r (Stops tracked lost x z (relock_if begun place))
-stops_relock tracked lost none x z begun place r some l = stops_alone tracked lost none x z (relock place) (relock_if begun place) r (ap (λ b. relock_if b place) some) l
+pub stops_relock : {A T E : Type 0} (took : A → A → List Told → Type 0) (broke : A → A → Told → Type 0) → ((x : A) → took x x []) → (x z : A) (begun : Bool) (place : ℕ) (r : Result T E) → begun ≡ true
+    → OnErr r (broke x z (relock place)) → OnErr r (StopsIn took broke x z (relock_if begun place))
+stops_relock took broke none x z begun place r some l = stops_alone took broke none x z (relock place) (relock_if begun place) r (ap (λ b. relock_if b place) some) l
 
-module _ {A : Type 0} (took : A → A → List Event → Type 0) (broke : A → A → Event → Type 0) (tracked : A → A → List TrackEvent → Type 0) (lost : A → A → TrackEvent → Type 0)
-    (events : (x y : A) (h : List Event) → took x y h ↔ tracked x y (track_events_of h)) (lost_event : (x y : A) (t : Event) → broke x y t ↔ lost x y (event t))
-    (both : (x y z : A) (h k : List TrackEvent) → tracked x y h → tracked y z k → tracked x z (h ++ k)) where
+module _ {A : Type 0} (took : A → A → List Told → Type 0) (broke : A → A → Told → Type 0) (both : (x y z : A) (h k : List Told) → took x y h → took y z k → took x z (h ++ k)) where
   -- it broke in an event
-  pub stops_events : (x z : A) (us : List Event) → StopsIn took broke x z us → Stops tracked lost x z (track_events_of us)
+  pub stops_events : (x z : A) (us : List EventAt) → StopsIn (TookAt took) (BrokeAt broke) x z us → StopsIn took broke x z (told_events us)
   stops_events x z us s = record {
-    taken = track_events_of s.taken;
+    taken = told_events s.taken;
     next = event s.next;
-    rest = track_events_of s.rest;
-    track_events_are = ap track_events_of s.events_are ∙ map-append event s.taken (s.next ∷ s.rest);
-    between = s.between;
-    took_some = (events x s.between s.taken).0 s.took_some;
-    lost_then = (lost_event s.between z s.next).0 s.broke_then;
-  }
-
-  -- with other events after
-  pub stops_before : (x z : A) (es fs : List TrackEvent) → Stops tracked lost x z es → Stops tracked lost x z (es ++ fs)
-  stops_before x z es fs s = record {
-    taken = s.taken;
-    next = s.next;
-    rest = s.rest ++ fs;
-    track_events_are = ap (λ us. us ++ fs) s.track_events_are ∙ append_assoc s.taken (s.next ∷ s.rest) fs;
+    rest = told_events s.rest;
+    events_are = ap told_events s.events_are ∙ map-append event s.taken (s.next ∷ s.rest);
     between = s.between;
     took_some = s.took_some;
-    lost_then = s.lost_then;
-  }
-
-  -- after other events
-  pub stops_after : (x y z : A) (es fs : List TrackEvent) → tracked x y es → Stops tracked lost y z fs → Stops tracked lost x z (es ++ fs)
-  stops_after x y z es fs t s = record {
-    taken = es ++ s.taken;
-    next = s.next;
-    rest = s.rest;
-    track_events_are = ap (λ us. es ++ us) s.track_events_are ∙ sym (append_assoc es s.taken (s.next ∷ s.rest));
-    between = s.between;
-    took_some = both x y s.between es s.taken t s.took_some;
-    lost_then = s.lost_then;
+    broke_then = s.broke_then;
   }
 
   -- in what is reported of an end, after events
-  pub stops_then : (x y z : A) (us : List Event) (begun said : Bool) (cause : Cause) (place where_to : ℕ) → begun ≡ said → place ≡ where_to → took x y us → Stops tracked lost y z (end_events begun cause place)
-      → Stops tracked lost x z (track_events_of us ++ end_events said cause where_to)
+  pub stops_then : (x y z : A) (us : List EventAt) (begun said : Bool) (cause : Cause) (place where_to : ℕ) → begun ≡ said → place ≡ where_to → TookAt took x y us → StopsIn took broke y z (end_events begun cause place)
+      → StopsIn took broke x z (told_events us ++ end_events said cause where_to)
   stops_then x y z us begun said cause place where_to eb ep t s =
-      let P : Bool → Type 0 = λ b. Stops tracked lost x z (track_events_of us ++ end_events b cause place) in
-      let Q : ℕ → Type 0 = λ n. Stops tracked lost x z (track_events_of us ++ end_events said cause n) in
-      subst Q ep (subst P eb (stops_after x y z (track_events_of us) (end_events begun cause place) ((events x y us).0 t) s))
+      let P : Bool → Type 0 = λ b. StopsIn took broke x z (told_events us ++ end_events b cause place) in
+      let Q : ℕ → Type 0 = λ n. StopsIn took broke x z (told_events us ++ end_events said cause n) in
+      subst Q ep (subst P eb (stops_after took broke both x y z (told_events us) (end_events begun cause place) t s))
 
 -- Bits of an epoch that ends.
 
-pub passes_close : {r : EpochRule} → IsRule r → (t : Tracker) (fed : Fed) (end : End) (reported : List TrackEvent) (some : ℕ) (us : List Event) → CanClose r t fed end → some ≤ end.place - t.handed
-    → IsGain (front_of t.handed (rest_of t.start fed)) (front_of (t.handed + some) (rest_of t.start fed)) us → HasReported r t fed reported
+pub passes_close : {r : EpochRule} → IsRule r → (t : Tracker) (fed : Fed) (end : End) (reported : List Told) (some : ℕ) (us : List EventAt) → CanClose r t fed end → some ≤ end.place - t.handed
+    → IsGainAt link_grammar (front_of t.handed (rest_of t.start fed)) (front_of (t.handed + some) (rest_of t.start fed)) us → HasReportedAt r t fed reported
     → Passes r fed (reported ++ track_events_of us)
 passes_close is t fed end reported some us can few gain was =
     let within = can.carries.within in
@@ -136,8 +110,8 @@ passes_close is t fed end reported some us can few gain was =
     }
 
 -- the end of an epoch
-pub passes_turn : {r : EpochRule} → IsRule r → (t : Tracker) (fed : Fed) (end : End) (reported : List TrackEvent) (outcome : Outcome) (last : List Event) → CanTurn r t fed end
-    → IsLast (front_of t.handed (rest_of t.start fed)) outcome last → HasReported r t fed reported
+pub passes_turn : {r : EpochRule} → IsRule r → (t : Tracker) (fed : Fed) (end : End) (reported : List Told) (outcome : Outcome) (last : List EventAt) → CanTurn r t fed end
+    → Ends at_columns (front_of t.handed (rest_of t.start fed)) outcome last → HasReportedAt r t fed reported
     → Passes r fed (reported ++ (track_events_of last ++ end_events (t.begun || outcome.aligned) end.cause (t.start + t.handed)))
 passes_turn {r} is t fed end reported outcome last can is_last was =
     let within = can.carries.within in
@@ -148,16 +122,16 @@ passes_turn {r} is t fed end reported outcome last can is_last was =
       begun = t.begun || outcome.aligned;
       epochs = t.epochs + 1;
       aligned = t.aligned + one_if outcome.aligned;
-      follows = follows_closed reported_at_first is fed t.start t.handed end.cause t.begun t.epochs t.aligned reported outcome last (omega arith) ends is_last was;
+      follows = follows_closed none_told is fed t.start t.handed end.cause t.begun t.epochs t.aligned reported outcome last (omega arith) ends is_last was;
       reached = omega arith;
       before = λ cause p here. omega arith;
       early = inl (refl, inl refl);
     }
 
 -- bits of an epoch that goes on
-pub passes_settle : {W : Type 0} {r : EpochRule} {looked : W → Fed → Type 0} {passed : W → ℕ} → IsRule r → IsWatch r looked passed → (t : Tracker) (w : W) (fed : Fed) (reported : List TrackEvent) (us : List Event) → Carries t fed → HasLooked looked passed t w fed → t.handed % 8 ≡ 0
+pub passes_settle : {W : Type 0} {r : EpochRule} {looked : W → Fed → Type 0} {passed : W → ℕ} → IsRule r → IsWatch r looked passed → (t : Tracker) (w : W) (fed : Fed) (reported : List Told) (us : List EventAt) → Carries t fed → HasLooked looked passed t w fed → t.handed % 8 ≡ 0
     → most_of fed ≤ t.start + t.handed + (FEED_BITS + (r.back + 7))
-    → IsGain (front_of t.handed (rest_of t.start fed)) (front_of (t.handed + (passed w / 8 * 8 - t.handed)) (rest_of t.start fed)) us → HasReported r t fed reported
+    → IsGainAt link_grammar (front_of t.handed (rest_of t.start fed)) (front_of (t.handed + (passed w / 8 * 8 - t.handed)) (rest_of t.start fed)) us → HasReportedAt r t fed reported
     → Passes r fed (reported ++ track_events_of us)
 passes_settle {W} {r} {looked} {passed} is watch t w fed reported us c looked_on whole room gain was =
     let can = can_settle is watch t w fed c looked_on whole room in
@@ -176,50 +150,28 @@ passes_settle {W} {r} {looked} {passed} is watch t w fed reported us c looked_on
       early = inl (ap (λ n. n % 8) reach ∙ omega arith, elim (watch.reaches w (rest_of t.start fed) looked_on.looked_at) [ inl none ↦ inl (omega arith) | inr far ↦ inr (omega arith) ]);
     }
 
-pub passes_then : {r : EpochRule} (fed : Fed) (reported us vs : List TrackEvent) → Passes r fed ((reported ++ us) ++ vs) → Passes r fed (reported ++ (us ++ vs))
-passes_then {r} fed reported us vs p = let P : List TrackEvent → Type 0 = λ es. Passes r fed es in subst P (append_assoc reported us vs) p
+pub passes_then : {r : EpochRule} (fed : Fed) (reported us vs : List Told) → Passes r fed ((reported ++ us) ++ vs) → Passes r fed (reported ++ (us ++ vs))
+passes_then {r} fed reported us vs p = let P : List Told → Type 0 = λ es. Passes r fed es in subst P (append_assoc reported us vs) p
 
 -- The end.
 
--- where something has been reported of bits, something is reported at the end
-pub some_last : (fed : Fed) (reported : List Event) → IsReportedSoFar fed reported → (outcome : Outcome) × (last : List Event) × IsLast fed outcome last
-some_last fed reported (inl a) =
-    let cs = aligned_columns fed.blue fed.green fed.red a.0 a.1 a.2 in
-    let more = link_is_grammar.ended cs in (
-      record { aligned = true; columns = length cs },
-      more.0,
-      λ us h. record {
-        blue = a.0;
-        green = a.1;
-        red = a.2;
-        first = a.3;
-        columns_are = refl;
-        reported = ap (λ ts. ts ++ more.0) (reported_one link_grammar fed us reported h (inl a) ∙ a.4) ∙ sym more.1;
-      },
-    )
-some_last fed reported (inr a) = (
-  record { aligned = false; columns = 0 },
-  [],
-  λ us h. record { nowhere = a.0; columns_are = refl; reported = append-nil us ∙ reported_one link_grammar fed us reported h (inr a) ∙ a.1 },
-)
-
 -- what is reported at the end, of all bits once they are handed on
-pub tracks_some : {W : Type 0} {r : EpochRule} {looked : W → Fed → Type 0} {passed : W → ℕ} (t : Tracker) (w : W) (fed : Fed) (reported : List TrackEvent) (us : List Event) (longest : ℕ) → IsSettled r looked passed t w fed reported
+pub tracks_some : {W : Type 0} {r : EpochRule} {looked : W → Fed → Type 0} {passed : W → ℕ} (t : Tracker) (w : W) (fed : Fed) (reported : List Told) (us : List EventAt) (longest : ℕ) → IsSettled r looked passed t w fed reported
     → longest ≡ max (length t.lanes.blue.held.bits) (max (length t.lanes.green.held.bits) (length t.lanes.red.held.bits))
-    → IsGain (front_of t.handed (rest_of t.start fed)) (front_of (t.handed + longest) (rest_of t.start fed)) us
-    → (epochs aligned : ℕ) × (last : List Event) × IsTrackBy r fed epochs aligned (reported ++ track_events_of (us ++ last))
+    → IsGainAt link_grammar (front_of t.handed (rest_of t.start fed)) (front_of (t.handed + longest) (rest_of t.start fed)) us
+    → (epochs aligned : ℕ) × (last : List EventAt) × IsTrackAt r fed epochs aligned (reported ++ track_events_of (us ++ last))
 tracks_some t w fed reported us longest settled most gain =
     let f = settled.stands.follows in
     let u : Tracker = record t { handed = t.handed + longest } in
-    let last = some_last (front_of (t.handed + longest) (rest_of t.start fed)) (f.events ++ us) (gain f.events f.so_far) in
+    let last = some_ends (front_of (t.handed + longest) (rest_of t.start fed)) (f.events ++ us) (gain f.events f.so_far) in
     let v : Tracker = record u { epochs = u.epochs + 1; aligned = u.aligned + one_if last.0.aligned } in
-    (v.epochs, v.aligned, last.1, tracks_all t u v w fed reported last.0 us last.1 longest settled most gain last.2 refl refl refl refl refl refl refl)
+    (v.epochs, v.aligned, last.1, tells_all t u v w fed reported last.0 us last.1 longest settled most gain last.2 refl refl refl refl refl refl refl)
 
-pub tracks_last : {W : Type 0} {r : EpochRule} {looked : W → Fed → Type 0} {passed : W → ℕ} (t u : Tracker) (w : W) (fed : Fed) (reported : List TrackEvent) (outcome : Outcome) (us last : List Event) (longest : ℕ) → IsSettled r looked passed t w fed reported
+pub tracks_last : {W : Type 0} {r : EpochRule} {looked : W → Fed → Type 0} {passed : W → ℕ} (t u : Tracker) (w : W) (fed : Fed) (reported : List Told) (outcome : Outcome) (us last : List EventAt) (longest : ℕ) → IsSettled r looked passed t w fed reported
     → longest ≡ max (length t.lanes.blue.held.bits) (max (length t.lanes.green.held.bits) (length t.lanes.red.held.bits))
-    → IsGain (front_of t.handed (rest_of t.start fed)) (front_of (t.handed + longest) (rest_of t.start fed)) us → IsLast (front_of u.handed (rest_of u.start fed)) outcome last
+    → IsGainAt link_grammar (front_of t.handed (rest_of t.start fed)) (front_of (t.handed + longest) (rest_of t.start fed)) us → Ends at_columns (front_of u.handed (rest_of u.start fed)) outcome last
     → u.start ≡ t.start → u.handed ≡ t.handed + longest → u.begun ≡ t.begun → u.epochs ≡ t.epochs → u.aligned ≡ t.aligned
-    → IsTrackBy r fed (u.epochs + 1) (u.aligned + one_if outcome.aligned) (reported ++ track_events_of (us ++ last))
+    → IsTrackAt r fed (u.epochs + 1) (u.aligned + one_if outcome.aligned) (reported ++ track_events_of (us ++ last))
 tracks_last t u w fed reported outcome us last longest settled most gain is_last es eh eb ee ea =
     let v : Tracker = record u { epochs = u.epochs + 1; aligned = u.aligned + one_if outcome.aligned } in
-    tracks_all t u v w fed reported outcome us last longest settled most gain is_last es eh eb ee ea refl refl
+    tells_all t u v w fed reported outcome us last longest settled most gain is_last es eh eb ee ea refl refl

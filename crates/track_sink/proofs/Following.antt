@@ -5,13 +5,15 @@ use Rattle.terc4.specs.Columns.{one_if}
 use Rattle.link_sink.specs.Sinks.{Fed}
 use Rattle.link_sink.specs.Pieces.{no_bits}
 use Rattle.link_sink.specs.declared.hear.Outcome.{Outcome}
-use Rattle.track_sink.specs.TrackEvents.{TrackEventOf, event, track_events_of, end_events}
-use Rattle.track_sink.specs.Epochs.{EpochRule, Reporting, most_of, rest_of, front_of, IsTrackedOf, IsTrackOf, last_epoch, more_epochs}
+use Rattle.link_sink.specs.Told.{ToldOf}
+use Rattle.track_sink.specs.TrackEvents.{event, track_events_of, end_events}
+use Rattle.track_sink.specs.Epochs.{EpochRule, Reporting, most_of, rest_of, front_of, IsTrackOf, last_epoch}
 use Rattle.track_sink.specs.Rules.{IsRule}
-use Rattle.track_sink.specs.Tracks.{Grows, IsTrackedSoFar, closed_epoch}
+use Rattle.track_sink.specs.Tracks.{Grows, IsHeardTo, IsTrackedSoFar, open_epoch}
 use Rattle.track_sink.specs.Trackers.{FollowsOf}
 use Rattle.track_sink.specs.declared.watch.Cause.{Cause}
-use Rattle.track_sink.specs.Feds.{rest_of_rest, grows_twice, fronts_stay, rest_grows, whole_front, same_grows, most_rest}
+use Rattle.track_sink.specs.Feds.{grows_twice, fronts_stay, whole_front, same_grows, most_rest}
+use Rattle.track_sink.proofs.Tracked.{one_closed}
 
 -- what is reported in addition, and what at the end
 abbrev pub Gains : {T : Type 0} → Reporting T → Fed → Fed → List T → Type 0
@@ -21,7 +23,7 @@ abbrev pub Ends : {T : Type 0} → Reporting T → Fed → Outcome → List T �
 Ends {T = T} told fed outcome last = (events : List T) → told.so_far fed events → told.whole fed outcome (events ++ last)
 
 -- more bits arrive
-pub follows_grown : {T : Type 0} {told : Reporting T} {r : EpochRule} (x y : Fed) (start handed : ℕ) (begun : Bool) (epochs aligned : ℕ) (reported : List (TrackEventOf T)) → Grows x y → start + handed ≤ most_of x
+pub follows_grown : {T : Type 0} {told : Reporting T} {r : EpochRule} (x y : Fed) (start handed : ℕ) (begun : Bool) (epochs aligned : ℕ) (reported : List (ToldOf T)) → Grows x y → start + handed ≤ most_of x
     → FollowsOf told r x start handed begun epochs aligned reported → FollowsOf told r y start handed begun epochs aligned reported
 follows_grown {T} {told} x y start handed begun epochs aligned reported grows reached f = record {
   closed = f.closed;
@@ -38,7 +40,7 @@ pub track_events_both : {T : Type 0} (us vs : List T) → track_events_of (us ++
 track_events_both us vs = map-append event us vs
 
 -- bits are handed on
-pub follows_handed : {T : Type 0} {told : Reporting T} {r : EpochRule} (fed : Fed) (start handed bits : ℕ) (begun : Bool) (epochs aligned : ℕ) (reported : List (TrackEventOf T)) (more : List T)
+pub follows_handed : {T : Type 0} {told : Reporting T} {r : EpochRule} (fed : Fed) (start handed bits : ℕ) (begun : Bool) (epochs aligned : ℕ) (reported : List (ToldOf T)) (more : List T)
     → Gains told (front_of handed (rest_of start fed)) (front_of (handed + bits) (rest_of start fed)) more
     → FollowsOf told r fed start handed begun epochs aligned reported → FollowsOf told r fed start (handed + bits) begun epochs aligned (reported ++ track_events_of more)
 follows_handed fed start handed bits begun epochs aligned reported more gain f = record {
@@ -57,7 +59,7 @@ no_front : (fed : Fed) → no_bits ≡ front_of 0 fed
 no_front fed = refl
 
 -- an epoch is closed at its end, and the next begins there
-pub follows_closed : {T : Type 0} {told : Reporting T} {r : EpochRule} → told.so_far no_bits [] → IsRule r → (fed : Fed) (start place : ℕ) (cause : Cause) (begun : Bool) (epochs aligned : ℕ) (reported : List (TrackEventOf T)) (outcome : Outcome) (last : List T)
+pub follows_closed : {T : Type 0} {told : Reporting T} {r : EpochRule} → told.so_far no_bits [] → IsRule r → (fed : Fed) (start place : ℕ) (cause : Cause) (begun : Bool) (epochs aligned : ℕ) (reported : List (ToldOf T)) (outcome : Outcome) (last : List T)
     → start ≤ most_of fed → r.ends (rest_of start fed) cause place → Ends told (front_of place (rest_of start fed)) outcome last
     → FollowsOf told r fed start place begun epochs aligned reported
     → FollowsOf told r fed (start + place) 0 (begun || outcome.aligned) (epochs + 1) (aligned + one_if outcome.aligned)
@@ -69,40 +71,12 @@ follows_closed {T} {told} {r} none is fed start place cause begun epochs aligned
     let inside = is.within (rest_of start fed) cause place end in
     let room : start + place ≤ most_of fed = let e = most_rest fed start reached in omega arith in
     let closed = f.closed ++ (track_events_of all ++ ended) in
-    let goes_on : (later : Fed) → Grows fed later → (n m : ℕ) (rest : List (TrackEventOf T)) → IsTrackedOf told r (begun || outcome.aligned) (start + place) (rest_of (start + place) later) n m rest
-    → IsTrackOf told r later (epochs + 1 + n) (aligned + one_if outcome.aligned + m) (closed ++ rest) =
-    λ later grows n m rest tracked.
-    let fronts = fronts_stay fed later start place grows room in
-    let here : told.whole (front_of place (rest_of start later)) outcome all = subst (λ (x : Fed). told.whole x outcome all) (sym fronts) are in
-    let then : IsTrackedOf told r (begun || outcome.aligned) (start + place) (rest_of place (rest_of start later)) n m rest =
-    subst (λ (x : Fed). IsTrackedOf told r (begun || outcome.aligned) (start + place) x n m rest) (sym (rest_of_rest place start later)) tracked in
-    let whole : IsTrackedOf told r begun start (rest_of start later) (1 + n) (one_if outcome.aligned + m) (track_events_of all ++ (ended ++ rest)) =
-    more_epochs begun start (rest_of start later) outcome all cause place n m rest (is.stays (rest_of start fed) (rest_of start later) cause place end (rest_grows fed later start grows reached)) here then in
-    let track = f.goes_on later grows (1 + n) (one_if outcome.aligned + m) (track_events_of all ++ (ended ++ rest)) whole in
-    let en : epochs + (1 + n) ≡ epochs + 1 + n = omega arith in
-    let am : aligned + (one_if outcome.aligned + m) ≡ aligned + one_if outcome.aligned + m = omega arith in
-    let es : f.closed ++ (track_events_of all ++ (ended ++ rest)) ≡ closed ++ rest =
-    ap (λ us. f.closed ++ us) (sym (append_assoc (track_events_of all) ended rest)) ∙ sym (append_assoc f.closed (track_events_of all ++ ended) rest) in
-    let P : ℕ → Type 0 = λ k. IsTrackOf told r later k (aligned + (one_if outcome.aligned + m)) (f.closed ++ (track_events_of all ++ (ended ++ rest))) in
-    let Q : ℕ → Type 0 = λ k. IsTrackOf told r later (epochs + 1 + n) k (f.closed ++ (track_events_of all ++ (ended ++ rest))) in
-    let R : List (TrackEventOf T) → Type 0 = λ us. IsTrackOf told r later (epochs + 1 + n) (aligned + one_if outcome.aligned + m) us in
-    subst R es (subst Q am (subst P en track)) in
-    let so_far_on : (later : Fed) → Grows fed later → (rest : List (TrackEventOf T)) → IsTrackedSoFar told r (begun || outcome.aligned) (start + place) (rest_of (start + place) later) rest → IsTrackedSoFar told r false 0 later (closed ++ rest) =
-    λ later grows rest tracked.
-    let fronts = fronts_stay fed later start place grows room in
-    let here : told.whole (front_of place (rest_of start later)) outcome all = subst (λ (x : Fed). told.whole x outcome all) (sym fronts) are in
-    let then : IsTrackedSoFar told r (begun || outcome.aligned) (start + place) (rest_of place (rest_of start later)) rest =
-    subst (λ (x : Fed). IsTrackedSoFar told r (begun || outcome.aligned) (start + place) x rest) (sym (rest_of_rest place start later)) tracked in
-    let whole : IsTrackedSoFar told r begun start (rest_of start later) (track_events_of all ++ (ended ++ rest)) =
-    closed_epoch begun start (rest_of start later) outcome all cause place rest (is.stays (rest_of start fed) (rest_of start later) cause place end (rest_grows fed later start grows reached)) here then in
-    let es : f.closed ++ (track_events_of all ++ (ended ++ rest)) ≡ closed ++ rest =
-    ap (λ us. f.closed ++ us) (sym (append_assoc (track_events_of all) ended rest)) ∙ sym (append_assoc f.closed (track_events_of all ++ ended) rest) in
-    subst (λ (us : List (TrackEventOf T)). IsTrackedSoFar told r false 0 later us) es (f.so_far_on later grows (track_events_of all ++ (ended ++ rest)) whole) in
+    let whole = one_closed is fed start place cause begun epochs aligned f.closed outcome all reached room end are (record { goes_on = f.goes_on; so_far_on = f.so_far_on }) in
     record {
       closed = closed;
       events = [];
-      goes_on = goes_on;
-      so_far_on = so_far_on;
+      goes_on = whole.goes_on;
+      so_far_on = whole.so_far_on;
       so_far = subst (λ (x : Fed). told.so_far x []) (no_front (rest_of (start + place) fed)) none;
       reported_are =
           ap (λ es. es ++ (track_events_of last ++ ended)) f.reported_are
@@ -112,7 +86,7 @@ follows_closed {T} {told} {r} none is fed start place cause begun epochs aligned
     }
 
 -- the last epoch
-pub follows_last : {T : Type 0} {told : Reporting T} {r : EpochRule} (fed : Fed) (start handed : ℕ) (begun : Bool) (epochs aligned : ℕ) (reported : List (TrackEventOf T)) (outcome : Outcome) (last : List T)
+pub follows_last : {T : Type 0} {told : Reporting T} {r : EpochRule} (fed : Fed) (start handed : ℕ) (begun : Bool) (epochs aligned : ℕ) (reported : List (ToldOf T)) (outcome : Outcome) (last : List T)
     → most_of fed ≤ start + handed → r.none (rest_of start fed) → Ends told (front_of handed (rest_of start fed)) outcome last
     → FollowsOf told r fed start handed begun epochs aligned reported
     → IsTrackOf told r fed (epochs + 1) (aligned + one_if outcome.aligned) (reported ++ track_events_of last)
@@ -124,5 +98,12 @@ follows_last {T} {told} {r} fed start handed begun epochs aligned reported outco
     let track = f.goes_on fed (same_grows fed) 1 (one_if outcome.aligned) (track_events_of events) (last_epoch begun start (rest_of start fed) outcome events none here) in
     let es : f.closed ++ track_events_of events ≡ reported ++ track_events_of last =
     ap (λ us. f.closed ++ us) (track_events_both f.events last) ∙ sym (append_assoc f.closed (track_events_of f.events) (track_events_of last)) ∙ ap (λ us. us ++ track_events_of last) (sym f.reported_are) in
-    let R : List (TrackEventOf T) → Type 0 = λ us. IsTrackOf told r fed (epochs + 1) (aligned + one_if outcome.aligned) us in
+    let R : List (ToldOf T) → Type 0 = λ us. IsTrackOf told r fed (epochs + 1) (aligned + one_if outcome.aligned) us in
     subst R es track
+
+-- an epoch that goes on
+pub follows_so_far : {T : Type 0} {told : Reporting T} {r : EpochRule} (fed : Fed) (start handed : ℕ) (begun : Bool) (epochs aligned : ℕ) (reported : List (ToldOf T)) → IsHeardTo r (rest_of start fed) handed
+    → FollowsOf told r fed start handed begun epochs aligned reported → IsTrackedSoFar told r false 0 fed reported
+follows_so_far {T} {told} {r} fed start handed begun epochs aligned reported heard f =
+    let R : List (ToldOf T) → Type 0 = λ us. IsTrackedSoFar told r false 0 fed us in
+    subst R (sym f.reported_are) (f.so_far_on fed (same_grows fed) (track_events_of f.events) (open_epoch begun start (rest_of start fed) handed f.events heard f.so_far))

@@ -11,21 +11,22 @@ use Rattle.terc4.specs.Columns.{one_if}
 use Rattle.tmds_word.specs.Column.{Column}
 use Rattle.link_sink.specs.Sinks.{Fed, grown, IsReportedOf, IsGainOf}
 use Rattle.link_sink.specs.Pieces.{no_bits}
+use Rattle.link_sink.specs.Told.{Told}
 use Rattle.link_sink.specs.Received.{CanFeed}
 use Rattle.link_sink.specs.Streams.{SinkSeen, SinkRepresents, bits_fed, most_bits}
 use Rattle.link_sink.proofs.Feeding.{length_grown}
-use Rattle.link_sink.proofs.Following.{reported_at_first}
-use Rattle.track_sink.specs.TrackEvents.{TrackEventOf, TrackEvent}
-use Rattle.track_sink.specs.Epochs.{EpochRule, Reporting, lane_of, most_of, rest_of, front_of, IsTrackOf}
+use Rattle.track_sink.specs.Epochs.{EpochRule, at_columns, lane_of, most_of, rest_of, front_of}
 use Rattle.track_sink.specs.Tracks.{Grows}
 use Rattle.track_sink.specs.Rules.{IsRule, IsWatch}
 use Rattle.track_sink.specs.Lanes.{AreFresh, AreHeld, IsReleased}
-use Rattle.track_sink.specs.Trackers.{most_fed, first_tracker, FollowsOf, HasReportedOf, HoldsRest, Carries, Stands, IsSettled, IsFirst}
+use Rattle.track_sink.specs.Trackers.{most_fed, first_tracker, Follows, HoldsRest, Carries, Stands, IsSettled, IsFirst}
 use Rattle.track_sink.specs.declared.lane.HeldLane.{HeldLane}
 use Rattle.track_sink.specs.declared.lanes.HeldLanes.{HeldLanes}
 use Rattle.track_sink.specs.declared.tracker.Tracker.{Tracker}
 use Rattle.track_sink.specs.Feds.{fronts_stay, same_fed, no_longer, rest_grows}
+use Rattle.track_sink.proofs.Columns.{none_told}
 use Rattle.track_sink.proofs.Following.{follows_grown}
+use Rattle.track_sink.proofs.Tracked.{none_closed}
 
 -- Handing on.
 
@@ -174,7 +175,7 @@ rest_taken before now given start handed most xs more reached was (inr none) is 
     }
 
 -- three lanes that take bits
-module _ {W : Type 0} {r : EpochRule} {looked : W → Fed → Type 0} {passed : W → ℕ} (watch : IsWatch r looked passed) (t : Tracker) (w : W) (fed : Fed) (reported : List TrackEvent) (a b c bits : List ℕ) (settled : IsSettled r looked passed t w fed reported)
+module _ {W : Type 0} {r : EpochRule} {looked : W → Fed → Type 0} {passed : W → ℕ} (watch : IsWatch r looked passed) (t : Tracker) (w : W) (fed : Fed) (reported : List Told) (a b c bits : List ℕ) (settled : IsSettled r looked passed t w fed reported)
     (first : CanFeed t.lanes.blue.fed (most_fed t) a (slice_index bits 0)) (second : CanFeed t.lanes.green.fed (most_fed t) b (slice_index bits 1)) (third : CanFeed t.lanes.red.fed (most_fed t) c (slice_index bits 2)) where
   abbrev now : Fed
   now = grown fed a b c bits
@@ -248,23 +249,15 @@ module _ {W : Type 0} {r : EpochRule} {looked : W → Fed → Type 0} {passed : 
 
 -- Before any bit.
 
-begin_follows : {T : Type 0} {told : Reporting T} {r : EpochRule} → told.so_far no_bits [] → FollowsOf told r no_bits 0 0 false 0 0 []
-begin_follows {T} {told} {r} none = record {
+begin_follows : {r : EpochRule} → Follows r no_bits 0 0 false 0 0 []
+begin_follows {r} = let whole = none_closed {told = at_columns} {r = r} no_bits in record {
   closed = [];
   events = [];
-  goes_on = λ later grows n m rest tracked.
-      let en : n ≡ 0 + n = omega arith in
-      let em : m ≡ 0 + m = omega arith in
-      let P : ℕ → Type 0 = λ k. IsTrackOf told r later k (0 + m) rest in
-      let Q : ℕ → Type 0 = λ k. IsTrackOf told r later n k rest in
-      subst P en (subst Q em tracked);
-  so_far_on = λ later grows rest tracked. tracked;
-  so_far = none;
+  goes_on = whole.goes_on;
+  so_far_on = whole.so_far_on;
+  so_far = none_told;
   reported_are = refl;
 }
-
-pub first_follows : {T : Type 0} {told : Reporting T} {r : EpochRule} → told.so_far no_bits [] → (t : Tracker) → IsFirst t → HasReportedOf told r t no_bits []
-first_follows {T} {told} {r} none t fresh = subst (λ (u : Tracker). HasReportedOf told r u no_bits []) (sym fresh.first) (begin_follows none)
 
 pub first_fed : (t : Tracker) → IsFirst t → most_fed t ≡ 0
 first_fed t fresh = omega (arith, fresh.lanes.blue.fed, fresh.lanes.green.fed, fresh.lanes.red.fed)
@@ -292,7 +285,7 @@ settled_first is link lanes w opened stands none fresh at zero_is = record {
       fewer = omega arith;
     };
     looked_on = record { looked_at = at no_bits; after = omega arith };
-    follows = begin_follows reported_at_first;
+    follows = begin_follows;
     whole = refl;
     room = omega arith;
   };

@@ -11,7 +11,8 @@ use Rattle.link_sink.specs.Grammar.{link_grammar}
 use Rattle.link_sink.specs.Sinks.{Fed}
 use Rattle.link_sink.specs.declared.hear.Outcome.{Outcome}
 use Rattle.link_sink.proofs.Following.{one_reported, reported_one}
-use Rattle.track_sink.specs.TrackEvents.{TrackEventOf, track_events_of, end_events}
+use Rattle.link_sink.specs.Told.{ToldOf}
+use Rattle.track_sink.specs.TrackEvents.{track_events_of, end_events}
 use Rattle.track_sink.specs.Epochs.{EpochRule, Reporting, AreReportedAt, alone, at_columns, most_of, rest_of, front_of, IsTrackedOf, last_epoch, more_epochs}
 use Rattle.track_sink.specs.Rules.{IsRule}
 use Rattle.track_sink.specs.Tracks.{IsHeardTo, IsTrackedSoFar, open_epoch, closed_epoch}
@@ -61,7 +62,7 @@ one_place fed h k a b =
       | inr far ↦ elim b.early [ inl never ↦ omega arith | inr too ↦ omega arith ]
     ]
 
-pub one_so_far : {T : Type 0} {told : Reporting T} {r : EpochRule} → IsReporting told → IsRule r → (begun : Bool) (z : ℕ) (fed : Fed) (us vs : List (TrackEventOf T)) → IsTrackedSoFar told r begun z fed us → IsTrackedSoFar told r begun z fed vs → us ≡ vs
+pub one_so_far : {T : Type 0} {told : Reporting T} {r : EpochRule} → IsReporting told → IsRule r → (begun : Bool) (z : ℕ) (fed : Fed) (us vs : List (ToldOf T)) → IsTrackedSoFar told r begun z fed us → IsTrackedSoFar told r begun z fed vs → us ≡ vs
 one_so_far {T} {told} {r} one is begun z fed us vs (open_epoch _ _ _ h events heard so_far) (open_epoch _ _ _ k others also said) =
     ap track_events_of (one.so_far (front_of h fed) events others so_far (subst (λ n. told.so_far (front_of n fed) others) (sym (one_place fed h k heard also)) said))
 one_so_far one is begun z fed us vs (open_epoch _ _ _ h events heard so_far) (closed_epoch _ _ _ o others cause place rest end whole track) = absurd (is.excludes fed cause place heard.endless end)
@@ -76,7 +77,7 @@ one_so_far {T} {told} {r} one is begun z fed us vs (closed_epoch _ _ _ o events 
     let on = one_so_far one is (begun || o.aligned) (z + place) (rest_of place fed) rest rest2 track moved in
     λ i. track_events_of (t.1 i) ++ (end_events (begun || (t.0 i)) (e.0 i) (z + (e.1 i)) ++ (on i))
 
-pub one_track : {T : Type 0} {told : Reporting T} {r : EpochRule} → IsReporting told → IsRule r → (begun : Bool) (z : ℕ) (fed : Fed) (n m k j : ℕ) (us vs : List (TrackEventOf T)) → IsTrackedOf told r begun z fed n m us → IsTrackedOf told r begun z fed k j vs
+pub one_track : {T : Type 0} {told : Reporting T} {r : EpochRule} → IsReporting told → IsRule r → (begun : Bool) (z : ℕ) (fed : Fed) (n m k j : ℕ) (us vs : List (ToldOf T)) → IsTrackedOf told r begun z fed n m us → IsTrackedOf told r begun z fed k j vs
     → (n ≡ k) × (m ≡ j) × (us ≡ vs)
 one_track one is begun z fed n m k j us vs (last_epoch _ _ _ o events none whole) (last_epoch _ _ _ o2 others none2 whole2) =
     let t = one.whole fed o o2 events others whole whole2 in

@@ -4,21 +4,23 @@ use Rattle.std.specs.Prelude.{MatchOption, slice_index}
 use Rattle.tmds_word.specs.declared.TheConstants.{MOST_BITS}
 use Rattle.lane_align.specs.declared.TheConstants.{FEED_BITS}
 use Rattle.terc4.specs.Columns.{one_if}
-use Rattle.period_grammar.specs.Events.{Event}
+use Rattle.period_grammar.specs.Events.{EventAt}
 use Rattle.link_sink.proofs.Feeding.{length_grown}
 use Rattle.link_sink.specs.Pieces.{no_bits}
-use Rattle.link_sink.specs.Sinks.{Fed, grown, IsGain, IsLast}
+use Rattle.link_sink.specs.Grammar.{link_grammar}
+use Rattle.link_sink.specs.Sinks.{Fed, grown, IsGainAt}
+use Rattle.link_sink.specs.Told.{Told}
 use Rattle.link_sink.specs.declared.hear.Outcome.{Outcome}
-use Rattle.track_sink.specs.TrackEvents.{TrackEventOf, TrackEvent, track_events_of}
-use Rattle.track_sink.specs.Epochs.{EpochRule, Reporting, lane_of, most_of, rest_of, front_of, IsTrackOf, IsTrackBy}
+use Rattle.track_sink.specs.TrackEvents.{track_events_of}
+use Rattle.track_sink.specs.Epochs.{EpochRule, at_columns, most_of, rest_of, front_of, IsTrackAt}
 use Rattle.track_sink.specs.Rules.{IsRule, IsWatch}
-use Rattle.track_sink.specs.Tracks.{IsHeardTo, IsTrackedSoFar, open_epoch, TracksOf, HasTrackedOf, HasTrackedBy}
-use Rattle.track_sink.specs.TrackSinks.{EpochSinkSeen, EpochSinkRepresents, EpochSinkTells}
-use Rattle.track_sink.specs.Trackers.{most_fed, HasReportedOf, HasReportedAt, HasReported, Carries, HasLooked, CanClose, Stands, IsSettled}
+use Rattle.track_sink.specs.Tracks.{IsHeardTo, HasTrackedAt}
+use Rattle.track_sink.specs.TrackSinks.{EpochSinkSeen, EpochSinkTells}
+use Rattle.track_sink.specs.Trackers.{most_fed, HasReportedAt, Carries, HasLooked, CanClose, Stands, IsSettled}
 use Rattle.track_sink.specs.declared.tracker.Tracker.{Tracker}
 use Rattle.track_sink.specs.declared.watch.End.{End}
-use Rattle.track_sink.specs.Feds.{longest_is, no_longer, rest_no_longer, same_grows, most_rest}
-use Rattle.track_sink.proofs.Following.{Gains, Ends, follows_last, track_events_both}
+use Rattle.track_sink.specs.Feds.{most_rest}
+use Rattle.track_sink.proofs.Following.{Ends, follows_last, follows_so_far, track_events_both}
 use Rattle.track_sink.proofs.Handing.{longest_held}
 use Rattle.track_sink.proofs.Turning.{end_place, follows_reached}
 
@@ -30,14 +32,14 @@ most_fed_is t fed c = ap₂ max c.blue.fed (ap₂ max c.green.fed c.red.fed)
 
 -- Following.
 
-pub can_close : {W : Type 0} {r : EpochRule} {looked : W → Fed → Type 0} {passed : W → ℕ} (t u : Tracker) (w : W) (fed : Fed) (reported : List TrackEvent) (end : End) → u ≡ t → Stands r looked passed t w fed reported
+pub can_close : {W : Type 0} {r : EpochRule} {looked : W → Fed → Type 0} {passed : W → ℕ} (t u : Tracker) (w : W) (fed : Fed) (reported : List Told) (end : End) → u ≡ t → Stands r looked passed t w fed reported
     → r.ends (rest_of t.start fed) end.cause end.place × (t.handed ≤ end.place) → CanClose r u fed end
 can_close {W} {r} t u w fed reported end same s found =
     subst (λ (x : Tracker). CanClose r x fed end) (sym same) (record { carries = s.carries; whole = s.whole; room = s.room; ends = found.0; after = found.1 })
 
-pub stands_closed : {W : Type 0} {r : EpochRule} {looked : W → Fed → Type 0} {passed : W → ℕ} → IsRule r → (u v : Tracker) (w : W) (fed : Fed) (reported : List TrackEvent) (end : End) → CanClose r u fed end
+pub stands_closed : {W : Type 0} {r : EpochRule} {looked : W → Fed → Type 0} {passed : W → ℕ} → IsRule r → (u v : Tracker) (w : W) (fed : Fed) (reported : List Told) (end : End) → CanClose r u fed end
     → Carries v fed × HasLooked looked passed v w fed → v.start ≡ u.start + end.place → v.handed ≡ 0
-    → HasReported r v fed reported → Stands r looked passed v w fed reported
+    → HasReportedAt r v fed reported → Stands r looked passed v w fed reported
 stands_closed is u v w fed reported end can now es eh follows =
     let after = can.after in
     let room = can.room in
@@ -72,7 +74,7 @@ start_rises is t v fed end can cv e =
     let y = most_fed_is v fed cv in
     omega arith
 
-pub room_stays : {W : Type 0} {r : EpochRule} {looked : W → Fed → Type 0} {passed : W → ℕ} (t u : Tracker) (w : W) (fed : Fed) (reported : List TrackEvent) → Stands r looked passed t w fed reported → u ≡ t
+pub room_stays : {W : Type 0} {r : EpochRule} {looked : W → Fed → Type 0} {passed : W → ℕ} (t u : Tracker) (w : W) (fed : Fed) (reported : List Told) → Stands r looked passed t w fed reported → u ≡ t
     → most_of fed ≤ u.start + u.handed + (FEED_BITS + (r.back + 7))
 room_stays {W} {r} t u w fed reported s same = subst (λ (x : Tracker). most_of fed ≤ x.start + x.handed + (FEED_BITS + (r.back + 7))) (sym same) s.room
 
@@ -91,16 +93,16 @@ can_settle {W} {r} {looked} {passed} is watch t w fed c looked_on whole room =
       | inr far ↦ (omega arith, omega arith, omega arith)
     ]
 
-pub can_hand_on : {W : Type 0} {r : EpochRule} {looked : W → Fed → Type 0} {passed : W → ℕ} → IsRule r → IsWatch r looked passed → (t u : Tracker) (w v : W) (fed : Fed) (reported : List TrackEvent) → Stands r looked passed t w fed reported → u ≡ t
+pub can_hand_on : {W : Type 0} {r : EpochRule} {looked : W → Fed → Type 0} {passed : W → ℕ} → IsRule r → IsWatch r looked passed → (t u : Tracker) (w v : W) (fed : Fed) (reported : List Told) → Stands r looked passed t w fed reported → u ≡ t
     → HasLooked looked passed u v fed
     → (u.handed ≤ passed v / 8 * 8) × (u.start + u.handed + (passed v / 8 * 8 - u.handed) ≤ most_of fed) × (passed v / 8 * 8 - u.handed ≤ 32768)
 can_hand_on is watch t u w v fed reported s same looked_on =
     can_settle is watch u v fed (subst (λ (x : Tracker). Carries x fed) (sym same) s.carries) looked_on (ap (λ (x : Tracker). x.handed % 8) same ∙ s.whole) (room_stays t u w fed reported s same)
 
-pub settles : {W : Type 0} {r : EpochRule} {looked : W → Fed → Type 0} {passed : W → ℕ} → IsRule r → IsWatch r looked passed → (u v : Tracker) (w : W) (fed : Fed) (reported : List TrackEvent)
+pub settles : {W : Type 0} {r : EpochRule} {looked : W → Fed → Type 0} {passed : W → ℕ} → IsRule r → IsWatch r looked passed → (u v : Tracker) (w : W) (fed : Fed) (reported : List Told)
     → HasLooked looked passed u w fed × r.none (rest_of u.start fed) × (most_of fed ≤ u.start + passed w + r.back) → u.handed % 8 ≡ 0 → most_of fed ≤ u.start + u.handed + (FEED_BITS + (r.back + 7)) → Carries u fed → Carries v fed
     → v.start ≡ u.start → v.handed ≡ u.handed + (passed w / 8 * 8 - u.handed)
-    → HasReported r v fed reported → IsSettled r looked passed v w fed reported
+    → HasReportedAt r v fed reported → IsSettled r looked passed v w fed reported
 settles {W} {r} {looked} {passed} is watch u v w fed reported here whole room cu cv es eh follows =
     let few = can_settle is watch u w fed cu here.0 whole room in
     let a = few.0 in
@@ -123,108 +125,48 @@ settles {W} {r} {looked} {passed} is watch u v w fed reported here whole room cu
 -- The end.
 
 -- of a settled tracker, once all bits that it holds are handed on
-pub tells_all : {T W : Type 0} {told : Reporting T} {r : EpochRule} {looked : W → Fed → Type 0} {passed : W → ℕ} (t u v : Tracker) (w : W) (fed : Fed) (events : List TrackEvent) (reported : List (TrackEventOf T)) (outcome : Outcome) (us last : List T) (longest : ℕ) → IsSettled r looked passed t w fed events
-    → HasReportedOf told r t fed reported
+pub tells_all : {W : Type 0} {r : EpochRule} {looked : W → Fed → Type 0} {passed : W → ℕ} (t u v : Tracker) (w : W) (fed : Fed) (reported : List Told) (outcome : Outcome) (us last : List EventAt) (longest : ℕ) → IsSettled r looked passed t w fed reported
     → longest ≡ max (length t.lanes.blue.held.bits) (max (length t.lanes.green.held.bits) (length t.lanes.red.held.bits))
-    → Gains told (front_of t.handed (rest_of t.start fed)) (front_of (t.handed + longest) (rest_of t.start fed)) us → Ends told (front_of u.handed (rest_of u.start fed)) outcome last
+    → IsGainAt link_grammar (front_of t.handed (rest_of t.start fed)) (front_of (t.handed + longest) (rest_of t.start fed)) us → Ends at_columns (front_of u.handed (rest_of u.start fed)) outcome last
     → u.start ≡ t.start → u.handed ≡ t.handed + longest → u.begun ≡ t.begun → u.epochs ≡ t.epochs → u.aligned ≡ t.aligned
     → v.epochs ≡ u.epochs + 1 → v.aligned ≡ u.aligned + one_if outcome.aligned
-    → IsTrackOf told r fed v.epochs v.aligned (reported ++ track_events_of (us ++ last))
-tells_all {T} {W} {told} {r} t u v w fed events reported outcome us last longest settled was most gain is_last es eh eb ee ea en em =
+    → IsTrackAt r fed v.epochs v.aligned (reported ++ track_events_of (us ++ last))
+tells_all {r = r} t u v w fed reported outcome us last longest settled most gain is_last es eh eb ee ea en em =
     let all = longest_held t fed settled.stands.carries in
-    let follows = follows_reached t u fed longest reported us gain es eh eb ee ea was in
+    let follows = follows_reached t u fed longest reported us gain es eh eb ee ea settled.stands.follows in
     let P : ℕ → Type 0 = λ n. r.none (rest_of n fed) in
     let track = follows_last fed u.start u.handed u.begun u.epochs u.aligned (reported ++ track_events_of us) outcome last (omega arith) (subst P (sym es) settled.endless) is_last follows in
     let both : (reported ++ track_events_of us) ++ track_events_of last ≡ reported ++ track_events_of (us ++ last) =
     append_assoc reported (track_events_of us) (track_events_of last) ∙ ap (λ ts. reported ++ ts) (sym (track_events_both us last)) in
-    let Q : ℕ → Type 0 = λ n. IsTrackOf told r fed n (u.aligned + one_if outcome.aligned) ((reported ++ track_events_of us) ++ track_events_of last) in
-    let R : ℕ → Type 0 = λ n. IsTrackOf told r fed v.epochs n ((reported ++ track_events_of us) ++ track_events_of last) in
-    let S : List (TrackEventOf T) → Type 0 = λ ts. IsTrackOf told r fed v.epochs v.aligned ts in
+    let Q : ℕ → Type 0 = λ n. IsTrackAt r fed n (u.aligned + one_if outcome.aligned) ((reported ++ track_events_of us) ++ track_events_of last) in
+    let R : ℕ → Type 0 = λ n. IsTrackAt r fed v.epochs n ((reported ++ track_events_of us) ++ track_events_of last) in
+    let S : List Told → Type 0 = λ ts. IsTrackAt r fed v.epochs v.aligned ts in
     subst S both (subst R (sym em) (subst Q (sym en) track))
-
-pub tracks_all : {W : Type 0} {r : EpochRule} {looked : W → Fed → Type 0} {passed : W → ℕ} (t u v : Tracker) (w : W) (fed : Fed) (reported : List TrackEvent) (outcome : Outcome) (us last : List Event) (longest : ℕ) → IsSettled r looked passed t w fed reported
-    → longest ≡ max (length t.lanes.blue.held.bits) (max (length t.lanes.green.held.bits) (length t.lanes.red.held.bits))
-    → IsGain (front_of t.handed (rest_of t.start fed)) (front_of (t.handed + longest) (rest_of t.start fed)) us → IsLast (front_of u.handed (rest_of u.start fed)) outcome last
-    → u.start ≡ t.start → u.handed ≡ t.handed + longest → u.begun ≡ t.begun → u.epochs ≡ t.epochs → u.aligned ≡ t.aligned
-    → v.epochs ≡ u.epochs + 1 → v.aligned ≡ u.aligned + one_if outcome.aligned
-    → IsTrackBy r fed v.epochs v.aligned (reported ++ track_events_of (us ++ last))
-tracks_all t u v w fed reported outcome us last longest settled most gain is_last es eh eb ee ea en em =
-    tells_all t u v w fed reported reported outcome us last longest settled settled.stands.follows most gain is_last es eh eb ee ea en em
 
 -- What a settled tracker has reported.
 
-early_of : {W : Type 0} {r : EpochRule} {looked : W → Fed → Type 0} {passed : W → ℕ} → IsWatch r looked passed → (t : Tracker) (w : W) (fed : Fed) → Carries t fed → HasLooked looked passed t w fed
-    → (t.handed ≡ 0) ⊎ ((l : ℕ) × (l < 3) × (t.handed + r.back ≤ length (lane_of (rest_of t.start fed) l)))
-early_of {W} {r} {looked} {passed} watch t w fed c looked_on =
-    let after = looked_on.after in
-    elim (watch.reaches w (rest_of t.start fed) looked_on.looked_at) [
-      | inl none ↦ inl (omega arith)
-      | inr far ↦ longest_is (rest_of t.start fed) ((t.handed ≡ 0) ⊎ ((l : ℕ) × (l < 3) × (t.handed + r.back ≤ length (lane_of (rest_of t.start fed) l)))) (λ l lt e. inr (l, lt, omega arith))
-    ]
-
-pub settled_tells : {T W : Type 0} {told : Reporting T} {r : EpochRule} {looked : W → Fed → Type 0} {passed : W → ℕ} → IsWatch r looked passed → (t : Tracker) (w : W) (fed : Fed) (events : List TrackEvent) (reported : List (TrackEventOf T)) → IsSettled r looked passed t w fed events
-    → HasReportedOf told r t fed reported → HasTrackedOf told r fed reported
-settled_tells watch t w fed events reported s f =
-    let c = s.stands.carries in
+pub settled_tells : {W : Type 0} {r : EpochRule} {looked : W → Fed → Type 0} {passed : W → ℕ} → IsWatch r looked passed → (t : Tracker) (w : W) (fed : Fed) (reported : List Told) → IsSettled r looked passed t w fed reported
+    → HasTrackedAt r fed reported
+settled_tells {r = r} watch t w fed reported s =
     let all = s.all in
     let near = s.near in
-    record {
-      start = t.start;
-      handed = t.handed;
-      begun = t.begun;
-      tracks = record {
-        epochs = t.epochs;
-        aligned = t.aligned;
-        closed = f.closed;
-        events = f.events;
-        goes_on = f.goes_on;
-        so_far_on = f.so_far_on;
-        endless = s.endless;
-        whole = s.stands.whole;
-        held = λ l lt. let h = rest_no_longer fed t.start l (started t fed c) in omega arith;
-        early = early_of watch t w fed c s.stands.looked_on;
-        so_far = f.so_far;
-        reported_are = f.reported_are;
-      };
-    }
-
-pub settled_tracks : {W : Type 0} {r : EpochRule} {looked : W → Fed → Type 0} {passed : W → ℕ} → IsWatch r looked passed → (t : Tracker) (w : W) (fed : Fed) (reported : List TrackEvent) → IsSettled r looked passed t w fed reported
-    → HasTrackedBy r fed reported
-settled_tracks watch t w fed reported s = settled_tells watch t w fed reported reported s s.stands.follows
-
--- what was reported of lanes that go on
-pub tracks_so_far : {T : Type 0} {told : Reporting T} {r : EpochRule} (fed : Fed) (start handed : ℕ) (begun : Bool) (reported : List (TrackEventOf T)) → TracksOf told r fed start handed begun reported
-    → IsTrackedSoFar told r false 0 fed reported
-tracks_so_far {T} {told} {r} fed start handed begun reported t =
-    let rest = rest_of start fed in
-    let heard : IsHeardTo r rest handed = record {
-      endless = t.endless;
-      whole = t.whole;
-      held = longest_is rest (most_of rest ≤ handed + (r.back + 7)) (λ l lt e. let h = t.held l lt in omega arith);
-      early = elim t.early [ inl none ↦ inl none | inr far ↦ let h = no_longer rest far.0 in let le = far.2 in inr (omega arith) ];
+    let after = s.stands.looked_on.after in
+    let most = most_rest fed t.start (started t fed s.stands.carries) in
+    let heard : IsHeardTo r (rest_of t.start fed) t.handed = record {
+      endless = s.endless;
+      whole = s.stands.whole;
+      held = omega arith;
+      early = elim (watch.reaches w (rest_of t.start fed) s.stands.looked_on.looked_at) [ inl none ↦ inl (omega arith) | inr far ↦ inr (omega arith) ];
     } in
-    subst (λ (us : List (TrackEventOf T)). IsTrackedSoFar told r false 0 fed us) (sym t.reported_are)
-    (t.so_far_on fed (same_grows fed) (track_events_of t.events) (open_epoch begun start rest handed t.events heard t.so_far))
-
-pub has_so_far : {T : Type 0} {told : Reporting T} {r : EpochRule} (fed : Fed) (reported : List (TrackEventOf T)) → HasTrackedOf told r fed reported → IsTrackedSoFar told r false 0 fed reported
-has_so_far fed reported h = tracks_so_far fed h.start h.handed h.begun reported h.tracks
+    follows_so_far fed t.start t.handed t.begun t.epochs t.aligned reported heard s.stands.follows
 
 -- a sink that was fed no bits
-pub first_represents : {W : Type 0} {r : EpochRule} {looked : W → Fed → Type 0} {passed : W → ℕ} → IsWatch r looked passed → (sink : EpochSinkSeen W) → IsSettled r looked passed sink.tracker sink.watch no_bits []
-    → EpochSinkRepresents r looked passed sink no_bits []
-first_represents watch sink settled = record { tracked = settled_tracks watch sink.tracker sink.watch no_bits [] settled; settled = settled }
-
 pub first_tells : {W : Type 0} {r : EpochRule} {looked : W → Fed → Type 0} {passed : W → ℕ} → IsWatch r looked passed → (sink : EpochSinkSeen W) → IsSettled r looked passed sink.tracker sink.watch no_bits []
-    → HasReportedAt r sink.tracker no_bits [] → EpochSinkTells r looked passed sink no_bits []
-first_tells watch sink settled reported = record {
-  tracked = has_so_far no_bits [] (settled_tells watch sink.tracker sink.watch no_bits [] [] settled reported);
-  reported_are = reported;
-  events = [];
-  represents = first_represents watch sink settled;
-}
+    → EpochSinkTells r looked passed sink no_bits []
+first_tells watch sink settled = record { tracked = settled_tells watch sink.tracker sink.watch no_bits [] settled; settled = settled }
 
 -- how many bits were fed of each lane
-pub fed_more : {W : Type 0} {r : EpochRule} {looked : W → Fed → Type 0} {passed : W → ℕ} (t u : Tracker) (w v : W) (fed : Fed) (reported now : List TrackEvent) (a b c bits : List ℕ) → IsSettled r looked passed t w fed reported → IsSettled r looked passed u v (grown fed a b c bits) now
+pub fed_more : {W : Type 0} {r : EpochRule} {looked : W → Fed → Type 0} {passed : W → ℕ} (t u : Tracker) (w v : W) (fed : Fed) (reported now : List Told) (a b c bits : List ℕ) → IsSettled r looked passed t w fed reported → IsSettled r looked passed u v (grown fed a b c bits) now
     → length a ≡ (slice_index bits 0 + 7) / 8 → length b ≡ (slice_index bits 1 + 7) / 8 → length c ≡ (slice_index bits 2 + 7) / 8
     → (u.lanes.blue.fed ≡ t.lanes.blue.fed + slice_index bits 0) × (u.lanes.green.fed ≡ t.lanes.green.fed + slice_index bits 1) × (u.lanes.red.fed ≡ t.lanes.red.fed + slice_index bits 2)
 fed_more t u w v fed reported now a b c bits before after ea eb ec =

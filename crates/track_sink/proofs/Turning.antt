@@ -11,7 +11,8 @@ use Rattle.link_sink.specs.Streams.{SinkRepresents, bits_fed, most_bits}
 use Rattle.link_sink.specs.declared.hear.Outcome.{Outcome}
 use Rattle.link_sink.proofs.Stops.{on_err}
 use Rattle.track_sink.specs.Buffers.{HeldSeen}
-use Rattle.track_sink.specs.TrackEvents.{TrackEventOf, track_events_of, end_events}
+use Rattle.link_sink.specs.Told.{ToldOf}
+use Rattle.track_sink.specs.TrackEvents.{track_events_of, end_events}
 use Rattle.track_sink.specs.Epochs.{EpochRule, Reporting, most_of, rest_of, front_of}
 use Rattle.track_sink.specs.Rules.{IsRule}
 use Rattle.track_sink.specs.Trackers.{FollowsOf, HasReportedOf, HoldsRest, Carries, HasLooked, IsLane, CanClose, CanTurn}
@@ -96,7 +97,7 @@ carries_turned is t u w fed end b can opened stands none lanes es eh ee ea looke
     )
 
 -- what was reported, at places that are equal
-pub follows_at : {T : Type 0} {told : Reporting T} {r : EpochRule} (fed : Fed) (s t h k : ℕ) (b d : Bool) (e f a c : ℕ) (reported : List (TrackEventOf T)) → t ≡ s → k ≡ h → d ≡ b → f ≡ e → c ≡ a → FollowsOf told r fed s h b e a reported → FollowsOf told r fed t k d f c reported
+pub follows_at : {T : Type 0} {told : Reporting T} {r : EpochRule} (fed : Fed) (s t h k : ℕ) (b d : Bool) (e f a c : ℕ) (reported : List (ToldOf T)) → t ≡ s → k ≡ h → d ≡ b → f ≡ e → c ≡ a → FollowsOf told r fed s h b e a reported → FollowsOf told r fed t k d f c reported
 follows_at {T} {told} {r} fed s t h k b d e f a c reported es eh eb ee ea was =
     let P : ℕ → Type 0 = λ n. FollowsOf told r fed n h b e a reported in
     let Q : ℕ → Type 0 = λ n. FollowsOf told r fed t n b e a reported in
@@ -106,7 +107,7 @@ follows_at {T} {told} {r} fed s t h k b d e f a c reported es eh eb ee ea was =
     subst T (sym ea) (subst S (sym ee) (subst R (sym eb) (subst Q (sym eh) (subst P (sym es) was))))
 
 -- what is reported at the end of an epoch
-pub follows_turned : {T : Type 0} {told : Reporting T} {r : EpochRule} → told.so_far no_bits [] → IsRule r → (t u : Tracker) (fed : Fed) (end : End) (reported : List (TrackEventOf T)) (outcome : Outcome) (last : List T) → CanTurn r t fed end
+pub follows_turned : {T : Type 0} {told : Reporting T} {r : EpochRule} → told.so_far no_bits [] → IsRule r → (t u : Tracker) (fed : Fed) (end : End) (reported : List (ToldOf T)) (outcome : Outcome) (last : List T) → CanTurn r t fed end
     → Ends told (front_of t.handed (rest_of t.start fed)) outcome last
     → u.start ≡ t.start + t.handed → u.handed ≡ 0 → u.begun ≡ (t.begun || outcome.aligned) → u.epochs ≡ t.epochs + 1 → u.aligned ≡ t.aligned + one_if outcome.aligned
     → HasReportedOf told r t fed reported
@@ -117,16 +118,8 @@ follows_turned {T} {told} {r} none is t u fed end reported outcome last can is_l
     let closed = follows_closed none is fed t.start t.handed end.cause t.begun t.epochs t.aligned reported outcome last reached ends is_last was in
     let here = follows_at fed (t.start + t.handed) u.start 0 u.handed (t.begun || outcome.aligned) u.begun (t.epochs + 1) u.epochs (t.aligned + one_if outcome.aligned) u.aligned _ es eh eb ee ea closed in
     let e : end_events {T = T} (t.begun || outcome.aligned) end.cause (t.start + t.handed) ≡ end_events u.begun end.cause u.start = ap₂ (λ b n. end_events {T = T} b end.cause n) (sym eb) (sym es) in
-    let P : List (TrackEventOf T) → Type 0 = λ es. HasReportedOf told r u fed (reported ++ (track_events_of last ++ es)) in
+    let P : List (ToldOf T) → Type 0 = λ es. HasReportedOf told r u fed (reported ++ (track_events_of last ++ es)) in
     subst P e here
-
--- An ear that takes events.
-
-module _ {A T : Type 0} (took : A → A → List T → Type 0) (tracked : A → A → List (TrackEventOf T) → Type 0) (events : (x y : A) (h : List T) → took x y h → tracked x y (track_events_of h))
-    (both : (x y z : A) (h k : List (TrackEventOf T)) → tracked x y h → tracked y z k → tracked x z (h ++ k)) where
-  -- events, and then events
-  pub took_then : (x y z : A) (us : List T) (es : List (TrackEventOf T)) → took x y us → tracked y z es → tracked x z (track_events_of us ++ es)
-  took_then x y z us es t s = both x y z (track_events_of us) es (events x y us t) s
 
 -- bits that are handed on in two parts
 pub gains_two : {T : Type 0} (so_far : List Column → List T) (fed : Fed) (start from h on a b bits : ℕ) (us vs : List T) → from ≡ start → on ≡ h + a → a + b ≡ bits
@@ -156,12 +149,12 @@ close_room is t fed end can =
     let few = is.few in
     (omega arith, omega arith)
 
-pub follows_reached : {T : Type 0} {told : Reporting T} {r : EpochRule} (t u : Tracker) (fed : Fed) (bits : ℕ) (reported : List (TrackEventOf T)) (us : List T) → Gains told (front_of t.handed (rest_of t.start fed)) (front_of (t.handed + bits) (rest_of t.start fed)) us
+pub follows_reached : {T : Type 0} {told : Reporting T} {r : EpochRule} (t u : Tracker) (fed : Fed) (bits : ℕ) (reported : List (ToldOf T)) (us : List T) → Gains told (front_of t.handed (rest_of t.start fed)) (front_of (t.handed + bits) (rest_of t.start fed)) us
     → u.start ≡ t.start → u.handed ≡ t.handed + bits → u.begun ≡ t.begun → u.epochs ≡ t.epochs → u.aligned ≡ t.aligned
     → HasReportedOf told r t fed reported → HasReportedOf told r u fed (reported ++ track_events_of us)
 follows_reached t u fed bits reported us gain es eh eb ee ea was =
     follows_at fed t.start u.start (t.handed + bits) u.handed t.begun u.begun t.epochs u.epochs t.aligned u.aligned (reported ++ track_events_of us) es eh eb ee ea
     (follows_handed fed t.start t.handed bits t.begun t.epochs t.aligned reported us gain was)
 
-pub follows_then : {T : Type 0} {told : Reporting T} {r : EpochRule} (t : Tracker) (fed : Fed) (reported us vs : List (TrackEventOf T)) → HasReportedOf told r t fed ((reported ++ us) ++ vs) → HasReportedOf told r t fed (reported ++ (us ++ vs))
-follows_then {T} {told} {r} t fed reported us vs was = let P : List (TrackEventOf T) → Type 0 = λ es. HasReportedOf told r t fed es in subst P (append_assoc reported us vs) was
+pub follows_then : {T : Type 0} {told : Reporting T} {r : EpochRule} (t : Tracker) (fed : Fed) (reported us vs : List (ToldOf T)) → HasReportedOf told r t fed ((reported ++ us) ++ vs) → HasReportedOf told r t fed (reported ++ (us ++ vs))
+follows_then {T} {told} {r} t fed reported us vs was = let P : List (ToldOf T) → Type 0 = λ es. HasReportedOf told r t fed es in subst P (append_assoc reported us vs) was

@@ -8,7 +8,8 @@ use Rattle.link_sink.specs.Sinks.{Fed, IsReportedOf, IsReportedSoFar}
 use Rattle.link_sink.specs.Alignment.{AreReported}
 use Rattle.link_sink.specs.declared.hear.Outcome.{Outcome}
 use Rattle.lane_track.specs.Strays.{IsStray, HasNoStray}
-use Rattle.track_sink.specs.TrackEvents.{TrackEventOf, TrackEvent, TrackEventAt, track_events_of, end_events}
+use Rattle.link_sink.specs.Told.{ToldOf}
+use Rattle.track_sink.specs.TrackEvents.{TrackEvent, TrackEventAt, track_events_of, end_events}
 use Rattle.track_sink.specs.declared.watch.Cause.{Cause}
 use Rattle.track_sink.specs.declared.watch.Cause.TheVariants.{Slip, Unconfirmed, Refuted}
 
@@ -82,13 +83,13 @@ at_columns = record { so_far = IsReportedOf heard_so_far; whole = AreReportedAt 
 
 -- what is reported of lanes whose first bit has a place in the capture: how many epochs there are, how many of them are
 -- aligned, and the events. `begun` says whether an epoch before was aligned
-pub data IsTrackedOf {T : Type 0} (told : Reporting T) (r : EpochRule) : Bool → ℕ → Fed → ℕ → ℕ → List (TrackEventOf T) → Type 0 where
+pub data IsTrackedOf {T : Type 0} (told : Reporting T) (r : EpochRule) : Bool → ℕ → Fed → ℕ → ℕ → List (ToldOf T) → Type 0 where
   last_epoch :
       (begun : Bool) (z : ℕ) (fed : Fed) (outcome : Outcome) (events : List T)
       → r.none fed → told.whole fed outcome events
       → IsTrackedOf told r begun z fed 1 (one_if outcome.aligned) (track_events_of events)
   more_epochs :
-      (begun : Bool) (z : ℕ) (fed : Fed) (outcome : Outcome) (events : List T) (cause : Cause) (place epochs aligned : ℕ) (rest : List (TrackEventOf T))
+      (begun : Bool) (z : ℕ) (fed : Fed) (outcome : Outcome) (events : List T) (cause : Cause) (place epochs aligned : ℕ) (rest : List (ToldOf T))
       → r.ends fed cause place
       → told.whole (front_of place fed) outcome events
       → IsTrackedOf told r (begun || outcome.aligned) (z + place) (rest_of place fed) epochs aligned rest
@@ -99,7 +100,7 @@ abbrev pub IsTrackedBy : EpochRule → Bool → ℕ → Fed → ℕ → ℕ → 
 IsTrackedBy r begun z fed epochs aligned track_events = IsTrackedOf alone r begun z fed epochs aligned track_events
 
 -- of a whole capture
-abbrev pub IsTrackOf : {T : Type 0} → Reporting T → EpochRule → Fed → ℕ → ℕ → List (TrackEventOf T) → Type 0
+abbrev pub IsTrackOf : {T : Type 0} → Reporting T → EpochRule → Fed → ℕ → ℕ → List (ToldOf T) → Type 0
 IsTrackOf told r fed epochs aligned track_events = IsTrackedOf told r false 0 fed epochs aligned track_events
 
 abbrev pub IsTrackBy : EpochRule → Fed → ℕ → ℕ → List TrackEvent → Type 0

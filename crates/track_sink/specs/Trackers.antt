@@ -7,8 +7,9 @@ use Rattle.lane_align.specs.declared.TheConstants.{FEED_BITS}
 use Rattle.link_sink.specs.Sinks.{Fed}
 use Rattle.link_sink.specs.Pieces.{no_bits}
 use Rattle.link_sink.specs.Streams.{SinkSeen, SinkRepresents, bits_fed, most_bits}
-use Rattle.track_sink.specs.TrackEvents.{TrackEventOf, TrackEvent, TrackEventAt, track_events_of}
-use Rattle.track_sink.specs.Epochs.{EpochRule, Reporting, alone, at_columns, most_of, rest_of, front_of, IsTrackedOf, IsTrackOf}
+use Rattle.link_sink.specs.Told.{ToldOf, Told}
+use Rattle.track_sink.specs.TrackEvents.{track_events_of}
+use Rattle.track_sink.specs.Epochs.{EpochRule, Reporting, at_columns, most_of, rest_of, front_of, IsTrackedOf, IsTrackOf}
 use Rattle.track_sink.specs.Tracks.{Grows, IsTrackedSoFar}
 use Rattle.track_sink.specs.Lanes.{AreFresh}
 use Rattle.track_sink.specs.declared.lane.HeldLane.{HeldLane}
@@ -20,31 +21,28 @@ use Rattle.track_sink.specs.declared.watch.End.{End}
 
 -- these events are reported: so many epochs are closed, so many of them aligned, the next begins at a place, and of
 -- that one so many bits of each lane were handed on
-pub record FollowsOf {T : Type 0} (told : Reporting T) (r : EpochRule) (fed : Fed) (start handed : ℕ) (begun : Bool) (epochs aligned : ℕ) (reported : List (TrackEventOf T)) : Type 0 where
-  pub closed : List (TrackEventOf T)
+pub record FollowsOf {T : Type 0} (told : Reporting T) (r : EpochRule) (fed : Fed) (start handed : ℕ) (begun : Bool) (epochs aligned : ℕ) (reported : List (ToldOf T)) : Type 0 where
+  pub closed : List (ToldOf T)
   pub events : List T
   -- whatever follows, the epochs before are closed
   pub goes_on :
       (later : Fed) → Grows fed later
-      → (n m : ℕ) (rest : List (TrackEventOf T)) → IsTrackedOf told r begun start (rest_of start later) n m rest → IsTrackOf told r later (epochs + n) (aligned + m) (closed ++ rest)
+      → (n m : ℕ) (rest : List (ToldOf T)) → IsTrackedOf told r begun start (rest_of start later) n m rest → IsTrackOf told r later (epochs + n) (aligned + m) (closed ++ rest)
   pub so_far_on :
       (later : Fed) → Grows fed later
-      → (rest : List (TrackEventOf T)) → IsTrackedSoFar told r begun start (rest_of start later) rest → IsTrackedSoFar told r false 0 later (closed ++ rest)
+      → (rest : List (ToldOf T)) → IsTrackedSoFar told r begun start (rest_of start later) rest → IsTrackedSoFar told r false 0 later (closed ++ rest)
   pub so_far : told.so_far (front_of handed (rest_of start fed)) events
   pub reported_are : reported ≡ closed ++ track_events_of events
 
-abbrev pub Follows : EpochRule → Fed → ℕ → ℕ → Bool → ℕ → ℕ → List TrackEvent → Type 0
-Follows r fed start handed begun epochs aligned reported = FollowsOf alone r fed start handed begun epochs aligned reported
+-- the same with each event at its column
+abbrev pub Follows : EpochRule → Fed → ℕ → ℕ → Bool → ℕ → ℕ → List Told → Type 0
+Follows r fed start handed begun epochs aligned reported = FollowsOf at_columns r fed start handed begun epochs aligned reported
 
 -- a tracker has reported them
-abbrev pub HasReportedOf : {T : Type 0} → Reporting T → EpochRule → Tracker → Fed → List (TrackEventOf T) → Type 0
+abbrev pub HasReportedOf : {T : Type 0} → Reporting T → EpochRule → Tracker → Fed → List (ToldOf T) → Type 0
 HasReportedOf told r t fed reported = FollowsOf told r fed t.start t.handed t.begun t.epochs t.aligned reported
 
-abbrev pub HasReported : EpochRule → Tracker → Fed → List TrackEvent → Type 0
-HasReported r t fed reported = HasReportedOf alone r t fed reported
-
--- each at its column
-abbrev pub HasReportedAt : EpochRule → Tracker → Fed → List TrackEventAt → Type 0
+abbrev pub HasReportedAt : EpochRule → Tracker → Fed → List Told → Type 0
 HasReportedAt r t fed reported = HasReportedOf at_columns r t fed reported
 
 -- one that was fed no bit
@@ -112,15 +110,15 @@ IsLane Unconfirmed = ⊤
 IsLane Refuted = ⊤
 
 -- it has reported these events, and goes on
-pub record Stands {W : Type 0} (r : EpochRule) (looked : W → Fed → Type 0) (passed : W → ℕ) (t : Tracker) (w : W) (fed : Fed) (reported : List TrackEvent) : Type 0 where
+pub record Stands {W : Type 0} (r : EpochRule) (looked : W → Fed → Type 0) (passed : W → ℕ) (t : Tracker) (w : W) (fed : Fed) (reported : List Told) : Type 0 where
   pub carries : Carries t fed
   pub looked_on : HasLooked looked passed t w fed
-  pub follows : HasReported r t fed reported
+  pub follows : HasReportedAt r t fed reported
   pub whole : t.handed % 8 ≡ 0
   pub room : most_of fed ≤ t.start + t.handed + (FEED_BITS + (r.back + 7))
 
 -- all that its bits decide was looked at, and it has handed on what it can
-pub record IsSettled {W : Type 0} (r : EpochRule) (looked : W → Fed → Type 0) (passed : W → ℕ) (t : Tracker) (w : W) (fed : Fed) (reported : List TrackEvent) : Type 0 where
+pub record IsSettled {W : Type 0} (r : EpochRule) (looked : W → Fed → Type 0) (passed : W → ℕ) (t : Tracker) (w : W) (fed : Fed) (reported : List Told) : Type 0 where
   pub stands : Stands r looked passed t w fed reported
   pub endless : r.none (rest_of t.start fed)
   pub all : most_of fed ≤ t.start + passed w + r.back
@@ -128,19 +126,9 @@ pub record IsSettled {W : Type 0} (r : EpochRule) (looked : W → Fed → Type 0
 
 -- Where an ear fails.
 
--- of these events the ear took those before one of them, and lost that one
-pub record Stops {A : Type 0} (tracked : A → A → List TrackEvent → Type 0) (lost : A → A → TrackEvent → Type 0) (before now : A) (track_events : List TrackEvent) : Type 0 where
-  pub taken : List TrackEvent
-  pub next : TrackEvent
-  pub rest : List TrackEvent
-  pub track_events_are : track_events ≡ taken ++ next ∷ rest
-  pub between : A
-  pub took_some : tracked before between taken
-  pub lost_then : lost between now next
-
 -- these events are the first that are reported of bits: what is reported of closed epochs, and of some of the bits that
 -- are decided of the next one, before the end that it may have
-pub record Passes (r : EpochRule) (fed : Fed) (reported : List TrackEvent) : Type 0 where
+pub record Passes (r : EpochRule) (fed : Fed) (reported : List Told) : Type 0 where
   pub start : ℕ
   pub handed : ℕ
   pub begun : Bool

@@ -3,7 +3,8 @@ use Rattle.std.specs.Prelude.{◌≡◌, ◌⊎◌, ℕ, ◌+◌, ◌%◌, ◌<�
 use Rattle.link_sink.specs.Sinks.{Fed}
 use Rattle.link_sink.specs.declared.hear.Outcome.{Outcome}
 use Rattle.track_sink.specs.declared.watch.Cause.{Cause}
-use Rattle.track_sink.specs.TrackEvents.{TrackEventOf, TrackEvent, TrackEventAt, track_events_of, end_events}
+use Rattle.link_sink.specs.Told.{ToldOf}
+use Rattle.track_sink.specs.TrackEvents.{TrackEvent, TrackEventAt, track_events_of, end_events}
 use Rattle.track_sink.specs.Epochs.{EpochRule, Reporting, alone, at_columns, stray_rule, lane_of, most_of, rest_of, front_of, IsTrackedOf, IsTrackOf, IsTrack}
 
 -- more bits of a lane: none of one that has ended
@@ -22,13 +23,13 @@ pub record IsHeardTo (r : EpochRule) (fed : Fed) (handed : ℕ) : Type 0 where
 
 -- what is reported so far of lanes that go on, whose first bit has a place in the capture: all of the epochs that ended, and what is
 -- heard so far of the one that did not
-pub data IsTrackedSoFar {T : Type 0} (told : Reporting T) (r : EpochRule) : Bool → ℕ → Fed → List (TrackEventOf T) → Type 0 where
+pub data IsTrackedSoFar {T : Type 0} (told : Reporting T) (r : EpochRule) : Bool → ℕ → Fed → List (ToldOf T) → Type 0 where
   open_epoch :
       (begun : Bool) (z : ℕ) (fed : Fed) (handed : ℕ) (events : List T)
       → IsHeardTo r fed handed → told.so_far (front_of handed fed) events
       → IsTrackedSoFar told r begun z fed (track_events_of events)
   closed_epoch :
-      (begun : Bool) (z : ℕ) (fed : Fed) (outcome : Outcome) (events : List T) (cause : Cause) (place : ℕ) (rest : List (TrackEventOf T))
+      (begun : Bool) (z : ℕ) (fed : Fed) (outcome : Outcome) (events : List T) (cause : Cause) (place : ℕ) (rest : List (ToldOf T))
       → r.ends fed cause place
       → told.whole (front_of place fed) outcome events
       → IsTrackedSoFar told r (begun || outcome.aligned) (z + place) (rest_of place fed) rest
@@ -40,18 +41,18 @@ HasTrackedAt r fed reported = IsTrackedSoFar at_columns r false 0 fed reported
 
 -- a tracker that was fed these bits is in an epoch that begins at a place, and has handed on its first bits, as many of
 -- each lane; it has reported all events before and what is heard so far of the bits that it handed on
-pub record TracksOf {T : Type 0} (told : Reporting T) (r : EpochRule) (fed : Fed) (start handed : ℕ) (begun : Bool) (reported : List (TrackEventOf T)) : Type 0 where
+pub record TracksOf {T : Type 0} (told : Reporting T) (r : EpochRule) (fed : Fed) (start handed : ℕ) (begun : Bool) (reported : List (ToldOf T)) : Type 0 where
   pub epochs : ℕ
   pub aligned : ℕ
-  pub closed : List (TrackEventOf T)
+  pub closed : List (ToldOf T)
   pub events : List T
   -- whatever follows, the epochs before are closed
   pub goes_on :
       (later : Fed) → Grows fed later
-      → (n m : ℕ) (rest : List (TrackEventOf T)) → IsTrackedOf told r begun start (rest_of start later) n m rest → IsTrackOf told r later (epochs + n) (aligned + m) (closed ++ rest)
+      → (n m : ℕ) (rest : List (ToldOf T)) → IsTrackedOf told r begun start (rest_of start later) n m rest → IsTrackOf told r later (epochs + n) (aligned + m) (closed ++ rest)
   pub so_far_on :
       (later : Fed) → Grows fed later
-      → (rest : List (TrackEventOf T)) → IsTrackedSoFar told r begun start (rest_of start later) rest → IsTrackedSoFar told r false 0 later (closed ++ rest)
+      → (rest : List (ToldOf T)) → IsTrackedSoFar told r begun start (rest_of start later) rest → IsTrackedSoFar told r false 0 later (closed ++ rest)
   -- the bits of the epoch show no end of it
   pub endless : r.none (rest_of start fed)
   -- in whole bytes, and never a bit that can be one of a next epoch
@@ -65,7 +66,7 @@ abbrev pub TracksBy : EpochRule → Fed → ℕ → ℕ → Bool → List TrackE
 TracksBy r fed start handed begun reported = TracksOf alone r fed start handed begun reported
 
 -- some such epoch
-pub record HasTrackedOf {T : Type 0} (told : Reporting T) (r : EpochRule) (fed : Fed) (reported : List (TrackEventOf T)) : Type 0 where
+pub record HasTrackedOf {T : Type 0} (told : Reporting T) (r : EpochRule) (fed : Fed) (reported : List (ToldOf T)) : Type 0 where
   pub start : ℕ
   pub handed : ℕ
   pub begun : Bool

@@ -1,10 +1,11 @@
 //! Feeds a link: by workers if there are many bits, otherwise by the caller's own thread.
 ghost use Rattle.std.specs.Prelude.{◌≡◌, List, true, OnOk, OnErr};
 ghost use Rattle.outside_io.specs.Causes.{HasCause};
-ghost use Rattle.period_grammar.specs.Events.{Event, EventAt};
+ghost use Rattle.period_grammar.specs.Events.{EventAt};
+ghost use Rattle.link_sink.specs.Told.{TookAt, BrokeAt};
 ghost use Rattle.link_sink.specs.Ears.{StopsIn};
 ghost use Rattle.link_sink.specs.Grammar.{link_grammar};
-ghost use Rattle.link_sink.specs.Sinks.{Fed, grown_by, IsGain, IsGainAt};
+ghost use Rattle.link_sink.specs.Sinks.{Fed, grown_by, IsGainAt};
 ghost use Rattle.link_sink.specs.Received.{CanFeedLanes, AreFedMore};
 ghost use Rattle.link_sink.specs.Streams.{SinkRepresents, bits_fed, most_bits};
 
@@ -28,11 +29,9 @@ pub(crate) trait FeedsLink {
         ensures more { OnOk result (AreFedMore (bits_fed link.old) (bits_fed link.new) lanes.entry) }
         ensures fed { (fed : Fed) → SinkRepresents link.old fed → OnOk result (SinkRepresents link.new (grown_by fed lanes.entry)) }
         ensures reported { (fed : Fed) → SinkRepresents link.old fed
-            → OnOk result ((events : List Event) × IsGain fed (grown_by fed lanes.entry) events × E.took ear.old ear.new events) }
-        ensures reported_at { (fed : Fed) → SinkRepresents link.old fed
-            → OnOk result ((events : List EventAt) × IsGainAt link_grammar fed (grown_by fed lanes.entry) events × E.took_at ear.old ear.new events) }
+            → OnOk result ((events : List EventAt) × IsGainAt link_grammar fed (grown_by fed lanes.entry) events × TookAt E.took ear.old ear.new events) }
         ensures stopped { (fed : Fed) → SinkRepresents link.old fed
-            → OnErr result ((events : List Event) × IsGain fed (grown_by fed lanes.entry) events × StopsIn E.took E.broke ear.old ear.new events) }
+            → OnErr result ((events : List EventAt) × IsGainAt link_grammar fed (grown_by fed lanes.entry) events × StopsIn (TookAt E.took) (BrokeAt E.broke) ear.old ear.new events) }
         ensures cause { HasCause (E.faults ear.old) (E.faults ear.new) result };
 }
 

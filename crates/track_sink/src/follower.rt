@@ -1,17 +1,20 @@
 //! Follows three lanes from epoch to epoch.
 ghost use Rattle.std.specs.Prelude.{ℕ, ◌≡◌, ◌<◌, ◌≤◌, ◌+◌, ◌++◌, List, [], IfOk, OnOk, OnErr, MatchOption};
 ghost use Rattle.outside_io.specs.Causes.{HasCause};
+ghost use Rattle.link_sink.specs.Told.{Told};
+ghost use Rattle.link_sink.specs.Ears.{StopsIn};
 ghost use Rattle.link_sink.specs.Sinks.{Fed, grown_by};
 ghost use Rattle.link_sink.specs.Pieces.{no_bits};
 ghost use Rattle.link_sink.specs.Received.{CanFeedLanes};
-ghost use Rattle.track_sink.specs.TrackEvents.{TrackEvent, TrackEventAt, end_events};
-ghost use Rattle.track_sink.specs.Epochs.{most_of, rest_of, IsTrackBy, IsTrackAt};
-ghost use Rattle.track_sink.specs.Trackers.{lane_fed, most_fed, HasReported, HasReportedAt, Carries, HasLooked, IsLane, CanClose, CanTurn, Stands, IsSettled, Stops, Passes};
+ghost use Rattle.track_sink.specs.TrackEvents.{end_events};
+ghost use Rattle.track_sink.specs.Epochs.{most_of, rest_of, IsTrackAt};
+ghost use Rattle.track_sink.specs.Trackers.{lane_fed, most_fed, HasReportedAt, Carries, HasLooked, IsLane, CanClose, CanTurn, Stands, IsSettled, Passes};
 
 use crate::feeding::FeedsLink;
 use crate::tracker::Tracker;
 use crate::watch::{Cause, End, Watch};
-use crate::{TrackEar, TrackOutcome};
+use crate::TrackOutcome;
+use link_sink::{Ear, ToldRef};
 use outside_io::{Failed, NoMemory};
 use std::alloc::Global;
 use tmds_word::LaneBits;
@@ -27,7 +30,6 @@ impl<W: Watch> Follower<W> {
     /// A follower that was fed no bits, with all memory that it ever has.
     pub(crate) fn open(alloc: Global) -> Result<Follower<W>, NoMemory>
         ensures settled { IfOk result (λ f. IsSettled W.rule W.looked W.passed f.tracker f.watch no_bits []) }
-        ensures reported_at { IfOk result (λ f. HasReportedAt W.rule f.tracker no_bits []) }
     {
         Ok(Follower {
             tracker: Tracker::open(alloc)?,
@@ -38,7 +40,6 @@ impl<W: Watch> Follower<W> {
     /// Makes it as after `open`.
     pub(crate) fn reopen(&mut self)
         ensures settled { IsSettled W.rule W.looked W.passed self.new.tracker self.new.watch no_bits [] }
-        ensures reported_at { HasReportedAt W.rule self.new.tracker no_bits [] }
         ensures bits { most_fed self.new.tracker ≡ 0 }
     {
         self.tracker.reopen();
@@ -47,12 +48,10 @@ impl<W: Watch> Follower<W> {
 
     /// Appends the bits of each lane.
     pub(crate) fn append(&mut self, lanes: LaneBits<'_>)
-        requires settled { (fed : Fed) × (reported : List TrackEvent) × IsSettled W.rule W.looked W.passed self.old.tracker self.old.watch fed reported }
+        requires settled { (fed : Fed) × (reported : List Told) × IsSettled W.rule W.looked W.passed self.old.tracker self.old.watch fed reported }
         requires lanes { CanFeedLanes (lane_fed self.old.tracker) (most_fed self.old.tracker) lanes }
-        ensures stands { (fed : Fed) (reported : List TrackEvent) → IsSettled W.rule W.looked W.passed self.old.tracker self.old.watch fed reported
+        ensures stands { (fed : Fed) (reported : List Told) → IsSettled W.rule W.looked W.passed self.old.tracker self.old.watch fed reported
             → Stands W.rule W.looked W.passed self.new.tracker self.new.watch (grown_by fed lanes.entry) reported }
-        ensures reported_at { (fed : Fed) (reported : List TrackEvent) (told : List TrackEventAt) → IsSettled W.rule W.looked W.passed self.old.tracker self.old.watch fed reported
-            → HasReportedAt W.rule self.old.tracker fed told → HasReportedAt W.rule self.new.tracker (grown_by fed lanes.entry) told }
     {
         self.tracker.lanes.blue.append(lanes.blue, lanes.bits[0]);
         self.tracker.lanes.green.append(lanes.green, lanes.bits[1]);
@@ -60,18 +59,16 @@ impl<W: Watch> Follower<W> {
     }
 
     /// Reports to the ear what the bits decide.
-    pub(crate) fn follow<F: FeedsLink, E: TrackEar>(
+    pub(crate) fn follow<F: FeedsLink, E: Ear>(
         &mut self,
         feeding: &F,
         ear: &mut E,
     ) -> Result<(), Failed>
-        requires stands { (fed : Fed) × (reported : List TrackEvent) × Stands W.rule W.looked W.passed self.old.tracker self.old.watch fed reported }
-        ensures reported { (fed : Fed) (reported : List TrackEvent) → Stands W.rule W.looked W.passed self.old.tracker self.old.watch fed reported
-            → OnOk result ((more : List TrackEvent) × E.tracked ear.old ear.new more × IsSettled W.rule W.looked W.passed self.new.tracker self.new.watch fed (reported ++ more)) }
-        ensures reported_at { (fed : Fed) (reported : List TrackEvent) (told : List TrackEventAt) → Stands W.rule W.looked W.passed self.old.tracker self.old.watch fed reported → HasReportedAt W.rule self.old.tracker fed told
-            → OnOk result ((more : List TrackEventAt) × E.tracked_at ear.old ear.new more × HasReportedAt W.rule self.new.tracker fed (told ++ more)) }
-        ensures stopped { (fed : Fed) (reported : List TrackEvent) → Stands W.rule W.looked W.passed self.old.tracker self.old.watch fed reported
-            → OnErr result ((more : List TrackEvent) × Stops E.tracked E.lost ear.old ear.new more × Passes W.rule fed (reported ++ more)) }
+        requires stands { (fed : Fed) × (reported : List Told) × Stands W.rule W.looked W.passed self.old.tracker self.old.watch fed reported }
+        ensures reported { (fed : Fed) (reported : List Told) → Stands W.rule W.looked W.passed self.old.tracker self.old.watch fed reported
+            → OnOk result ((more : List Told) × E.took ear.old ear.new more × IsSettled W.rule W.looked W.passed self.new.tracker self.new.watch fed (reported ++ more)) }
+        ensures stopped { (fed : Fed) (reported : List Told) → Stands W.rule W.looked W.passed self.old.tracker self.old.watch fed reported
+            → OnErr result ((more : List Told) × StopsIn E.took E.broke ear.old ear.new more × Passes W.rule fed (reported ++ more)) }
         ensures cause { HasCause (E.faults ear.old) (E.faults ear.new) result }
     {
         while let Some(end) = self.next_end() {
@@ -98,7 +95,7 @@ impl<W: Watch> Follower<W> {
     }
 
     /// Ends the epoch at a place, and begins the next one there.
-    fn close<F: FeedsLink, E: TrackEar>(
+    fn close<F: FeedsLink, E: Ear>(
         &mut self,
         feeding: &F,
         end: End,
@@ -106,12 +103,10 @@ impl<W: Watch> Follower<W> {
     ) -> Result<(), Failed>
         requires close { (fed : Fed) × CanClose W.rule self.old.tracker fed end }
         ensures carries { (fed : Fed) → CanClose W.rule self.old.tracker fed end → OnOk result (Carries self.new.tracker fed × HasLooked W.looked W.passed self.new.tracker self.new.watch fed) }
-        ensures reported { (fed : Fed) (reported : List TrackEvent) → CanClose W.rule self.old.tracker fed end → HasReported W.rule self.old.tracker fed reported
-            → OnOk result ((more : List TrackEvent) × E.tracked ear.old ear.new more × HasReported W.rule self.new.tracker fed (reported ++ more)) }
-        ensures reported_at { (fed : Fed) (reported : List TrackEventAt) → CanClose W.rule self.old.tracker fed end → HasReportedAt W.rule self.old.tracker fed reported
-            → OnOk result ((more : List TrackEventAt) × E.tracked_at ear.old ear.new more × HasReportedAt W.rule self.new.tracker fed (reported ++ more)) }
-        ensures stopped { (fed : Fed) (reported : List TrackEvent) → CanClose W.rule self.old.tracker fed end → HasReported W.rule self.old.tracker fed reported
-            → OnErr result ((more : List TrackEvent) × Stops E.tracked E.lost ear.old ear.new more × Passes W.rule fed (reported ++ more)) }
+        ensures reported { (fed : Fed) (reported : List Told) → CanClose W.rule self.old.tracker fed end → HasReportedAt W.rule self.old.tracker fed reported
+            → OnOk result ((more : List Told) × E.took ear.old ear.new more × HasReportedAt W.rule self.new.tracker fed (reported ++ more)) }
+        ensures stopped { (fed : Fed) (reported : List Told) → CanClose W.rule self.old.tracker fed end → HasReportedAt W.rule self.old.tracker fed reported
+            → OnErr result ((more : List Told) × StopsIn E.took E.broke ear.old ear.new more × Passes W.rule fed (reported ++ more)) }
         ensures start { OnOk result (self.new.tracker.start ≡ self.old.tracker.start + end.place) }
         ensures handed { OnOk result (self.new.tracker.handed ≡ 0) }
         ensures cause { HasCause (E.faults ear.old) (E.faults ear.new) result }
@@ -123,15 +118,13 @@ impl<W: Watch> Follower<W> {
     }
 
     /// Ends the epoch after all its bits were handed on, and begins the next one.
-    fn turn<E: TrackEar>(&mut self, end: End, ear: &mut E) -> Result<(), Failed>
+    fn turn<E: Ear>(&mut self, end: End, ear: &mut E) -> Result<(), Failed>
         requires turn { (fed : Fed) × CanTurn W.rule self.old.tracker fed end }
         ensures carries { (fed : Fed) → CanTurn W.rule self.old.tracker fed end → OnOk result (Carries self.new.tracker fed × HasLooked W.looked W.passed self.new.tracker self.new.watch fed) }
-        ensures reported { (fed : Fed) (reported : List TrackEvent) → CanTurn W.rule self.old.tracker fed end → HasReported W.rule self.old.tracker fed reported
-            → OnOk result ((more : List TrackEvent) × E.tracked ear.old ear.new more × HasReported W.rule self.new.tracker fed (reported ++ more)) }
-        ensures reported_at { (fed : Fed) (reported : List TrackEventAt) → CanTurn W.rule self.old.tracker fed end → HasReportedAt W.rule self.old.tracker fed reported
-            → OnOk result ((more : List TrackEventAt) × E.tracked_at ear.old ear.new more × HasReportedAt W.rule self.new.tracker fed (reported ++ more)) }
-        ensures stopped { (fed : Fed) (reported : List TrackEvent) → CanTurn W.rule self.old.tracker fed end → HasReported W.rule self.old.tracker fed reported
-            → OnErr result ((more : List TrackEvent) × Stops E.tracked E.lost ear.old ear.new more × Passes W.rule fed (reported ++ more)) }
+        ensures reported { (fed : Fed) (reported : List Told) → CanTurn W.rule self.old.tracker fed end → HasReportedAt W.rule self.old.tracker fed reported
+            → OnOk result ((more : List Told) × E.took ear.old ear.new more × HasReportedAt W.rule self.new.tracker fed (reported ++ more)) }
+        ensures stopped { (fed : Fed) (reported : List Told) → CanTurn W.rule self.old.tracker fed end → HasReportedAt W.rule self.old.tracker fed reported
+            → OnErr result ((more : List Told) × StopsIn E.took E.broke ear.old ear.new more × Passes W.rule fed (reported ++ more)) }
         ensures start { OnOk result (self.new.tracker.start ≡ self.old.tracker.start + end.place) }
         ensures handed { OnOk result (self.new.tracker.handed ≡ 0) }
         ensures cause { HasCause (E.faults ear.old) (E.faults ear.new) result }
@@ -144,18 +137,16 @@ impl<W: Watch> Follower<W> {
     }
 
     /// Reports the rest to the ear.
-    pub(crate) fn finish<F: FeedsLink, E: TrackEar>(
+    pub(crate) fn finish<F: FeedsLink, E: Ear>(
         &mut self,
         feeding: &F,
         ear: &mut E,
     ) -> Result<TrackOutcome, Failed>
-        requires settled { (fed : Fed) × (reported : List TrackEvent) × IsSettled W.rule W.looked W.passed self.old.tracker self.old.watch fed reported }
-        ensures reported { (fed : Fed) (reported : List TrackEvent) → IsSettled W.rule W.looked W.passed self.old.tracker self.old.watch fed reported
-            → IfOk result (λ outcome. (last : List TrackEvent) × E.tracked ear.old ear.new last × IsTrackBy W.rule fed outcome.epochs outcome.aligned (reported ++ last)) }
-        ensures reported_at { (fed : Fed) (reported : List TrackEvent) (told : List TrackEventAt) → IsSettled W.rule W.looked W.passed self.old.tracker self.old.watch fed reported → HasReportedAt W.rule self.old.tracker fed told
-            → IfOk result (λ outcome. (last : List TrackEventAt) × E.tracked_at ear.old ear.new last × IsTrackAt W.rule fed outcome.epochs outcome.aligned (told ++ last)) }
-        ensures stopped { (fed : Fed) (reported : List TrackEvent) → IsSettled W.rule W.looked W.passed self.old.tracker self.old.watch fed reported
-            → OnErr result ((epochs aligned : ℕ) × (last : List TrackEvent) × Stops E.tracked E.lost ear.old ear.new last × IsTrackBy W.rule fed epochs aligned (reported ++ last)) }
+        requires settled { (fed : Fed) × (reported : List Told) × IsSettled W.rule W.looked W.passed self.old.tracker self.old.watch fed reported }
+        ensures reported { (fed : Fed) (reported : List Told) → IsSettled W.rule W.looked W.passed self.old.tracker self.old.watch fed reported
+            → IfOk result (λ outcome. (last : List Told) × E.took ear.old ear.new last × IsTrackAt W.rule fed outcome.epochs outcome.aligned (reported ++ last)) }
+        ensures stopped { (fed : Fed) (reported : List Told) → IsSettled W.rule W.looked W.passed self.old.tracker self.old.watch fed reported
+            → OnErr result ((epochs aligned : ℕ) × (last : List Told) × StopsIn E.took E.broke ear.old ear.new last × IsTrackAt W.rule fed epochs aligned (reported ++ last)) }
         ensures cause { HasCause (E.faults ear.old) (E.faults ear.new) result }
     {
         let left = self.tracker.lanes.longest();
@@ -169,16 +160,15 @@ impl<W: Watch> Follower<W> {
 }
 
 /// Reports to the ear that an epoch ended and the next one begins at a place, where there is anything to report of it.
-fn tell_end<E: TrackEar>(ear: &mut E, begun: bool, cause: Cause, place: u64) -> Result<(), Failed>
+fn tell_end<E: Ear>(ear: &mut E, begun: bool, cause: Cause, place: u64) -> Result<(), Failed>
     requires { IsLane cause }
-    ensures ok { OnOk result (E.tracked ear.old ear.new (end_events begun cause place)) }
-    ensures ok_at { OnOk result (E.tracked_at ear.old ear.new (end_events begun cause place)) }
-    ensures err { OnErr result (Stops E.tracked E.lost ear.old ear.new (end_events begun cause place)) }
+    ensures ok { OnOk result (E.took ear.old ear.new (end_events begun cause place)) }
+    ensures err { OnErr result (StopsIn E.took E.broke ear.old ear.new (end_events begun cause place)) }
     ensures cause { HasCause (E.faults ear.old) (E.faults ear.new) result }
 {
     match cause {
-        Cause::Slip(lane) if begun => ear.slip(lane, place),
-        Cause::Refuted if begun => ear.relock(place),
+        Cause::Slip(lane) if begun => ear.hear(ToldRef::Slip { lane, place }),
+        Cause::Refuted if begun => ear.hear(ToldRef::Relock { place }),
         _ => Ok(()),
     }
 }

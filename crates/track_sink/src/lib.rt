@@ -1,24 +1,24 @@
 //! Recovers three lanes that may lose bits, epoch by epoch.
 //!
-//! An `EpochSink` reports to a `TrackEar` the one list of events and slips of the lanes' epochs (`IsTrackBy`), in whatever
-//! feeds the bits arrive. Before the end it may hold back what the last few bits of a lane decide. An ear that uses columns
-//! gets each event at its column of its epoch (`IsTrackAt`; so far `HasTrackedAt`, of which there is one list). An epoch ends
-//! by the rule of the sink's `Watch`. In a `TrackSink` epochs end at strays (`IsTrack`), and at most 126 bits are undecided.
-//! The caller's own thread may feed (`feed_in_turn`). Only opening allocates; `restart` does not.
+//! An `EpochSink` tells an `Ear` the one list of events and slips of the lanes' epochs, each event at its column of its epoch
+//! (`IsTrackAt`; so far `HasTrackedAt`, of which there is one list), in whatever feeds the bits arrive. Without the columns these
+//! are the events that are reported (`IsTrackBy`). Before the end it may hold back what the last few bits of a lane decide. An
+//! epoch ends by the rule of the sink's `Watch`. In a `TrackSink` epochs end at strays (`IsTrack`), and at most 126 bits are
+//! undecided. The caller's own thread may feed (`feed_in_turn`). Only opening allocates; `restart` does not.
 #![tactic(auto)]
 
-mod ear;
 mod feeding;
 mod follower;
 mod held;
 mod lane;
 mod lanes;
+mod outcome;
 mod sink;
 mod strays;
 mod tracker;
 mod watch;
 
-pub use ear::{TrackEar, TrackOutcome};
+pub use outcome::TrackOutcome;
 pub use sink::{EpochSink, TrackSink};
 pub use strays::Strays;
 pub use watch::{Cause, End, LentBits, LentLanes, Watch};

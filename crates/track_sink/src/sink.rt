@@ -1,20 +1,22 @@
 //! A sink of the bits of three lanes that may lose some.
 ghost use Rattle.std.specs.Prelude.{ℕ, ◌≡◌, ◌++◌, List, [], true, false, IfOk, OnOk, OnErr};
 ghost use Rattle.outside_io.specs.Causes.{HasCause};
+ghost use Rattle.link_sink.specs.Told.{Told};
+ghost use Rattle.link_sink.specs.Ears.{StopsIn};
 ghost use Rattle.link_sink.specs.Sinks.{Fed, grown_by};
 ghost use Rattle.link_sink.specs.Pieces.{no_bits};
 ghost use Rattle.link_sink.specs.Received.{CanFeedLanes, AreFedMore};
-ghost use Rattle.track_sink.specs.TrackEvents.{TrackEvent, TrackEventAt};
-ghost use Rattle.track_sink.specs.Epochs.{IsTrackBy, IsTrackAt};
-ghost use Rattle.track_sink.specs.Tracks.{HasTrackedBy};
-ghost use Rattle.track_sink.specs.Trackers.{Stops};
-ghost use Rattle.track_sink.specs.TrackSinks.{EpochSinkRepresents, EpochSinkTells, bits_fed, most_bits};
+ghost use Rattle.track_sink.specs.Epochs.{IsTrackAt};
+ghost use Rattle.track_sink.specs.Tracks.{HasTrackedAt};
+ghost use Rattle.track_sink.specs.TrackSinks.{EpochSinkTells, bits_fed, most_bits};
 
 use crate::feeding::{FeedsLink, LinkByWorkers, LinkInTurn};
 use crate::follower::Follower;
 use crate::strays::Strays;
 use crate::watch::Watch;
-use crate::{TrackEar, TrackOutcome};
+use crate::TrackOutcome;
+use lane_team::Gate;
+use link_sink::{Ear, EndCounts, Receives};
 use outside_io::{Failed, NoMemory};
 use std::alloc::Global;
 use std::marker::Model;
@@ -46,8 +48,7 @@ impl<W: Watch> EpochSink<W> {
     /// A sink that was fed no bits, with all memory that it ever has.
     pub fn open(alloc: Global) -> Result<EpochSink<W>, NoMemory>
         ensures open { IfOk result (λ s. s.is_open ≡ true) }
-        ensures fed { IfOk result (λ s. EpochSinkRepresents W.rule W.looked W.passed s no_bits []) }
-        ensures told { IfOk result (λ s. EpochSinkTells W.rule W.looked W.passed s no_bits []) }
+        ensures fed { IfOk result (λ s. EpochSinkTells W.rule W.looked W.passed s no_bits []) }
         ensures bits { IfOk result (λ s. most_bits s ≡ 0) }
     {
         Ok(EpochSink {
@@ -59,8 +60,7 @@ impl<W: Watch> EpochSink<W> {
     /// Makes it as after `open`, also where it is spent or finished.
     pub fn restart(&mut self)
         ensures open { self.new.is_open ≡ true }
-        ensures fed { EpochSinkRepresents W.rule W.looked W.passed self.new no_bits [] }
-        ensures told { EpochSinkTells W.rule W.looked W.passed self.new no_bits [] }
+        ensures fed { EpochSinkTells W.rule W.looked W.passed self.new no_bits [] }
         ensures bits { most_bits self.new ≡ 0 }
     {
         self.follower.reopen();
@@ -81,7 +81,7 @@ impl<W: Watch> EpochSink<W> {
     ///
     /// Where a call of the ear failed; the sink is then spent. The ear took the first of the events that are reported
     /// of these bits, and failed in the next.
-    pub fn feed<R: Threads, E: TrackEar>(
+    pub fn feed<R: Threads, E: Ear>(
         &mut self,
         rt: &R,
         lanes: LaneBits<'_>,
@@ -91,12 +91,10 @@ impl<W: Watch> EpochSink<W> {
         requires lanes { CanFeedLanes (bits_fed self.old) (most_bits self.old) lanes }
         ensures open { OnOk result (self.new.is_open ≡ true) }
         ensures more { OnOk result (AreFedMore (bits_fed self.old) (bits_fed self.new) lanes.entry) }
-        ensures reported { (fed : Fed) (reported : List TrackEvent) → EpochSinkRepresents W.rule W.looked W.passed self.old fed reported
-            → OnOk result ((more : List TrackEvent) × E.tracked ear.old ear.new more × EpochSinkRepresents W.rule W.looked W.passed self.new (grown_by fed lanes.entry) (reported ++ more)) }
-        ensures reported_at { (fed : Fed) (reported : List TrackEventAt) → EpochSinkTells W.rule W.looked W.passed self.old fed reported
-            → OnOk result ((more : List TrackEventAt) × E.tracked_at ear.old ear.new more × EpochSinkTells W.rule W.looked W.passed self.new (grown_by fed lanes.entry) (reported ++ more)) }
-        ensures stopped { (fed : Fed) (reported : List TrackEvent) → EpochSinkRepresents W.rule W.looked W.passed self.old fed reported
-            → OnErr result ((more : List TrackEvent) × Stops E.tracked E.lost ear.old ear.new more × HasTrackedBy W.rule (grown_by fed lanes.entry) (reported ++ more)) }
+        ensures reported { (fed : Fed) (reported : List Told) → EpochSinkTells W.rule W.looked W.passed self.old fed reported
+            → OnOk result ((more : List Told) × E.took ear.old ear.new more × EpochSinkTells W.rule W.looked W.passed self.new (grown_by fed lanes.entry) (reported ++ more)) }
+        ensures stopped { (fed : Fed) (reported : List Told) → EpochSinkTells W.rule W.looked W.passed self.old fed reported
+            → OnErr result ((more : List Told) × StopsIn E.took E.broke ear.old ear.new more × HasTrackedAt W.rule (grown_by fed lanes.entry) (reported ++ more)) }
         ensures spent { OnErr result (self.new.is_open ≡ false) }
         ensures cause { HasCause (E.faults ear.old) (E.faults ear.new) result }
     {
@@ -110,7 +108,7 @@ impl<W: Watch> EpochSink<W> {
     ///
     /// Where a call of the ear failed; the sink is then spent. The ear took the first of the events that are reported
     /// of these bits, and failed in the next.
-    pub fn feed_in_turn<E: TrackEar>(
+    pub fn feed_in_turn<E: Ear>(
         &mut self,
         lanes: LaneBits<'_>,
         ear: &mut E,
@@ -119,12 +117,10 @@ impl<W: Watch> EpochSink<W> {
         requires lanes { CanFeedLanes (bits_fed self.old) (most_bits self.old) lanes }
         ensures open { OnOk result (self.new.is_open ≡ true) }
         ensures more { OnOk result (AreFedMore (bits_fed self.old) (bits_fed self.new) lanes.entry) }
-        ensures reported { (fed : Fed) (reported : List TrackEvent) → EpochSinkRepresents W.rule W.looked W.passed self.old fed reported
-            → OnOk result ((more : List TrackEvent) × E.tracked ear.old ear.new more × EpochSinkRepresents W.rule W.looked W.passed self.new (grown_by fed lanes.entry) (reported ++ more)) }
-        ensures reported_at { (fed : Fed) (reported : List TrackEventAt) → EpochSinkTells W.rule W.looked W.passed self.old fed reported
-            → OnOk result ((more : List TrackEventAt) × E.tracked_at ear.old ear.new more × EpochSinkTells W.rule W.looked W.passed self.new (grown_by fed lanes.entry) (reported ++ more)) }
-        ensures stopped { (fed : Fed) (reported : List TrackEvent) → EpochSinkRepresents W.rule W.looked W.passed self.old fed reported
-            → OnErr result ((more : List TrackEvent) × Stops E.tracked E.lost ear.old ear.new more × HasTrackedBy W.rule (grown_by fed lanes.entry) (reported ++ more)) }
+        ensures reported { (fed : Fed) (reported : List Told) → EpochSinkTells W.rule W.looked W.passed self.old fed reported
+            → OnOk result ((more : List Told) × E.took ear.old ear.new more × EpochSinkTells W.rule W.looked W.passed self.new (grown_by fed lanes.entry) (reported ++ more)) }
+        ensures stopped { (fed : Fed) (reported : List Told) → EpochSinkTells W.rule W.looked W.passed self.old fed reported
+            → OnErr result ((more : List Told) × StopsIn E.took E.broke ear.old ear.new more × HasTrackedAt W.rule (grown_by fed lanes.entry) (reported ++ more)) }
         ensures spent { OnErr result (self.new.is_open ≡ false) }
         ensures cause { HasCause (E.faults ear.old) (E.faults ear.new) result }
     {
@@ -132,7 +128,7 @@ impl<W: Watch> EpochSink<W> {
     }
 
     /// Takes the bits of each lane, in one of these ways.
-    fn feed_by<F: FeedsLink, E: TrackEar>(
+    fn feed_by<F: FeedsLink, E: Ear>(
         &mut self,
         feeding: &F,
         lanes: LaneBits<'_>,
@@ -142,12 +138,10 @@ impl<W: Watch> EpochSink<W> {
         requires lanes { CanFeedLanes (bits_fed self.old) (most_bits self.old) lanes }
         ensures open { OnOk result (self.new.is_open ≡ true) }
         ensures more { OnOk result (AreFedMore (bits_fed self.old) (bits_fed self.new) lanes.entry) }
-        ensures reported { (fed : Fed) (reported : List TrackEvent) → EpochSinkRepresents W.rule W.looked W.passed self.old fed reported
-            → OnOk result ((more : List TrackEvent) × E.tracked ear.old ear.new more × EpochSinkRepresents W.rule W.looked W.passed self.new (grown_by fed lanes.entry) (reported ++ more)) }
-        ensures reported_at { (fed : Fed) (reported : List TrackEventAt) → EpochSinkTells W.rule W.looked W.passed self.old fed reported
-            → OnOk result ((more : List TrackEventAt) × E.tracked_at ear.old ear.new more × EpochSinkTells W.rule W.looked W.passed self.new (grown_by fed lanes.entry) (reported ++ more)) }
-        ensures stopped { (fed : Fed) (reported : List TrackEvent) → EpochSinkRepresents W.rule W.looked W.passed self.old fed reported
-            → OnErr result ((more : List TrackEvent) × Stops E.tracked E.lost ear.old ear.new more × HasTrackedBy W.rule (grown_by fed lanes.entry) (reported ++ more)) }
+        ensures reported { (fed : Fed) (reported : List Told) → EpochSinkTells W.rule W.looked W.passed self.old fed reported
+            → OnOk result ((more : List Told) × E.took ear.old ear.new more × EpochSinkTells W.rule W.looked W.passed self.new (grown_by fed lanes.entry) (reported ++ more)) }
+        ensures stopped { (fed : Fed) (reported : List Told) → EpochSinkTells W.rule W.looked W.passed self.old fed reported
+            → OnErr result ((more : List Told) × StopsIn E.took E.broke ear.old ear.new more × HasTrackedAt W.rule (grown_by fed lanes.entry) (reported ++ more)) }
         ensures spent { OnErr result (self.new.is_open ≡ false) }
         ensures cause { HasCause (E.faults ear.old) (E.faults ear.new) result }
     {
@@ -168,19 +162,17 @@ impl<W: Watch> EpochSink<W> {
     ///
     /// Where a call of the ear failed: it took the first of the events that are reported of the rest, and failed
     /// in the next.
-    pub fn finish<R: Threads, E: TrackEar>(
+    pub fn finish<R: Threads, E: Ear>(
         &mut self,
         rt: &R,
         ear: &mut E,
     ) -> Result<TrackOutcome, Failed>
         requires open { self.old.is_open ≡ true }
         ensures closed { self.new.is_open ≡ false }
-        ensures reported { (fed : Fed) (reported : List TrackEvent) → EpochSinkRepresents W.rule W.looked W.passed self.old fed reported
-            → IfOk result (λ outcome. (last : List TrackEvent) × E.tracked ear.old ear.new last × IsTrackBy W.rule fed outcome.epochs outcome.aligned (reported ++ last)) }
-        ensures reported_at { (fed : Fed) (reported : List TrackEventAt) → EpochSinkTells W.rule W.looked W.passed self.old fed reported
-            → IfOk result (λ outcome. (last : List TrackEventAt) × E.tracked_at ear.old ear.new last × IsTrackAt W.rule fed outcome.epochs outcome.aligned (reported ++ last)) }
-        ensures stopped { (fed : Fed) (reported : List TrackEvent) → EpochSinkRepresents W.rule W.looked W.passed self.old fed reported
-            → OnErr result ((epochs aligned : ℕ) × (last : List TrackEvent) × Stops E.tracked E.lost ear.old ear.new last × IsTrackBy W.rule fed epochs aligned (reported ++ last)) }
+        ensures reported { (fed : Fed) (reported : List Told) → EpochSinkTells W.rule W.looked W.passed self.old fed reported
+            → IfOk result (λ outcome. (last : List Told) × E.took ear.old ear.new last × IsTrackAt W.rule fed outcome.epochs outcome.aligned (reported ++ last)) }
+        ensures stopped { (fed : Fed) (reported : List Told) → EpochSinkTells W.rule W.looked W.passed self.old fed reported
+            → OnErr result ((epochs aligned : ℕ) × (last : List Told) × StopsIn E.took E.broke ear.old ear.new last × IsTrackAt W.rule fed epochs aligned (reported ++ last)) }
         ensures cause { HasCause (E.faults ear.old) (E.faults ear.new) result }
     {
         self.finish_by(&LinkByWorkers { rt }, ear)
@@ -192,37 +184,76 @@ impl<W: Watch> EpochSink<W> {
     ///
     /// Where a call of the ear failed: it took the first of the events that are reported of the rest, and failed
     /// in the next.
-    pub fn finish_in_turn<E: TrackEar>(&mut self, ear: &mut E) -> Result<TrackOutcome, Failed>
+    pub fn finish_in_turn<E: Ear>(&mut self, ear: &mut E) -> Result<TrackOutcome, Failed>
         requires open { self.old.is_open ≡ true }
         ensures closed { self.new.is_open ≡ false }
-        ensures reported { (fed : Fed) (reported : List TrackEvent) → EpochSinkRepresents W.rule W.looked W.passed self.old fed reported
-            → IfOk result (λ outcome. (last : List TrackEvent) × E.tracked ear.old ear.new last × IsTrackBy W.rule fed outcome.epochs outcome.aligned (reported ++ last)) }
-        ensures reported_at { (fed : Fed) (reported : List TrackEventAt) → EpochSinkTells W.rule W.looked W.passed self.old fed reported
-            → IfOk result (λ outcome. (last : List TrackEventAt) × E.tracked_at ear.old ear.new last × IsTrackAt W.rule fed outcome.epochs outcome.aligned (reported ++ last)) }
-        ensures stopped { (fed : Fed) (reported : List TrackEvent) → EpochSinkRepresents W.rule W.looked W.passed self.old fed reported
-            → OnErr result ((epochs aligned : ℕ) × (last : List TrackEvent) × Stops E.tracked E.lost ear.old ear.new last × IsTrackBy W.rule fed epochs aligned (reported ++ last)) }
+        ensures reported { (fed : Fed) (reported : List Told) → EpochSinkTells W.rule W.looked W.passed self.old fed reported
+            → IfOk result (λ outcome. (last : List Told) × E.took ear.old ear.new last × IsTrackAt W.rule fed outcome.epochs outcome.aligned (reported ++ last)) }
+        ensures stopped { (fed : Fed) (reported : List Told) → EpochSinkTells W.rule W.looked W.passed self.old fed reported
+            → OnErr result ((epochs aligned : ℕ) × (last : List Told) × StopsIn E.took E.broke ear.old ear.new last × IsTrackAt W.rule fed epochs aligned (reported ++ last)) }
         ensures cause { HasCause (E.faults ear.old) (E.faults ear.new) result }
     {
         self.finish_by(&LinkInTurn, ear)
     }
 
     /// Reports the rest to the ear, in one of these ways.
-    fn finish_by<F: FeedsLink, E: TrackEar>(
+    fn finish_by<F: FeedsLink, E: Ear>(
         &mut self,
         feeding: &F,
         ear: &mut E,
     ) -> Result<TrackOutcome, Failed>
         requires open { self.old.is_open ≡ true }
         ensures closed { self.new.is_open ≡ false }
-        ensures reported { (fed : Fed) (reported : List TrackEvent) → EpochSinkRepresents W.rule W.looked W.passed self.old fed reported
-            → IfOk result (λ outcome. (last : List TrackEvent) × E.tracked ear.old ear.new last × IsTrackBy W.rule fed outcome.epochs outcome.aligned (reported ++ last)) }
-        ensures reported_at { (fed : Fed) (reported : List TrackEventAt) → EpochSinkTells W.rule W.looked W.passed self.old fed reported
-            → IfOk result (λ outcome. (last : List TrackEventAt) × E.tracked_at ear.old ear.new last × IsTrackAt W.rule fed outcome.epochs outcome.aligned (reported ++ last)) }
-        ensures stopped { (fed : Fed) (reported : List TrackEvent) → EpochSinkRepresents W.rule W.looked W.passed self.old fed reported
-            → OnErr result ((epochs aligned : ℕ) × (last : List TrackEvent) × Stops E.tracked E.lost ear.old ear.new last × IsTrackBy W.rule fed epochs aligned (reported ++ last)) }
+        ensures reported { (fed : Fed) (reported : List Told) → EpochSinkTells W.rule W.looked W.passed self.old fed reported
+            → IfOk result (λ outcome. (last : List Told) × E.took ear.old ear.new last × IsTrackAt W.rule fed outcome.epochs outcome.aligned (reported ++ last)) }
+        ensures stopped { (fed : Fed) (reported : List Told) → EpochSinkTells W.rule W.looked W.passed self.old fed reported
+            → OnErr result ((epochs aligned : ℕ) × (last : List Told) × StopsIn E.took E.broke ear.old ear.new last × IsTrackAt W.rule fed epochs aligned (reported ++ last)) }
         ensures cause { HasCause (E.faults ear.old) (E.faults ear.new) result }
     {
         self.is_open = false;
         self.follower.finish(feeding, ear)
     }
+}
+
+impl<W: Watch> Receives for EpochSink<W> {
+    ghost use Rattle.track_sink.specs.TrackSinks.{EpochSinkTells, by_epochs, bits_fed};
+
+    ghost account = { by_epochs W.rule };
+
+    ghost stands = { EpochSinkTells W.rule W.looked W.passed };
+
+    ghost is_open = { λ s. s.is_open };
+
+    ghost bits = { λ s lane. bits_fed s lane };
+
+    // It has no gate.
+    fn feed_by_workers<R: Threads, E: Ear, G: Gate>(
+        &mut self,
+        rt: &R,
+        lanes: LaneBits<'_>,
+        _: &G,
+        ear: &mut E,
+    ) -> Result<(), Failed> {
+        self.feed(rt, lanes, ear)
+    }
+
+    fn feed_in_turn<E: Ear>(&mut self, lanes: LaneBits<'_>, ear: &mut E) -> Result<(), Failed> {
+        self.feed_in_turn(lanes, ear)
+    }
+
+    fn finish_by_workers<R: Threads, E: Ear>(
+        &mut self,
+        rt: &R,
+        ear: &mut E,
+    ) -> Result<EndCounts, Failed> {
+        let outcome = self.finish(rt, ear)?;
+        Ok(outcome.counts())
+    }
+
+    fn finish_in_turn<E: Ear>(&mut self, ear: &mut E) -> Result<EndCounts, Failed> {
+        let outcome = self.finish_in_turn(ear)?;
+        Ok(outcome.counts())
+    }
+
+    ghost is_so_far = { λ x fed told h. h.tracked };
 }

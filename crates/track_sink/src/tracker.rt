@@ -3,10 +3,11 @@ ghost use Rattle.std.specs.Prelude.{ℕ, ◌≡◌, ◌<◌, ◌≤◌, ◌+◌,
 ghost use Rattle.outside_io.specs.Causes.{HasCause};
 ghost use Rattle.terc4.specs.Columns.{one_if};
 ghost use Rattle.period_grammar.specs.Events.{Event, EventAt, all_at};
+ghost use Rattle.link_sink.specs.Told.{TookAt, BrokeAt};
 ghost use Rattle.link_sink.specs.Ears.{StopsIn};
 ghost use Rattle.link_sink.specs.Grammar.{link_grammar};
 ghost use Rattle.link_sink.specs.declared.hear.Outcome.{Outcome as OutcomeValue};
-ghost use Rattle.link_sink.specs.Sinks.{Fed, IsGain, IsGainAt, IsLast};
+ghost use Rattle.link_sink.specs.Sinks.{Fed, IsGainAt, IsLast};
 ghost use Rattle.link_sink.specs.Pieces.{no_bits};
 ghost use Rattle.link_sink.specs.Streams.{SinkRepresents, most_bits};
 ghost use Rattle.track_sink.specs.Epochs.{most_of, rest_of, front_of};
@@ -66,14 +67,11 @@ impl Tracker {
         requires most { bits ≤ FEED_BITS }
         ensures carries { (fed : Fed) → Carries self.old fed → self.old.start + self.old.handed + bits ≤ most_of fed → OnOk result (Carries self.new fed) }
         ensures reported { (fed : Fed) → Carries self.old fed → self.old.start + self.old.handed + bits ≤ most_of fed
-            → OnOk result ((events : List Event) × IsGain (front_of self.old.handed (rest_of self.old.start fed)) (front_of (self.old.handed + bits) (rest_of self.old.start fed)) events
-            × E.took ear.old ear.new events) }
-        ensures reported_at { (fed : Fed) → Carries self.old fed → self.old.start + self.old.handed + bits ≤ most_of fed
             → OnOk result ((events : List EventAt) × IsGainAt link_grammar (front_of self.old.handed (rest_of self.old.start fed)) (front_of (self.old.handed + bits) (rest_of self.old.start fed)) events
-            × E.took_at ear.old ear.new events) }
+            × TookAt E.took ear.old ear.new events) }
         ensures stopped { (fed : Fed) → Carries self.old fed → self.old.start + self.old.handed + bits ≤ most_of fed
-            → OnErr result ((events : List Event) × IsGain (front_of self.old.handed (rest_of self.old.start fed)) (front_of (self.old.handed + bits) (rest_of self.old.start fed)) events
-            × StopsIn E.took E.broke ear.old ear.new events) }
+            → OnErr result ((events : List EventAt) × IsGainAt link_grammar (front_of self.old.handed (rest_of self.old.start fed)) (front_of (self.old.handed + bits) (rest_of self.old.start fed)) events
+            × StopsIn (TookAt E.took) (BrokeAt E.broke) ear.old ear.new events) }
         ensures handed { OnOk result (self.new.handed ≡ self.old.handed + bits) }
         ensures start { self.new.start ≡ self.old.start }
         ensures begun { self.new.begun ≡ self.old.begun }
@@ -108,14 +106,11 @@ impl Tracker {
         requires most { bits ≤ 2 * FEED_BITS }
         ensures carries { (fed : Fed) → Carries self.old fed → self.old.start + self.old.handed + bits ≤ most_of fed → OnOk result (Carries self.new fed) }
         ensures reported { (fed : Fed) → Carries self.old fed → self.old.start + self.old.handed + bits ≤ most_of fed
-            → OnOk result ((events : List Event) × IsGain (front_of self.old.handed (rest_of self.old.start fed)) (front_of (self.old.handed + bits) (rest_of self.old.start fed)) events
-            × E.took ear.old ear.new events) }
-        ensures reported_at { (fed : Fed) → Carries self.old fed → self.old.start + self.old.handed + bits ≤ most_of fed
             → OnOk result ((events : List EventAt) × IsGainAt link_grammar (front_of self.old.handed (rest_of self.old.start fed)) (front_of (self.old.handed + bits) (rest_of self.old.start fed)) events
-            × E.took_at ear.old ear.new events) }
+            × TookAt E.took ear.old ear.new events) }
         ensures stopped { (fed : Fed) → Carries self.old fed → self.old.start + self.old.handed + bits ≤ most_of fed
-            → OnErr result ((some : ℕ) × (some ≤ bits) × (events : List Event) × IsGain (front_of self.old.handed (rest_of self.old.start fed)) (front_of (self.old.handed + some) (rest_of self.old.start fed)) events
-            × StopsIn E.took E.broke ear.old ear.new events) }
+            → OnErr result ((some : ℕ) × (some ≤ bits) × (events : List EventAt) × IsGainAt link_grammar (front_of self.old.handed (rest_of self.old.start fed)) (front_of (self.old.handed + some) (rest_of self.old.start fed)) events
+            × StopsIn (TookAt E.took) (BrokeAt E.broke) ear.old ear.new events) }
         ensures handed { OnOk result (self.new.handed ≡ self.old.handed + bits) }
         ensures start { self.new.start ≡ self.old.start }
         ensures begun { self.new.begun ≡ self.old.begun }
@@ -137,11 +132,9 @@ impl Tracker {
         requires few { self.old.epochs + 1 < 2 ^ 64 }
         requires fewer { self.old.aligned ≤ self.old.epochs }
         ensures reported { (fed : Fed) → SinkRepresents self.old.link fed
-            → IfOk result (λ outcome. (events : List Event) × IsLast fed outcome events × E.took ear.old ear.new events) }
-        ensures reported_at { (fed : Fed) → SinkRepresents self.old.link fed
-            → IfOk result (λ outcome. (events : List Event) × IsLast fed outcome events × E.took_at ear.old ear.new (all_at outcome.columns events)) }
+            → IfOk result (λ outcome. (events : List Event) × IsLast fed outcome events × TookAt E.took ear.old ear.new (all_at outcome.columns events)) }
         ensures stopped { (fed : Fed) → SinkRepresents self.old.link fed
-            → OnErr result ((outcome : OutcomeValue) × (events : List Event) × IsLast fed outcome events × StopsIn E.took E.broke ear.old ear.new events) }
+            → OnErr result ((outcome : OutcomeValue) × (events : List Event) × IsLast fed outcome events × StopsIn (TookAt E.took) (BrokeAt E.broke) ear.old ear.new (all_at outcome.columns events)) }
         ensures begun { IfOk result (λ outcome. self.new.begun ≡ (self.old.begun || outcome.aligned)) }
         ensures epochs { OnOk result (self.new.epochs ≡ self.old.epochs + 1) }
         ensures aligned { IfOk result (λ outcome. self.new.aligned ≡ self.old.aligned + one_if outcome.aligned) }

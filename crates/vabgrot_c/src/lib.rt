@@ -53,7 +53,7 @@ ghost use Rattle.island_pack.specs.Periods.{pixels_of};
 ghost use Rattle.island_pack.specs.Spelling.{SpellsPixels, column_words, control_column, guard_column};
 ghost use Rattle.link_sink.specs.Sinks.{Fed};
 ghost use Rattle.link_sink.specs.Pieces.{no_bits};
-ghost use Rattle.track_sink.specs.TrackEvents.{TrackEventAt};
+ghost use Rattle.link_sink.specs.Told.{Told};
 ghost use Rattle.command_line.specs.declared.command.Command.TheVariants.{Check};
 ghost use Rattle.c_capture.specs.Listed.{Lists, Recovers};
 ghost use Rattle.c_capture.specs.Made.{Makes};
@@ -69,7 +69,7 @@ ghost use Rattle.c_room.specs.Orders.{FollowInOrderOf};
 ghost use Rattle.c_room.specs.Reports.{IsGainOfKind, IsEndOfKind, counted};
 ghost use Rattle.c_room.specs.Statuses.{code_of, IsOpenStatus};
 ghost use Rattle.c_room.specs.Takes.{no_counts, grown_first};
-ghost use Rattle.c_room.specs.TrackWritten.{AreTold};
+ghost use Rattle.c_room.specs.Written.{AreTold};
 ghost use Rattle.c_room.specs.declared.kind.Kind.{Kind as KindValue};
 ghost use Rattle.c_room.specs.declared.status.Status.{Status as StatusValue};
 ghost use Rattle.c_room.specs.declared.status.Status.TheVariants.{Done, Full, Misuse, TooMany};
@@ -130,7 +130,7 @@ pub extern "C" fn vabgrot_feed(
     ensures handle { IsHandle handle.new }
     ensures stands { (kind : KindValue) (fed : Fed) → Holds handle.old.slot.value kind fed → Holds handle.new.slot.value kind (grown_first answer.new.taken fed blue.now green.now red.now) }
     ensures reported { (kind : KindValue) (fed : Fed) → Holds handle.old.slot.value kind fed
-        → (told : List TrackEventAt) × IsGainOfKind kind fed (grown_first answer.new.taken fed blue.now green.now red.now) told
+        → (told : List Told) × IsGainOfKind kind fed (grown_first answer.new.taken fed blue.now green.now red.now) told
         × AreTold told answer.new.events events.new answer.new.bytes bytes.new }
     ensures does { (status : StatusValue) × (result ≡ code_of status)
         × Feeds blue.now green.now red.now bits.now (state_of handle.old.slot.value events.old bytes.old)
@@ -168,7 +168,7 @@ pub extern "C" fn vabgrot_finish(
     ensures handle { IsHandle handle.new }
     ensures stands { (kind : KindValue) (fed : Fed) → Holds handle.old.slot.value kind fed → Holds handle.new.slot.value kind fed }
     ensures reported { (kind : KindValue) (fed : Fed) → Holds handle.old.slot.value kind fed → result ≡ code_of Done
-        → (told : List TrackEventAt) × IsEndOfKind kind fed (counted answer.new.columns answer.new.aligned) told
+        → (told : List Told) × IsEndOfKind kind fed (counted answer.new.columns answer.new.aligned) told
         × AreTold told answer.new.events events.new answer.new.bytes bytes.new }
     ensures does { (status : StatusValue) × (result ≡ code_of status)
         × Finishes (state_of handle.old.slot.value events.old bytes.old) status (state_of handle.new.slot.value events.new bytes.new)

@@ -2,7 +2,7 @@
 ghost use Rattle.std.specs.Prelude.{◌≡◌, length, slice_index, true, OnOk, ⊤};
 ghost use Rattle.link_sink.specs.Streams.{bits_fed};
 
-use link_sink::{Ear, LinkSink, Outcome};
+use link_sink::{Ear, LinkSink, Outcome, ToldRef};
 use outside_io::Failed;
 use period_grammar::EventRef;
 use std::test::*;
@@ -49,18 +49,9 @@ impl Tally {
             && self.runs == 2 * 13_430_000
             && self.others == 1
     }
-}
 
-impl Ear for Tally {
-    ghost faults = { λ _. 0 };
-
-    ghost took = { λ _ _ _. ⊤ };
-
-    ghost took_at = { λ _ _ _. ⊤ };
-
-    ghost broke = { λ _ _ _. ⊤ };
-
-    fn hear(&mut self, column: u64, event: EventRef<'_>) -> Result<(), Failed> {
+    /// Counts an event.
+    fn count(&mut self, column: u64, event: EventRef<'_>) {
         self.column = column;
         match event {
             EventRef::Line { pixels } => {
@@ -79,18 +70,29 @@ impl Ear for Tally {
             | EventRef::Fault(_)
             | EventRef::Cut { column: _ } => self.others = self.others.wrapping_add(1),
         }
+    }
+}
+
+impl Ear for Tally {
+    ghost faults = { λ _. 0 };
+
+    ghost took = { λ _ _ _. ⊤ };
+
+    ghost broke = { λ _ _ _. ⊤ };
+
+    fn hear(&mut self, told: ToldRef<'_>) -> Result<(), Failed> {
+        match told {
+            ToldRef::Event { column, event } => self.count(column, event),
+            ToldRef::Slip { lane: _, place: _ }
+            | ToldRef::Relock { place: _ }
+            | ToldRef::Aligned { places: _ } => {}
+        }
         Ok(())
     }
 
     ghost took_none = { λ _. tt };
 
     ghost took_both = { λ _ _ _ _ _ _ _. tt };
-
-    ghost took_none_at = { λ _. tt };
-
-    ghost took_both_at = { λ _ _ _ _ _ _ _. tt };
-
-    ghost forgets = { λ _ _ _ _. tt };
 }
 
 /// Feeds a sink that was fed nothing the same 32,000 bits of each lane over and over.

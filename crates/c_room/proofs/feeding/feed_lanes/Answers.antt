@@ -1,10 +1,9 @@
-use Rattle.std.proofs.Common.{◌≡◌, ◌+◌, ◌-◌, ◌≤◌, [], ◌++◌, refl, sym, subst, arith, inr}
-use Rattle.link_sink.specs.Sinks.{Fed, IsGainAt}
-use Rattle.link_sink.specs.Streams.{StandsBy, bits_fed}
+use Rattle.std.proofs.Common.{◌≡◌, ◌+◌, ◌-◌, ◌≤◌, [], ◌++◌, List, refl, sym, subst, arith, inr, append_assoc, append-nil}
+use Rattle.link_sink.specs.Sinks.{Fed}
+use Rattle.link_sink.specs.Told.{Told}
 use Rattle.c_room.specs.Takes.{most_of, counts_to, grown_to}
-use Rattle.c_room.specs.Written.{link_writing}
 use Rattle.c_room.specs.WrittenLaws.{taken_none, taken_both}
-use Rattle.c_room.proofs.Pieces.{none_fed, none_grown, gain_none, gain_both, part_or_all, even_then}
+use Rattle.c_room.proofs.Pieces.{none_fed, none_grown, part_or_all, even_then}
 use Rattle.c_room.proofs.feeding.feed_lanes.Goals as goal
 
 pub loop-size-init : goal.loop-size-init
@@ -16,6 +15,7 @@ loop-size-init g c =
     let none : (fed : Fed) → grown_to (counts_to 0 lanes.bits) fed lanes ≡ fed =
     λ fed. none_grown fed lanes (counts_to 0 lanes.bits) (omega arith) (omega arith) (omega arith) in
     let within = e.within in
+    let Tells : Fed → List Told → Type 0 = λ f us. g.S.Receives.stands sink f us in
     record {
       goes_on = c.requires.open;
       within = omega (arith, within, most);
@@ -24,15 +24,15 @@ loop-size-init g c =
       next = part_or_all 0 c.next_bits-size.result c.most-most.result (most_of lanes.bits) (omega (arith, most)) within e.whole;
       fits = e.fits;
       full = λ a b. e.full a (omega (arith, most, b));
-      taken = λ fed are. none_fed (bits_fed sink) fed lanes.bits are;
-      stands = λ fed h. subst (λ (f : Fed). StandsBy g.H.Hears.goes_on sink f) (sym (none fed)) h;
-      reported = λ fed h. ([], subst (λ (f : Fed). IsGainAt g.H.Hears.grammar fed f []) (sym (none fed)) (gain_none g.H.Hears.grammar.so_far_at fed), taken_none link_writing c.args.room.now);
+      taken = λ fed are. none_fed (g.S.Receives.bits sink) fed lanes.bits are;
+      told = λ fed told h. ([], subst (λ (f : Fed). Tells f (told ++ [])) (sym (none fed)) (subst (Tells fed) (sym (append-nil told)) h), taken_none c.args.room.now);
     }
 
 pub feed_piece-requires-clause-stands : goal.feed_piece-requires-clause-stands
 feed_piece-requires-clause-stands g c =
     let s = c.requires.stands in
-    (_, c.loop-size.invariant.stands s.0 s.1)
+    let one = c.loop-size.invariant.told s.0 s.1 s.2 in
+    (_, _, one.1)
 
 pub feed_piece-requires-clause-lanes : goal.feed_piece-requires-clause-lanes
 feed_piece-requires-clause-lanes g c =
@@ -51,6 +51,7 @@ loop-size-preserved g c =
     let within = i.within in
     let some = c.loop-size-test.true in
     let room = c.feed_piece.new.room in
+    let sink = c.feed_piece.new.sink in
     let first = i.whole in
     let last = i.next in
     let next = c.next_bits-size-in-loop-size.result in
@@ -64,12 +65,11 @@ loop-size-preserved g c =
       fits = e.fits;
       full = λ a b. e.full a (omega (arith, most, b));
       taken = λ fed are. f.taken fed (i.taken fed are);
-      stands = λ fed h. f.stands fed (i.stands fed h);
-      reported = λ fed h.
-          let one = i.reported fed h in
-          let two = f.reported fed (i.stands fed h) in (
+      told = λ fed told h.
+          let one = i.told fed told h in
+          let two = f.told fed (told ++ one.0) one.1 in (
             one.0 ++ two.0,
-            gain_both g.H.Hears.grammar.so_far_at fed (grown_to (counts_to at lanes.bits) fed lanes) (grown_to (counts_to (at + size) lanes.bits) fed lanes) one.0 two.0 one.1 two.1,
-            taken_both link_writing c.args.room.now c.loop-size.room room one.0 two.0 one.2 two.2,
+            subst (λ (us : List Told). g.S.Receives.stands sink (grown_to (counts_to (at + size) lanes.bits) fed lanes) us) (append_assoc told one.0 two.0) two.1,
+            taken_both c.args.room.now c.loop-size.room room one.0 two.0 one.2 two.2,
           );
     }

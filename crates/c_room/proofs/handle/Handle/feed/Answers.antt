@@ -1,11 +1,11 @@
 use Rattle.std.proofs.Common.{rules, List, Option, Some, ap, sym, subst, ◌≡◌, ◌∙◌}
-use Rattle.track_sink.specs.TrackEvents.{TrackEventAt}
+use Rattle.link_sink.specs.Told.{Told}
 use Rattle.c_room.specs.Calls.{Feeds, state_of}
 use Rattle.c_room.specs.declared.kept.Kept.{Kept}
 use Rattle.c_room.specs.declared.kind.Kind.{Kind}
 use Rattle.c_room.specs.Reports.{IsGainOfKind}
 use Rattle.c_room.specs.Takes.{grown_to}
-use Rattle.c_room.specs.TrackWritten.{AreTold}
+use Rattle.c_room.specs.Written.{AreTold}
 use Rattle.c_room.proofs.Keeping.{held_kept}
 use Rattle.c_room.proofs.Orders.{told_in_order}
 use Rattle.c_room.proofs.handle.Handle.feed.Goals as goal
@@ -14,7 +14,7 @@ pub returns-clause-reported : goal.returns-clause-reported
 returns-clause-reported c = λ kind fed h.
     let k = held_kept c.args.self.now.slot.value c.take-kept.result.value c.deref_mut.result.now kind fed c.take-kept.ensures.value c.deref_mut.ensures.value h in
     let r = c.feed_into-answer in
-    subst (λ (k : Kind). (told : List TrackEventAt) × IsGainOfKind k fed (grown_to r.result.taken fed c.args.lanes) told
+    subst (λ (k : Kind). (told : List Told) × IsGainOfKind k fed (grown_to r.result.taken fed c.args.lanes) told
     × AreTold told r.result.events r.new.records r.result.bytes r.new.bytes) k.0 (r.ensures.reported fed k.1)
 
 pub returns-clause-does : goal.returns-clause-does

@@ -1,10 +1,10 @@
 use Rattle.std.proofs.Common.{rules, List, Option, Some, ap, sym, subst, ◌≡◌, ◌∙◌}
-use Rattle.track_sink.specs.TrackEvents.{TrackEventAt}
+use Rattle.link_sink.specs.Told.{Told}
 use Rattle.c_room.specs.Calls.{Finishes, state_of}
 use Rattle.c_room.specs.declared.kept.Kept.{Kept}
 use Rattle.c_room.specs.declared.kind.Kind.{Kind}
 use Rattle.c_room.specs.Reports.{IsEndOfKind}
-use Rattle.c_room.specs.TrackWritten.{AreTold}
+use Rattle.c_room.specs.Written.{AreTold}
 use Rattle.c_room.proofs.Keeping.{held_kept}
 use Rattle.c_room.proofs.Orders.{ended_in_order, finished_in_order}
 use Rattle.c_room.proofs.handle.Handle.finish.Goals as goal
@@ -13,7 +13,7 @@ pub returns-clause-reported : goal.returns-clause-reported
 returns-clause-reported c = λ kind fed h done.
     let k = held_kept c.args.self.now.slot.value c.take-kept.result.value c.deref_mut.result.now kind fed c.take-kept.ensures.value c.deref_mut.ensures.value h in
     let r = c.finish_into-answer in
-    subst (λ (k : Kind). (told : List TrackEventAt) × IsEndOfKind k fed r.result.ended.counts told
+    subst (λ (k : Kind). (told : List Told) × IsEndOfKind k fed r.result.ended.counts told
     × AreTold told r.result.events r.new.records r.result.bytes r.new.bytes) k.0 (r.ensures.reported fed k.1 done)
 
 pub returns-clause-does : goal.returns-clause-does

@@ -11,17 +11,17 @@ pub returns-clause-heard : goal.returns-clause-heard
 returns-clause-heard g c = λ fed first h.
     let k = g.K.Sink in
     let e = c.in_ok-feed_in_turn.ensures in
-    let t = e.reported_at fed h.0 in
+    let t = e.reported fed h.0 in
     let was = c.args.ear.now in
     let x = was.ear.now in
     let y = c.feed_in_turn.new.ear in
     let z : EarSeen = record { held = k.held y.lister.sink.now; write_faults = k.faults y.lister.sink.now; faults = y.lister.faults; room = c.tell_room.new.room } in
-    let told = c.tell_room.ensures.told t.0 (room_written x.room y.room t.0 t.2.1 h.1.0 h.1.1) in (
+    let told = c.tell_room.ensures.told t.0 (room_written x.room y.room t.0 t.2.1.taken h.1.0 h.1.1) in (
       e.fed fed h.0,
       (c.tell_room.ensures.count, c.tell_room.ensures.used),
-      record { ear = h.2.ear; teller = h.2.teller; sink = t.2.0.0 ∙ h.2.sink },
+      record { ear = h.2.ear; teller = h.2.teller; sink = t.2.0 ∙ h.2.sink },
       says_block g.H.Hears.grammar g.T.Teller.told g.met.T.Teller.told_both fed (grown_by fed c.args.block) (said (seen k.held k.faults first.ear.now) first.teller.now) (seen k.held k.faults x) (seen k.held k.faults y) z
-          was.teller.now c.tell_room.new.teller t.0 h.3 t.1 t.2.0.1 refl refl refl c.tell_room.ensures.sizes.0 c.tell_room.ensures.sizes.1 told,
+          was.teller.now c.tell_room.new.teller t.0 h.3 t.1 t.2.1 refl refl refl c.tell_room.ensures.sizes.0 c.tell_room.ensures.sizes.1 told,
     )
 
 pub returns-in_err-feed_in_turn-clause-stopped : goal.returns-in_err-feed_in_turn-clause-stopped

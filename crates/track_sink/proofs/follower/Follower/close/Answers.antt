@@ -1,8 +1,8 @@
 use Rattle.std.proofs.Common.{◌-◌, ◌++◌, arith}
-use Rattle.link_sink.proofs.Stops.{on_err}
+use Rattle.link_sink.proofs.Stops.{on_err, stops_after}
 use Rattle.track_sink.specs.TrackEvents.{track_events_of}
-use Rattle.track_sink.proofs.Turning.{failed_after, can_turn, close_room, follows_reached, follows_then, took_then}
-use Rattle.track_sink.proofs.Failing.{LostMore, stops_events, stops_after, passes_close, passes_then}
+use Rattle.track_sink.proofs.Turning.{failed_after, can_turn, close_room, follows_reached, follows_then}
+use Rattle.track_sink.proofs.Failing.{LostMore, stops_events, passes_close, passes_then}
 use Rattle.track_sink.proofs.follower.Follower.close.Goals as goal
 
 pub hand_all-requires-clause-carries : goal.hand_all-requires-clause-carries
@@ -49,22 +49,7 @@ returns-clause-reported g c = λ fed reported can was.
     let here = follows_reached t u fed (c.args.end.place - t.handed) reported first.0 first.1 e.start c.in_ok-hand_all.ensures.handed e.begun e.epochs e.aligned was in
     let second = c.in_ok-turn.ensures.reported fed (reported ++ track_events_of first.0) next here in (
       track_events_of first.0 ++ second.0,
-      took_then g.E.Ear.took g.E.TrackEar.tracked (λ x y h. (g.met.E.TrackEar.tracked_events x y h).0) g.met.E.TrackEar.tracked_both c.args.ear.now c.hand_all.new.ear c.turn.new.ear first.0 second.0 first.2 second.1,
-      follows_then c.turn.new.self.tracker fed reported (track_events_of first.0) second.0 second.2,
-    )
-
-pub returns-clause-reported_at : goal.returns-clause-reported_at
-returns-clause-reported_at g c = λ fed reported can was.
-    let t = c.args.self.now.tracker in
-    let u = c.hand_all.new.self in
-    let room = (close_room g.met.W.Watch.is_rule t fed c.args.end can).0 in
-    let e = c.hand_all.ensures in
-    let next = can_turn t u fed c.args.end can (c.in_ok-hand_all.ensures.carries fed can.carries room) e.start c.in_ok-hand_all.ensures.handed in
-    let first = c.in_ok-hand_all.ensures.reported_at fed can.carries room in
-    let here = follows_reached t u fed (c.args.end.place - t.handed) reported first.0 first.1 e.start c.in_ok-hand_all.ensures.handed e.begun e.epochs e.aligned was in
-    let second = c.in_ok-turn.ensures.reported_at fed (reported ++ track_events_of first.0) next here in (
-      track_events_of first.0 ++ second.0,
-      took_then g.E.Ear.took_at g.E.TrackEar.tracked_at g.met.E.TrackEar.tracked_events_at g.met.E.TrackEar.tracked_both_at c.args.ear.now c.hand_all.new.ear c.turn.new.ear first.0 second.0 first.2 second.1,
+      g.met.E.Ear.took_both c.args.ear.now c.hand_all.new.ear c.turn.new.ear (track_events_of first.0) second.0 first.2 second.1,
       follows_then c.turn.new.self.tracker fed reported (track_events_of first.0) second.0 second.2,
     )
 
@@ -72,9 +57,9 @@ pub returns-in_err-hand_all-clause-stopped : goal.returns-in_err-hand_all-clause
 returns-in_err-hand_all-clause-stopped g c = λ fed reported can was.
     let t = c.args.self.now.tracker in
     let first = c.in_err-hand_all.ensures.stopped fed can.carries (close_room g.met.W.Watch.is_rule t fed c.args.end can).0 in
-    on_err {P = LostMore g.W.Watch.rule g.E.TrackEar.tracked g.E.TrackEar.lost c.args.ear.now c.hand_all.new.ear fed reported} _ (
+    on_err {P = LostMore g.W.Watch.rule g.E.Ear.took g.E.Ear.broke c.args.ear.now c.hand_all.new.ear fed reported} _ (
       track_events_of first.2,
-      stops_events g.E.Ear.took g.E.Ear.broke g.E.TrackEar.tracked g.E.TrackEar.lost g.met.E.TrackEar.tracked_events g.met.E.TrackEar.lost_event g.met.E.TrackEar.tracked_both c.args.ear.now c.hand_all.new.ear first.2 first.4,
+      stops_events g.E.Ear.took g.E.Ear.broke g.met.E.Ear.took_both c.args.ear.now c.hand_all.new.ear first.2 first.4,
       passes_close g.met.W.Watch.is_rule t fed c.args.end reported first.0 first.2 can first.1 first.3 was,
     )
 
@@ -88,9 +73,8 @@ returns-in_err-turn-clause-stopped g c = λ fed reported can was.
     let first = c.in_ok-hand_all.ensures.reported fed can.carries room in
     let here = follows_reached t u fed (c.args.end.place - t.handed) reported first.0 first.1 e.start c.in_ok-hand_all.ensures.handed e.begun e.epochs e.aligned was in
     let second = c.in_err-turn.ensures.stopped fed (reported ++ track_events_of first.0) next here in
-    on_err {P = LostMore g.W.Watch.rule g.E.TrackEar.tracked g.E.TrackEar.lost c.args.ear.now c.turn.new.ear fed reported} _ (
+    on_err {P = LostMore g.W.Watch.rule g.E.Ear.took g.E.Ear.broke c.args.ear.now c.turn.new.ear fed reported} _ (
       track_events_of first.0 ++ second.0,
-      stops_after g.E.Ear.took g.E.Ear.broke g.E.TrackEar.tracked g.E.TrackEar.lost g.met.E.TrackEar.tracked_events g.met.E.TrackEar.lost_event g.met.E.TrackEar.tracked_both c.args.ear.now c.hand_all.new.ear c.turn.new.ear (track_events_of first.0) second.0
-          ((g.met.E.TrackEar.tracked_events c.args.ear.now c.hand_all.new.ear first.0).0 first.2) second.1,
+      stops_after g.E.Ear.took g.E.Ear.broke g.met.E.Ear.took_both c.args.ear.now c.hand_all.new.ear c.turn.new.ear (track_events_of first.0) second.0 first.2 second.1,
       passes_then fed reported (track_events_of first.0) second.0 second.2,
     )

@@ -1,12 +1,8 @@
-use Rattle.track_sink.proofs.Columns.{none_told}
-use Rattle.track_sink.proofs.Handing.{first_follows, settled_at_first, first_fed}
+use Rattle.track_sink.proofs.Handing.{settled_at_first, first_fed}
 use Rattle.track_sink.proofs.follower.Follower.reopen.Goals as goal
 
 pub returns-clause-settled : goal.returns-clause-settled
 returns-clause-settled g c = settled_at_first g.met.W.Watch.is_rule c.reopen.new.self c.restart.new.self c.reopen.ensures c.restart.ensures.looked c.restart.ensures.passed
-
-pub returns-clause-reported_at : goal.returns-clause-reported_at
-returns-clause-reported_at g c = first_follows none_told c.reopen.new.self c.reopen.ensures
 
 pub returns-clause-bits : goal.returns-clause-bits
 returns-clause-bits g c = first_fed c.reopen.new.self c.reopen.ensures

@@ -1,12 +1,11 @@
 use Rattle.std.proofs.Common.{◌+◌, ◌||◌, ◌++◌, ◌∙◌, ap₂, arith}
-use Rattle.link_sink.proofs.Following.{reported_at_first}
-use Rattle.link_sink.proofs.Stops.{on_err}
+use Rattle.link_sink.proofs.Stops.{on_err, stops_before}
 use Rattle.period_grammar.specs.Events.{all_at}
 use Rattle.track_sink.specs.TrackEvents.{track_events_of, end_events}
 use Rattle.track_sink.specs.Epochs.{rest_of, front_of}
 use Rattle.track_sink.proofs.Columns.{none_told, ends_at}
-use Rattle.track_sink.proofs.Turning.{failed_after, is_lane, carries_turned, follows_turned, took_then}
-use Rattle.track_sink.proofs.Failing.{LostMore, stops_events, stops_before, stops_then, passes_turn}
+use Rattle.track_sink.proofs.Turning.{failed_after, is_lane, carries_turned, follows_turned}
+use Rattle.track_sink.proofs.Failing.{LostMore, stops_events, stops_then, passes_turn}
 use Rattle.track_sink.proofs.follower.Follower.turn.Goals as goal
 
 pub end-requires-clause-open : goal.end-requires-clause-open
@@ -32,24 +31,12 @@ returns-clause-reported g c = λ fed reported can was.
     let t = c.args.self.now.tracker in
     let u = c.restart.new.self in
     let e = c.in_ok-end.ensures in
-    let last = e.reported (front_of t.handed (rest_of t.start fed)) can.carries.link in (
-      track_events_of last.0 ++ end_events u.begun c.args.end.cause u.start,
-      took_then g.E.Ear.took g.E.TrackEar.tracked (λ x y h. (g.met.E.TrackEar.tracked_events x y h).0) g.met.E.TrackEar.tracked_both c.args.ear.now c.end.new.ear c.tell_end.new.ear last.0 (end_events u.begun c.args.end.cause u.start) last.2 c.in_ok-tell_end.ensures.ok,
-      follows_turned reported_at_first g.met.W.Watch.is_rule t u fed c.args.end reported c.in_ok-end.field-0 last.0 can last.1
-          (c.restart.ensures.start ∙ ap₂ (λ m n. m + n) c.end.ensures.start c.end.ensures.handed) c.restart.ensures.handed (c.restart.ensures.begun ∙ e.begun) (c.restart.ensures.epochs ∙ e.epochs) (c.restart.ensures.aligned ∙ e.aligned) was,
-    )
-
-pub returns-clause-reported_at : goal.returns-clause-reported_at
-returns-clause-reported_at g c = λ fed reported can was.
-    let t = c.args.self.now.tracker in
-    let u = c.restart.new.self in
-    let e = c.in_ok-end.ensures in
     let outcome = c.in_ok-end.field-0 in
     let front = front_of t.handed (rest_of t.start fed) in
-    let last = e.reported_at front can.carries.link in
+    let last = e.reported front can.carries.link in
     let events = all_at outcome.columns last.0 in (
       track_events_of events ++ end_events u.begun c.args.end.cause u.start,
-      took_then g.E.Ear.took_at g.E.TrackEar.tracked_at g.met.E.TrackEar.tracked_events_at g.met.E.TrackEar.tracked_both_at c.args.ear.now c.end.new.ear c.tell_end.new.ear events (end_events u.begun c.args.end.cause u.start) last.2 c.in_ok-tell_end.ensures.ok_at,
+      g.met.E.Ear.took_both c.args.ear.now c.end.new.ear c.tell_end.new.ear (track_events_of events) (end_events u.begun c.args.end.cause u.start) last.2 c.in_ok-tell_end.ensures.ok,
       follows_turned none_told g.met.W.Watch.is_rule t u fed c.args.end reported outcome events can (ends_at front outcome last.0 last.1)
           (c.restart.ensures.start ∙ ap₂ (λ m n. m + n) c.end.ensures.start c.end.ensures.handed) c.restart.ensures.handed (c.restart.ensures.begun ∙ e.begun) (c.restart.ensures.epochs ∙ e.epochs) (c.restart.ensures.aligned ∙ e.aligned) was,
     )
@@ -58,12 +45,13 @@ pub returns-in_err-end-clause-stopped : goal.returns-in_err-end-clause-stopped
 returns-in_err-end-clause-stopped g c = λ fed reported can was.
     let t = c.args.self.now.tracker in
     let last = c.in_err-end.ensures.stopped (front_of t.handed (rest_of t.start fed)) can.carries.link in
+    let events = all_at last.0.columns last.1 in
     let told = end_events (t.begun || last.0.aligned) c.args.end.cause (t.start + t.handed) in
-    on_err {P = LostMore g.W.Watch.rule g.E.TrackEar.tracked g.E.TrackEar.lost c.args.ear.now c.end.new.ear fed reported} _ (
-      track_events_of last.1 ++ told,
-      stops_before g.E.Ear.took g.E.Ear.broke g.E.TrackEar.tracked g.E.TrackEar.lost g.met.E.TrackEar.tracked_events g.met.E.TrackEar.lost_event g.met.E.TrackEar.tracked_both c.args.ear.now c.end.new.ear (track_events_of last.1) told
-          (stops_events g.E.Ear.took g.E.Ear.broke g.E.TrackEar.tracked g.E.TrackEar.lost g.met.E.TrackEar.tracked_events g.met.E.TrackEar.lost_event g.met.E.TrackEar.tracked_both c.args.ear.now c.end.new.ear last.1 last.3),
-      passes_turn g.met.W.Watch.is_rule t fed c.args.end reported last.0 last.1 can last.2 was,
+    on_err {P = LostMore g.W.Watch.rule g.E.Ear.took g.E.Ear.broke c.args.ear.now c.end.new.ear fed reported} _ (
+      track_events_of events ++ told,
+      stops_before g.E.Ear.took g.E.Ear.broke c.args.ear.now c.end.new.ear (track_events_of events) told
+          (stops_events g.E.Ear.took g.E.Ear.broke g.met.E.Ear.took_both c.args.ear.now c.end.new.ear events last.3),
+      passes_turn g.met.W.Watch.is_rule t fed c.args.end reported last.0 events can (ends_at (front_of t.handed (rest_of t.start fed)) last.0 last.1 last.2) was,
     )
 
 pub returns-in_err-tell_end-clause-stopped : goal.returns-in_err-tell_end-clause-stopped
@@ -71,10 +59,12 @@ returns-in_err-tell_end-clause-stopped g c = λ fed reported can was.
     let t = c.args.self.now.tracker in
     let u = c.restart.new.self in
     let outcome = c.in_ok-end.field-0 in
-    let last = c.in_ok-end.ensures.reported (front_of t.handed (rest_of t.start fed)) can.carries.link in
-    on_err {P = LostMore g.W.Watch.rule g.E.TrackEar.tracked g.E.TrackEar.lost c.args.ear.now c.tell_end.new.ear fed reported} _ (
-      track_events_of last.0 ++ end_events (t.begun || outcome.aligned) c.args.end.cause (t.start + t.handed),
-      stops_then g.E.Ear.took g.E.Ear.broke g.E.TrackEar.tracked g.E.TrackEar.lost g.met.E.TrackEar.tracked_events g.met.E.TrackEar.lost_event g.met.E.TrackEar.tracked_both c.args.ear.now c.end.new.ear c.tell_end.new.ear last.0 u.begun (t.begun || outcome.aligned) c.args.end.cause u.start (t.start + t.handed)
+    let front = front_of t.handed (rest_of t.start fed) in
+    let last = c.in_ok-end.ensures.reported front can.carries.link in
+    let events = all_at outcome.columns last.0 in
+    on_err {P = LostMore g.W.Watch.rule g.E.Ear.took g.E.Ear.broke c.args.ear.now c.tell_end.new.ear fed reported} _ (
+      track_events_of events ++ end_events (t.begun || outcome.aligned) c.args.end.cause (t.start + t.handed),
+      stops_then g.E.Ear.took g.E.Ear.broke g.met.E.Ear.took_both c.args.ear.now c.end.new.ear c.tell_end.new.ear events u.begun (t.begun || outcome.aligned) c.args.end.cause u.start (t.start + t.handed)
           (c.restart.ensures.begun ∙ c.in_ok-end.ensures.begun) (c.restart.ensures.start ∙ ap₂ (λ m n. m + n) c.end.ensures.start c.end.ensures.handed) last.2 c.in_err-tell_end.ensures.err,
-      passes_turn g.met.W.Watch.is_rule t fed c.args.end reported outcome last.0 can last.1 was,
+      passes_turn g.met.W.Watch.is_rule t fed c.args.end reported outcome events can (ends_at front outcome last.0 last.1) was,
     )

@@ -1,12 +1,12 @@
 use Rattle.std.proofs.Common.{arith, append_assoc, ◌+◌, ◌++◌, ◌∙◌, ap, sym, subst}
 use Rattle.std.specs.Prelude.{slice_index}
 use Rattle.link_sink.specs.Sinks.{grown_by}
+use Rattle.link_sink.proofs.Stops.{stops_before}
 use Rattle.link_sink.specs.Received.{CanFeedLanes}
-use Rattle.track_sink.specs.Trackers.{HasReportedAt, IsSettled}
+use Rattle.track_sink.specs.Trackers.{IsSettled}
 use Rattle.track_sink.specs.TrackSinks.{bits_fed, most_bits}
-use Rattle.track_sink.proofs.Failing.{stops_before}
 use Rattle.track_sink.proofs.Reaching.{passes_on}
-use Rattle.track_sink.proofs.Settling.{settled_tracks, settled_tells, has_so_far, fed_more}
+use Rattle.track_sink.proofs.Settling.{settled_tells, fed_more}
 use Rattle.track_sink.proofs.sink.EpochSink.feed_by.Goals as goal
 
 pub append-requires-clause-lanes : goal.append-requires-clause-lanes
@@ -41,28 +41,7 @@ returns-in-Ok-clause-reported g c = λ fed reported stands.
     let was : IsSettled g.W.Watch.rule g.W.Watch.looked g.W.Watch.passed c.self.inside.follower.tracker c.self.inside.follower.watch fed reported = subst (λ s. IsSettled g.W.Watch.rule g.W.Watch.looked g.W.Watch.passed s.tracker s.watch fed reported) (sym c.self.view_is) stands.settled in
     let all = grown_by fed c.args.lanes in
     let now = c.in-Ok.ensures.reported all reported (c.append.ensures.stands fed reported was) in
-    (now.0, now.1, record { tracked = settled_tracks g.met.W.Watch.is_watch c.follow.new.self.tracker c.follow.new.self.watch all (reported ++ now.0) now.2; settled = now.2 })
-
-pub returns-in-Ok-clause-reported_at : goal.returns-in-Ok-clause-reported_at
-returns-in-Ok-clause-reported_at g c = λ fed told tells.
-    let f = c.self.inside.follower in
-    let new = c.follow.new.self in
-    let all = grown_by fed c.args.lanes in
-    let events = tells.events in
-    let was : IsSettled g.W.Watch.rule g.W.Watch.looked g.W.Watch.passed f.tracker f.watch fed events = subst (λ s. IsSettled g.W.Watch.rule g.W.Watch.looked g.W.Watch.passed s.tracker s.watch fed events) (sym c.self.view_is) tells.represents.settled in
-    let had : HasReportedAt g.W.Watch.rule f.tracker fed told = subst (λ s. HasReportedAt g.W.Watch.rule s.tracker fed told) (sym c.self.view_is) tells.reported_are in
-    let stands = c.append.ensures.stands fed events was in
-    let one = c.in-Ok.ensures.reported all events stands in
-    let now = c.in-Ok.ensures.reported_at all events told stands (c.append.ensures.reported_at fed events told was had) in (
-      now.0,
-      now.1,
-      record {
-        tracked = has_so_far all (told ++ now.0) (settled_tells g.met.W.Watch.is_watch new.tracker new.watch all (events ++ one.0) (told ++ now.0) one.2 now.2);
-        reported_are = now.2;
-        events = events ++ one.0;
-        represents = record { tracked = settled_tracks g.met.W.Watch.is_watch new.tracker new.watch all (events ++ one.0) one.2; settled = one.2 };
-      },
-    )
+    (now.0, now.1, record { tracked = settled_tells g.met.W.Watch.is_watch c.follow.new.self.tracker c.follow.new.self.watch all (reported ++ now.0) now.2; settled = now.2 })
 
 pub returns-in-Err-clause-stopped : goal.returns-in-Err-clause-stopped
 returns-in-Err-clause-stopped g c = λ fed reported stands.

@@ -1,8 +1,5 @@
-use Rattle.track_sink.proofs.Settling.{first_represents, first_tells}
+use Rattle.track_sink.proofs.Settling.{first_tells}
 use Rattle.track_sink.proofs.sink.EpochSink.open.Goals as goal
 
 pub returns-clause-fed : goal.returns-clause-fed
-returns-clause-fed g c = first_represents g.met.W.Watch.is_watch _ c.in_ok-open.ensures.settled
-
-pub returns-clause-told : goal.returns-clause-told
-returns-clause-told g c = first_tells g.met.W.Watch.is_watch _ c.in_ok-open.ensures.settled c.in_ok-open.ensures.reported_at
+returns-clause-fed g c = first_tells g.met.W.Watch.is_watch _ c.in_ok-open.ensures.settled

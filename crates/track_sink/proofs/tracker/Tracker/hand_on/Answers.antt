@@ -1,7 +1,8 @@
 use Rattle.std.proofs.Common.{◌+◌, [], subst}
 use Rattle.std.specs.Prelude.{slice_index}
 use Rattle.link_sink.specs.Grammar.{link_grammar}
-use Rattle.link_sink.specs.Sinks.{Fed, IsGain, IsGainAt}
+use Rattle.link_sink.specs.Sinks.{Fed, IsGainAt}
+use Rattle.link_sink.specs.Told.{TookAt, BrokeAt}
 use Rattle.link_sink.specs.Streams.{SinkRepresents}
 use Rattle.track_sink.specs.Epochs.{rest_of, front_of}
 use Rattle.track_sink.proofs.Handing.{can_hand_blue, can_hand_green, can_hand_red, handed_is, carries_handed, none_gained}
@@ -11,11 +12,7 @@ use Rattle.track_sink.proofs.tracker.Tracker.hand_on.Goals as goal
 
 pub returns-then-bits-eq0-clause-reported : goal.returns-then-bits-eq0-clause-reported
 returns-then-bits-eq0-clause-reported g c = λ fed carries room.
-    ([], none_gained link_grammar.so_far c.args.self.now fed c.args.bits c.if-bits-eq0.true, g.met.E.Ear.took_none c.args.ear.now)
-
-pub returns-then-bits-eq0-clause-reported_at : goal.returns-then-bits-eq0-clause-reported_at
-returns-then-bits-eq0-clause-reported_at g c = λ fed carries room.
-    ([], none_gained link_grammar.so_far_at c.args.self.now fed c.args.bits c.if-bits-eq0.true, g.met.E.Ear.took_none_at c.args.ear.now)
+    ([], none_gained link_grammar.so_far_at c.args.self.now fed c.args.bits c.if-bits-eq0.true, g.met.E.Ear.took_none c.args.ear.now)
 
 pub feed-requires-clause-lanes : goal.feed-requires-clause-lanes
 feed-requires-clause-lanes g c =
@@ -47,15 +44,6 @@ returns-clause-reported g c = λ fed carries room.
     let is = handed_is t fed c.release-counts.new.self c.released.result.now c.released-2.result.now c.released-3.result.now c.release-counts.result c.args.bits carries
     c.release-counts.ensures.blue c.release-counts.ensures.green c.release-counts.ensures.red c.released.ensures.bits c.released-2.ensures.bits c.released-3.ensures.bits in
     let reported = c.in_ok-feed.ensures.reported (front_of t.handed (rest_of t.start fed)) carries.link in
-    let P : Fed → Type 0 = λ now. IsGain (front_of t.handed (rest_of t.start fed)) now reported.0 in
-    (reported.0, subst P is reported.1, reported.2)
-
-pub returns-clause-reported_at : goal.returns-clause-reported_at
-returns-clause-reported_at g c = λ fed carries room.
-    let t = c.args.self.now in
-    let is = handed_is t fed c.release-counts.new.self c.released.result.now c.released-2.result.now c.released-3.result.now c.release-counts.result c.args.bits carries
-    c.release-counts.ensures.blue c.release-counts.ensures.green c.release-counts.ensures.red c.released.ensures.bits c.released-2.ensures.bits c.released-3.ensures.bits in
-    let reported = c.in_ok-feed.ensures.reported_at (front_of t.handed (rest_of t.start fed)) carries.link in
     let P : Fed → Type 0 = λ now. IsGainAt link_grammar (front_of t.handed (rest_of t.start fed)) now reported.0 in
     (reported.0, subst P is reported.1, reported.2)
 
@@ -65,5 +53,5 @@ returns-in_err-feed-clause-stopped g c = λ fed carries room.
     let is = handed_is t fed c.release-counts.new.self c.released.result.now c.released-2.result.now c.released-3.result.now c.release-counts.result c.args.bits carries
     c.release-counts.ensures.blue c.release-counts.ensures.green c.release-counts.ensures.red c.released.ensures.bits c.released-2.ensures.bits c.released-3.ensures.bits in
     let reported = c.in_err-feed.ensures.stopped (front_of t.handed (rest_of t.start fed)) carries.link in
-    let P : Fed → Type 0 = λ now. IsGain (front_of t.handed (rest_of t.start fed)) now reported.0 in
-    on_err {P = LostGain g.E.Ear.took g.E.Ear.broke c.args.ear.now c.feed.new.ear (rest_of t.start fed) t.handed (t.handed + c.args.bits)} _ (reported.0, subst P is reported.1, reported.2)
+    let P : Fed → Type 0 = λ now. IsGainAt link_grammar (front_of t.handed (rest_of t.start fed)) now reported.0 in
+    on_err {P = LostGain (TookAt g.E.Ear.took) (BrokeAt g.E.Ear.broke) c.args.ear.now c.feed.new.ear (rest_of t.start fed) t.handed (t.handed + c.args.bits)} _ (reported.0, subst P is reported.1, reported.2)
