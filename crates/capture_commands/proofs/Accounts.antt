@@ -42,9 +42,18 @@ use Rattle.capture_commands.specs.Endings.{Devices, IsWrittenPast, ListsPart, Li
 use Rattle.capture_commands.specs.Listings.{Listing, link_listing, check_listing, content_listing, biphase_listing}
 use Rattle.capture_commands.specs.ListsCommands.{IsTold, ToldCapture, ToldPart, ToldRead}
 use Rattle.capture_commands.specs.Manners.{WritesOn}
+use Rattle.capture_commands.specs.Notes.{capture_note}
 use Rattle.capture_commands.specs.Outcome.{RunOutcome, Does, ListsCapture, TracksCapture, status_with}
 use Rattle.capture_commands.specs.ToldListings.{Extends, alone_of, check_told_listing, biphase_told_listing}
 use Rattle.capture_commands.specs.TrackListings.{TrackListing, content_track_listing, link_track_listing}
+
+-- what a command answers that lists all, or the blocks before a fault
+
+abbrev listed : ℕ → List ℕ → RunOutcome
+listed faults text = record { status = status_with faults; output = text; note = [] }
+
+abbrev refused : CaptureFault → List ℕ → RunOutcome
+refused fault lines = record { status = 3; output = lines; note = capture_note fault }
 
 -- an aligned outcome is counted
 pub aligned_if : (b : Bool) (n : ℕ) → n ≡ cond b 1 0 → 0 < n → b ≡ true
@@ -120,7 +129,7 @@ module _ (g : Grammar) (is : IsGrammar g) where
             w.outcome.columns,
             map event_of w.events,
             subst (λ b. reported_under g b fed.blue fed.green fed.red w.outcome.columns (map event_of w.events)) (aligned_if w.outcome.aligned aligned w.aligned_is some) w.reported,
-            outcome_is ∙ ap₂ (λ (n : ℕ) (bs : List ℕ). record { status = status_with n; output = bs; note = [] }) (plain_faults told w.events w.told_are) (plain_text told w.events w.told_are),
+            outcome_is ∙ ap₂ listed (plain_faults told w.events w.told_are) (plain_text told w.events w.told_are),
           ),
         )
     lists_capture bytes o (inl (fed, captured, (columns, aligned, told, whole, inr (none, outcome_is)))) =
@@ -146,7 +155,7 @@ module _ (g : Grammar) (is : IsGrammar g) where
             before = before;
             events = map event_of so_far.events;
             reported = alone_reported fed so_far.events so_far.reported;
-            outcome_is = outcome_is ∙ ap (λ (bs : List ℕ). record { status = 3; output = bs; note = _ }) (plain_lines told so_far.events so_far.told_are);
+            outcome_is = outcome_is ∙ ap (refused fault) (plain_lines told so_far.events so_far.told_are);
           },
         )
 

@@ -12,7 +12,7 @@ use Rattle.link_sink.specs.Told.{Told}
 use Rattle.listing_writer.specs.Texts.{counted}
 use Rattle.command_line.specs.declared.command.Command.{Command}
 use Rattle.capture_reading.specs.Blocks.{AreNext}
-use Rattle.capture_reading.specs.Reading.{IsCausedBy, IsUntaken}
+use Rattle.capture_reading.specs.Reading.{IsCausedBy}
 use Rattle.capture_reading.specs.declared.reading.ReadCaptureError.{ReadCaptureError}
 use Rattle.capture_reading.specs.declared.reading.ReadCaptureError.TheVariants.{Bad, Read, Ear}
 use Rattle.capture_reading.proofs.BlockReading.{rose_after}

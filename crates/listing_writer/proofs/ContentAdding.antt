@@ -5,7 +5,8 @@ use Rattle.listing_writer.specs.Texts.{counted}
 use Rattle.listing_writer.specs.ContentText.{text_of, fault_line_count, is_fault_line}
 use Rattle.listing_writer.specs.ContentSeen.{Seen}
 use Rattle.listing_writer.specs.ContentAdded.{Adds}
-use Rattle.listing_writer.specs.GrowingContent.{text_append, fault_count_append, counted_twice}
+use Rattle.listing_writer.specs.Growing.{counted_sum}
+use Rattle.listing_writer.specs.GrowingContent.{text_append, fault_count_append}
 
 pub one_text : (words : List ℕ) → text_of (words ∷ []) ≡ words ++ codes "\n"
 unfolding text_of
@@ -26,7 +27,7 @@ adds_both a b c xs ys first then = record {
       ∙ ap (λ (text : List ℕ). a.text ++ text) (sym (text_append xs ys));
   faults =
       then.faults ∙ ap (λ (n : ℕ). counted n (fault_line_count ys)) first.faults
-      ∙ counted_twice a.faults (fault_line_count xs) (fault_line_count ys)
+      ∙ counted_sum a.faults (fault_line_count xs) (fault_line_count ys)
       ∙ ap (λ (n : ℕ). counted a.faults n) (sym (fault_count_append xs ys));
 }
 

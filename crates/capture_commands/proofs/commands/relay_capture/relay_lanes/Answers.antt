@@ -1,4 +1,4 @@
-use Rattle.std.proofs.Common.{rules, ◌≡◌, ◌∙◌, true, false, [], ℕ, ap, sym, subst, arith}
+use Rattle.std.proofs.Common.{rules, ◌≡◌, ◌∙◌, [], ap, sym, subst, arith}
 use Rattle.capture_file.specs.declared.fault.CaptureFault.{CaptureFault}
 use Rattle.link_sink.specs.Grammar.{link_grammar}
 use Rattle.link_sink.specs.Receiving.{by_grammar}
@@ -48,22 +48,22 @@ pub returns-in-Err-Bad-clause-ends : goal.returns-in-Err-Bad-clause-ends
 returns-in-Err-Bad-clause-ends g c =
     let before = seen (g.S.Source.left c.args.input.now) (g.S.Source.faults c.args.input.now) (g.K.Sink.held c.args.output.now) (g.K.Sink.faults c.args.output.now) in
     let after = seen (g.S.Source.left c.hear_capture.new.input) (g.S.Source.faults c.hear_capture.new.input) (g.K.Sink.held c.args.output.now) (g.K.Sink.faults c.args.output.now) in
-    let short = subst (HearsShort (by_grammar link_grammar) TookTold BrokeAt _ _ _ _) c.in-Err-Bad.field-0-is c.in-Err-Bad.ensures.short in
+    let short = subst (HearsShort (by_grammar link_grammar) TookTold BrokeAt (g.S.Source.left c.args.input.now) (g.S.Source.left c.hear_capture.new.input) c.open-relay.result c.hear_capture.new.ear) c.in-Err-Bad.field-0-is c.in-Err-Bad.ensures.short in
     subst (λ (f : CaptureFault). Ends Relay (Capture f) before after) (sym c.in-Err-Bad.fault-is)
     (refused_sent c.in-Err-Bad.fault c.open-relay.result c.hear_capture.new.ear before after c.open-relay.ensures.stands (keeps_itself (g.K.Sink.held c.args.output.now))
     (refused_relayed (g.S.Source.left c.args.input.now) c.in-Err-Bad.fault c.open-relay.result c.hear_capture.new.ear short.1))
 
 pub returns-in-Err-Read-clause-ends : goal.returns-in-Err-Read-clause-ends
 returns-in-Err-Read-clause-ends g c =
-    let short = subst (HearsShort (by_grammar link_grammar) TookTold BrokeAt _ _ _ _) c.in-Err-Read.field-0-is c.in-Err-Read.ensures.short in
+    let short = subst (HearsShort (by_grammar link_grammar) TookTold BrokeAt (g.S.Source.left c.args.input.now) (g.S.Source.left c.hear_capture.new.input) c.open-relay.result c.hear_capture.new.ear) c.in-Err-Read.field-0-is c.in-Err-Read.ensures.short in
     (subst (IsCausedBy _ _ _ _) c.in-Err-Read.field-0-is c.in-Err-Read.ensures.caused, (keeps_itself (g.K.Sink.held c.args.output.now), (short.read, short.consumed, short.are_read.0)))
 
 pub returns-clause-ends : goal.returns-clause-ends
 returns-clause-ends g c =
     let before = seen (g.S.Source.left c.args.input.now) (g.S.Source.faults c.args.input.now) (g.K.Sink.held c.args.output.now) (g.K.Sink.faults c.args.output.now) in
     let after = seen (g.S.Source.left c.hear_capture.new.input) (g.S.Source.faults c.hear_capture.new.input) (g.K.Sink.held c.args.output.now) (g.K.Sink.faults c.args.output.now) in
-    let short = subst (HearsShort (by_grammar link_grammar) TookTold BrokeAt _ _ _ _) c.in-Err-Ear.field-0-is c.in-Err-Ear.ensures.short in
-    let b = unrelayed _ _ c.open-relay.result c.hear_capture.new.ear short in
+    let short = subst (HearsShort (by_grammar link_grammar) TookTold BrokeAt (g.S.Source.left c.args.input.now) (g.S.Source.left c.hear_capture.new.input) c.open-relay.result c.hear_capture.new.ear) c.in-Err-Ear.field-0-is c.in-Err-Ear.ensures.short in
+    let b = unrelayed (g.S.Source.left c.args.input.now) (g.S.Source.left c.hear_capture.new.input) c.open-relay.result c.hear_capture.new.ear short in
     subst (λ (e : Ending). Ends Relay e before after) (sym (c.untaken.ensures ∙ ap relay_ending c.trouble.ensures))
     (broken_sent before after c.open-relay.result c.hear_capture.new.ear b.before b.now b.events b.read c.open-relay.ensures.stands c.open-relay.ensures.trouble (keeps_itself (g.K.Sink.held c.args.output.now)) b.consumed b.some)
 
@@ -80,7 +80,7 @@ pub returns-in-Err-Bad-clause-stops : goal.returns-in-Err-Bad-clause-stops
 returns-in-Err-Bad-clause-stops g c =
     let from = g.S.Source.left c.args.input.now in
     let left = g.S.Source.left c.hear_capture.new.input in
-    let short = subst (HearsShort (by_grammar link_grammar) TookTold BrokeAt _ _ _ _) c.in-Err-Bad.field-0-is c.in-Err-Bad.ensures.short in
+    let short = subst (HearsShort (by_grammar link_grammar) TookTold BrokeAt (g.S.Source.left c.args.input.now) (g.S.Source.left c.hear_capture.new.input) c.open-relay.result c.hear_capture.new.ear) c.in-Err-Bad.field-0-is c.in-Err-Bad.ensures.short in
     subst (λ (f : CaptureFault). RelayStops (Capture f) from left) (sym c.in-Err-Bad.fault-is)
     (refused_stops c.in-Err-Bad.fault c.open-relay.result c.hear_capture.new.ear from left c.open-relay.ensures.stands
     (refused_relayed from c.in-Err-Bad.fault c.open-relay.result c.hear_capture.new.ear short.1))
@@ -89,8 +89,8 @@ pub returns-clause-stops : goal.returns-clause-stops
 returns-clause-stops g c =
     let from = g.S.Source.left c.args.input.now in
     let left = g.S.Source.left c.hear_capture.new.input in
-    let short = subst (HearsShort (by_grammar link_grammar) TookTold BrokeAt _ _ _ _) c.in-Err-Ear.field-0-is c.in-Err-Ear.ensures.short in
-    let b = unrelayed _ _ c.open-relay.result c.hear_capture.new.ear short in
+    let short = subst (HearsShort (by_grammar link_grammar) TookTold BrokeAt (g.S.Source.left c.args.input.now) (g.S.Source.left c.hear_capture.new.input) c.open-relay.result c.hear_capture.new.ear) c.in-Err-Ear.field-0-is c.in-Err-Ear.ensures.short in
+    let b = unrelayed (g.S.Source.left c.args.input.now) (g.S.Source.left c.hear_capture.new.input) c.open-relay.result c.hear_capture.new.ear short in
     subst (λ (e : Ending). RelayStops e from left) (sym (c.untaken.ensures ∙ ap relay_ending c.trouble.ensures))
     (broken_stops from left c.open-relay.result c.hear_capture.new.ear b.before b.now b.events b.read c.open-relay.ensures.stands c.open-relay.ensures.trouble b.consumed b.some)
 

@@ -23,13 +23,13 @@ returns-in-Slip-clause-err g c =
 
 pub returns-in-Relock-clause-ok : goal.returns-in-Relock-clause-ok
 returns-in-Relock-clause-ok g c =
-    lists_between check_lines c.write_between-2.result _ _ _ _ _ _ (lent_told c.args.told) (relock c.in-Relock.place) _ (ap lent_told c.in-Relock.is) refl c.relock_line.ensures
-    refl c.write_between-2.ensures.counted c.write_between-2.ensures.whole
+    lists_between check_lines c.write_between-in-Relock.result _ _ _ _ _ _ (lent_told c.args.told) (relock c.in-Relock.place) _ (ap lent_told c.in-Relock.is) refl c.relock_line.ensures
+    refl c.write_between-in-Relock.ensures.counted c.write_between-in-Relock.ensures.whole
 
 pub returns-in-Relock-clause-err : goal.returns-in-Relock-clause-err
 returns-in-Relock-clause-err g c =
-    breaks_between check_lines c.write_between-2.result _ _ _ _ _ _ (lent_told c.args.told) (relock c.in-Relock.place) _ (ap lent_told c.in-Relock.is) c.relock_line.ensures
-    refl c.write_between-2.ensures.uncounted c.write_between-2.ensures.part
+    breaks_between check_lines c.write_between-in-Relock.result _ _ _ _ _ _ (lent_told c.args.told) (relock c.in-Relock.place) _ (ap lent_told c.in-Relock.is) c.relock_line.ensures
+    refl c.write_between-in-Relock.ensures.uncounted c.write_between-in-Relock.ensures.part
 
 pub returns-in-Aligned-clause-ok : goal.returns-in-Aligned-clause-ok
 returns-in-Aligned-clause-ok g c = lists_aligned check_lines _ _ _ (lent_told c.args.told) _ _ _ (ap lent_told c.in-Aligned.is)
