@@ -11,7 +11,7 @@ ghost use Rattle.c_room.specs.Written.{HasTaken};
 use crate::kind::Kind;
 use crate::lanes::CallerLanes;
 use crate::room::EventRoom;
-use link_sink::{EndCounts, Receives};
+use link_sink::{EndCounts, InTurn, Receives};
 
 /// Gives a receiver of a kind bits of each lane, from the first on, and writes what they decide. Answers before which bit of each lane
 /// it stopped: where it is not past the last one the room is full. It cannot fail.
@@ -69,7 +69,7 @@ fn feed_piece<S: Receives>(
         × HasTaken room.old room.new more }
 {
     let piece = lanes.piece(at, size);
-    match sink.feed_in_turn(piece, room) {
+    match sink.feed_by(&InTurn, piece, room) {
         Ok(()) => {}
         Err(_) => unreachable!(),
     }
@@ -89,7 +89,7 @@ pub(crate) fn finish_lanes<S: Receives>(
     ensures told { (fed : Fed) (told : List Told) → S.stands sink.old fed told
         → (last : List Told) × S.account.whole fed result.columns result.aligned (told ++ last) × HasTaken room.old room.new last }
 {
-    match sink.finish_in_turn(room) {
+    match sink.finish_by(&InTurn, room) {
         Ok(counts) => counts,
         Err(_) => unreachable!(),
     }

@@ -41,11 +41,11 @@ impl<F: Feeds, S: Receives, E: Ear> BlockSink<E> for FedSink<'_, F, S> {
     ghost stops_last = { λ fed x y. BreaksLast S.account E.took E.broke fed x y };
 
     fn feed_block(&mut self, block: LaneBits<'_>, ear: &mut E) -> Result<(), Failed> {
-        self.feeding.feed(self.sink, block, ear)
+        self.sink.feed_by(self.feeding, block, ear)
     }
 
     fn end(&mut self, ear: &mut E) -> Result<EndCounts, Failed> {
-        self.feeding.finish(self.sink, ear)
+        self.sink.finish_by(self.feeding, ear)
     }
 
     ghost reported = { λ sink fed x y h. heard_so_far S.account S.stands E.took sink.sink.now fed x y h };

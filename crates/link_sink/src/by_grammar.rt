@@ -1,12 +1,11 @@
 //! Receivers that tell what a grammar reports of columns.
 
 use crate::Ear;
+use crate::feeds::FeedsLanes;
 use crate::hears::Hears;
 use crate::lane_receiver::LaneReceiver;
 use crate::receives::{EndCounts, Receives};
-use lane_team::Gate;
 use outside_io::Failed;
-use std::thread::Threads;
 use tmds_word::LaneBits;
 
 impl<H: Hears> Receives for LaneReceiver<H> {
@@ -21,30 +20,20 @@ impl<H: Hears> Receives for LaneReceiver<H> {
 
     ghost bits = { λ s lane. bits_fed s lane };
 
-    fn feed_by_workers<R: Threads, E: Ear, G: Gate>(
+    fn feed_by<F: FeedsLanes, E: Ear>(
         &mut self,
-        rt: &R,
+        feeding: &F,
         lanes: LaneBits<'_>,
-        gate: &G,
         ear: &mut E,
     ) -> Result<(), Failed> {
-        self.feed(rt, lanes, gate, ear)
+        feeding.feed(self, lanes, ear)
     }
 
-    fn feed_in_turn<E: Ear>(&mut self, lanes: LaneBits<'_>, ear: &mut E) -> Result<(), Failed> {
-        self.feed_in_turn(lanes, ear)
-    }
-
-    fn finish_by_workers<R: Threads, E: Ear>(
+    fn finish_by<F: FeedsLanes, E: Ear>(
         &mut self,
-        _: &R,
+        _: &F,
         ear: &mut E,
     ) -> Result<EndCounts, Failed> {
-        let outcome = self.finish(ear)?;
-        Ok(EndCounts::of(outcome))
-    }
-
-    fn finish_in_turn<E: Ear>(&mut self, ear: &mut E) -> Result<EndCounts, Failed> {
         let outcome = self.finish(ear)?;
         Ok(EndCounts::of(outcome))
     }

@@ -24,6 +24,7 @@ mod telling;
 mod told;
 
 pub use ear::Ear;
+pub use feeds::{ByWorkers, FeedsLanes, InTurn};
 pub use hear::Outcome;
 pub use hears::Hears;
 pub use lane_receiver::LaneReceiver;

@@ -8,10 +8,9 @@ ghost use Rattle.link_sink.specs.Received.{CanFeedLanes, AreFedMore};
 ghost use Rattle.link_sink.specs.Receiving.{Account, longest_of};
 
 use crate::Ear;
+use crate::feeds::FeedsLanes;
 use crate::hear::Outcome;
-use lane_team::Gate;
 use outside_io::Failed;
-use std::thread::Threads;
 use tmds_word::LaneBits;
 
 /// What is counted at the end.
@@ -50,17 +49,17 @@ pub trait Receives: Drop {
     /// How many bits it was fed of a lane.
     ghost bits: { Self → ℕ → ℕ };
 
-    /// Takes the bits of each lane, and tells the ear what they decide, by a worker of each lane. The workers of a receiver that has
-    /// a gate pass it. Of a lane that had fewer bits than another no more arrive.
+    /// Takes the bits of each lane, fed in one way or another, and tells the ear what they decide. Of a lane that had fewer bits
+    /// than another no more arrive.
     ///
     /// # Errors
     ///
-    /// Where a call of the ear failed: it took the first of what is told of these bits, and failed in the next.
-    fn feed_by_workers<R: Threads, E: Ear, G: Gate>(
+    /// Where a call of the ear failed: it took the first of what is told of these bits, and failed in the next. The receiver is then
+    /// spent.
+    fn feed_by<F: FeedsLanes, E: Ear>(
         &mut self,
-        rt: &R,
+        feeding: &F,
         lanes: LaneBits<'_>,
-        gate: &G,
         ear: &mut E,
     ) -> Result<(), Failed>
         requires open { is_open self.old ≡ true }
@@ -74,48 +73,17 @@ pub trait Receives: Drop {
         ensures spent { OnErr result (is_open self.new ≡ false) }
         ensures cause { HasCause (E.faults ear.old) (E.faults ear.new) result };
 
-    /// Takes the bits as `feed_by_workers` does, one lane after another: by the caller's own thread, however many they are.
-    ///
-    /// # Errors
-    ///
-    /// Where a call of the ear failed: it took the first of what is told of these bits, and failed in the next.
-    fn feed_in_turn<E: Ear>(&mut self, lanes: LaneBits<'_>, ear: &mut E) -> Result<(), Failed>
-        requires open { is_open self.old ≡ true }
-        requires lanes { CanFeedLanes (bits self.old) (longest_of (bits self.old)) lanes }
-        ensures open { OnOk result (is_open self.new ≡ true) }
-        ensures more { OnOk result (AreFedMore (bits self.old) (bits self.new) lanes.entry) }
-        ensures told { (fed : Fed) (told : List Told) → stands self.old fed told
-            → OnOk result ((more : List Told) × E.took ear.old ear.new more × stands self.new (grown_by fed lanes.entry) (told ++ more)) }
-        ensures stopped { (fed : Fed) (told : List Told) → stands self.old fed told
-            → OnErr result ((more : List Told) × StopsIn E.took E.broke ear.old ear.new more × account.so_far (grown_by fed lanes.entry) (told ++ more)) }
-        ensures spent { OnErr result (is_open self.new ≡ false) }
-        ensures cause { HasCause (E.faults ear.old) (E.faults ear.new) result };
-
-    /// Tells the ear what is left to tell at the end, by workers where bits are left to feed, and answers what was
+    /// Tells the ear what is left to tell at the end, where what is left to feed is fed in one way or another, and answers what was
     /// counted. It is then finished.
     ///
     /// # Errors
     ///
     /// Where a call of the ear failed: it took the first of what is left to tell, and failed in the next.
-    fn finish_by_workers<R: Threads, E: Ear>(
+    fn finish_by<F: FeedsLanes, E: Ear>(
         &mut self,
-        rt: &R,
+        feeding: &F,
         ear: &mut E,
     ) -> Result<EndCounts, Failed>
-        requires open { is_open self.old ≡ true }
-        ensures closed { is_open self.new ≡ false }
-        ensures told { (fed : Fed) (told : List Told) → stands self.old fed told
-            → IfOk result (λ counts. (last : List Told) × E.took ear.old ear.new last × account.whole fed counts.columns counts.aligned (told ++ last)) }
-        ensures stopped { (fed : Fed) (told : List Told) → stands self.old fed told
-            → OnErr result ((columns aligned : ℕ) × (last : List Told) × StopsIn E.took E.broke ear.old ear.new last × account.whole fed columns aligned (told ++ last)) }
-        ensures cause { HasCause (E.faults ear.old) (E.faults ear.new) result };
-
-    /// Tells the ear what is left to tell as `finish_by_workers` does, by the caller's own thread.
-    ///
-    /// # Errors
-    ///
-    /// Where a call of the ear failed: it took the first of what is left to tell, and failed in the next.
-    fn finish_in_turn<E: Ear>(&mut self, ear: &mut E) -> Result<EndCounts, Failed>
         requires open { is_open self.old ≡ true }
         ensures closed { is_open self.new ≡ false }
         ensures told { (fed : Fed) (told : List Told) → stands self.old fed told

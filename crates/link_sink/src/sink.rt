@@ -10,13 +10,13 @@ ghost use Rattle.link_sink.specs.Received.{CanFeedLanes, AreFedMore, IsFoundAt};
 ghost use Rattle.link_sink.specs.Streams.{StandsBy, bits_fed, most_bits};
 
 use crate::Ear;
-use crate::feeds::are_few;
+use crate::feeds::FeedsLanes;
 use crate::hear::Outcome;
 use crate::hears::Hears;
 use crate::lane_receiver::LaneReceiver;
 use crate::receives::{EndCounts, Receives};
 use lane_deskew::Aligned;
-use lane_team::{Gate, Open};
+use lane_team::Gate;
 use outside_io::{Failed, NoMemory};
 use period_grammar::Hearing;
 use std::alloc::Global;
@@ -129,15 +129,14 @@ impl<H: Hears> LaneSink<H> {
         self.lanes.feed_in_turn(lanes, ear)
     }
 
-    /// Takes the bits of each lane as `feed` does with no gate to pass. Where they are few the lanes are fed one after
-    /// another, by no worker.
+    /// Takes the bits of each lane as `feed` does, fed in one way or another.
     ///
     /// # Errors
     ///
     /// Where a call of the ear failed; the sink is then spent.
-    pub fn feed_ungated<R: Threads, E: Ear>(
+    pub fn feed_by<F: FeedsLanes, E: Ear>(
         &mut self,
-        rt: &R,
+        feeding: &F,
         lanes: LaneBits<'_>,
         ear: &mut E,
     ) -> Result<(), Failed>
@@ -153,11 +152,7 @@ impl<H: Hears> LaneSink<H> {
             → OnErr result ((events : List EventAt) × IsGainAt H.grammar fed (grown_by fed lanes.entry) events × StopsIn (TookAt E.took) (BrokeAt E.broke) ear.old ear.new events) }
         ensures cause { HasCause (E.faults ear.old) (E.faults ear.new) result }
     {
-        if are_few(lanes.bits) {
-            self.feed_in_turn(lanes, ear)
-        } else {
-            self.feed(rt, lanes, &Open, ear)
-        }
+        feeding.feed(&mut *self.lanes, lanes, ear)
     }
 
     /// Reports to the ear what is left to report at the end, and answers whether the lanes were aligned and how many
@@ -201,30 +196,21 @@ impl<H: Hears> Receives for LaneSink<H> {
 
     ghost bits = { λ s lane. bits_fed s lane };
 
-    fn feed_by_workers<R: Threads, E: Ear, G: Gate>(
+    fn feed_by<F: FeedsLanes, E: Ear>(
         &mut self,
-        rt: &R,
+        feeding: &F,
         lanes: LaneBits<'_>,
-        gate: &G,
         ear: &mut E,
     ) -> Result<(), Failed> {
-        Receives::feed_by_workers(&mut *self.lanes, rt, lanes, gate, ear)
+        Receives::feed_by(&mut *self.lanes, feeding, lanes, ear)
     }
 
-    fn feed_in_turn<E: Ear>(&mut self, lanes: LaneBits<'_>, ear: &mut E) -> Result<(), Failed> {
-        Receives::feed_in_turn(&mut *self.lanes, lanes, ear)
-    }
-
-    fn finish_by_workers<R: Threads, E: Ear>(
+    fn finish_by<F: FeedsLanes, E: Ear>(
         &mut self,
-        rt: &R,
+        feeding: &F,
         ear: &mut E,
     ) -> Result<EndCounts, Failed> {
-        Receives::finish_by_workers(&mut *self.lanes, rt, ear)
-    }
-
-    fn finish_in_turn<E: Ear>(&mut self, ear: &mut E) -> Result<EndCounts, Failed> {
-        Receives::finish_in_turn(&mut *self.lanes, ear)
+        Receives::finish_by(&mut *self.lanes, feeding, ear)
     }
 
     ghost is_so_far = { λ x fed told h. h.1 };

@@ -10,11 +10,10 @@ ghost use Rattle.track_sink.specs.TrackEvents.{end_events};
 ghost use Rattle.track_sink.specs.Epochs.{most_of, rest_of, IsTrackAt};
 ghost use Rattle.track_sink.specs.Trackers.{lane_fed, most_fed, HasReportedAt, Carries, HasLooked, IsLane, CanClose, CanTurn, Stands, IsSettled, Passes};
 
-use crate::feeding::FeedsLink;
 use crate::tracker::Tracker;
 use crate::watch::{Cause, End, Watch};
 use crate::TrackOutcome;
-use link_sink::{Ear, ToldRef};
+use link_sink::{Ear, FeedsLanes, ToldRef};
 use outside_io::{Failed, NoMemory};
 use std::alloc::Global;
 use tmds_word::LaneBits;
@@ -59,7 +58,7 @@ impl<W: Watch> Follower<W> {
     }
 
     /// Reports to the ear what the bits decide.
-    pub(crate) fn follow<F: FeedsLink, E: Ear>(
+    pub(crate) fn follow<F: FeedsLanes, E: Ear>(
         &mut self,
         feeding: &F,
         ear: &mut E,
@@ -95,7 +94,7 @@ impl<W: Watch> Follower<W> {
     }
 
     /// Ends the epoch at a place, and begins the next one there.
-    fn close<F: FeedsLink, E: Ear>(
+    fn close<F: FeedsLanes, E: Ear>(
         &mut self,
         feeding: &F,
         end: End,
@@ -137,7 +136,7 @@ impl<W: Watch> Follower<W> {
     }
 
     /// Reports the rest to the ear.
-    pub(crate) fn finish<F: FeedsLink, E: Ear>(
+    pub(crate) fn finish<F: FeedsLanes, E: Ear>(
         &mut self,
         feeding: &F,
         ear: &mut E,

@@ -7,7 +7,6 @@
 //! undecided. The caller's own thread may feed (`feed_in_turn`). Only opening allocates; `restart` does not.
 #![tactic(auto)]
 
-mod feeding;
 mod follower;
 mod held;
 mod lane;

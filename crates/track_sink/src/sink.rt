@@ -10,13 +10,11 @@ ghost use Rattle.track_sink.specs.Epochs.{IsTrackAt};
 ghost use Rattle.track_sink.specs.Tracks.{HasTrackedAt};
 ghost use Rattle.track_sink.specs.TrackSinks.{EpochSinkTells, bits_fed, most_bits};
 
-use crate::feeding::{FeedsLink, LinkByWorkers, LinkInTurn};
 use crate::follower::Follower;
 use crate::strays::Strays;
 use crate::watch::Watch;
 use crate::TrackOutcome;
-use lane_team::Gate;
-use link_sink::{Ear, EndCounts, Receives};
+use link_sink::{ByWorkers, Ear, EndCounts, FeedsLanes, InTurn, Receives};
 use outside_io::{Failed, NoMemory};
 use std::alloc::Global;
 use std::marker::Model;
@@ -98,7 +96,7 @@ impl<W: Watch> EpochSink<W> {
         ensures spent { OnErr result (self.new.is_open ≡ false) }
         ensures cause { HasCause (E.faults ear.old) (E.faults ear.new) result }
     {
-        self.feed_by(&LinkByWorkers { rt }, lanes, ear)
+        self.feed_by(&ByWorkers::new(rt), lanes, ear)
     }
 
     /// Takes the bits of each lane as `feed` does, one lane after another: by the caller's own thread, however many they
@@ -124,11 +122,11 @@ impl<W: Watch> EpochSink<W> {
         ensures spent { OnErr result (self.new.is_open ≡ false) }
         ensures cause { HasCause (E.faults ear.old) (E.faults ear.new) result }
     {
-        self.feed_by(&LinkInTurn, lanes, ear)
+        self.feed_by(&InTurn, lanes, ear)
     }
 
     /// Takes the bits of each lane, in one of these ways.
-    fn feed_by<F: FeedsLink, E: Ear>(
+    fn feed_by<F: FeedsLanes, E: Ear>(
         &mut self,
         feeding: &F,
         lanes: LaneBits<'_>,
@@ -175,7 +173,7 @@ impl<W: Watch> EpochSink<W> {
             → OnErr result ((epochs aligned : ℕ) × (last : List Told) × StopsIn E.took E.broke ear.old ear.new last × IsTrackAt W.rule fed epochs aligned (reported ++ last)) }
         ensures cause { HasCause (E.faults ear.old) (E.faults ear.new) result }
     {
-        self.finish_by(&LinkByWorkers { rt }, ear)
+        self.finish_by(&ByWorkers::new(rt), ear)
     }
 
     /// Reports the rest to the ear as `finish` does, by the caller's own thread.
@@ -193,11 +191,11 @@ impl<W: Watch> EpochSink<W> {
             → OnErr result ((epochs aligned : ℕ) × (last : List Told) × StopsIn E.took E.broke ear.old ear.new last × IsTrackAt W.rule fed epochs aligned (reported ++ last)) }
         ensures cause { HasCause (E.faults ear.old) (E.faults ear.new) result }
     {
-        self.finish_by(&LinkInTurn, ear)
+        self.finish_by(&InTurn, ear)
     }
 
     /// Reports the rest to the ear, in one of these ways.
-    fn finish_by<F: FeedsLink, E: Ear>(
+    fn finish_by<F: FeedsLanes, E: Ear>(
         &mut self,
         feeding: &F,
         ear: &mut E,
@@ -226,32 +224,21 @@ impl<W: Watch> Receives for EpochSink<W> {
 
     ghost bits = { λ s lane. bits_fed s lane };
 
-    // It has no gate.
-    fn feed_by_workers<R: Threads, E: Ear, G: Gate>(
+    fn feed_by<F: FeedsLanes, E: Ear>(
         &mut self,
-        rt: &R,
+        feeding: &F,
         lanes: LaneBits<'_>,
-        _: &G,
         ear: &mut E,
     ) -> Result<(), Failed> {
-        self.feed(rt, lanes, ear)
+        self.feed_by(feeding, lanes, ear)
     }
 
-    fn feed_in_turn<E: Ear>(&mut self, lanes: LaneBits<'_>, ear: &mut E) -> Result<(), Failed> {
-        self.feed_in_turn(lanes, ear)
-    }
-
-    fn finish_by_workers<R: Threads, E: Ear>(
+    fn finish_by<F: FeedsLanes, E: Ear>(
         &mut self,
-        rt: &R,
+        feeding: &F,
         ear: &mut E,
     ) -> Result<EndCounts, Failed> {
-        let outcome = self.finish(rt, ear)?;
-        Ok(outcome.counts())
-    }
-
-    fn finish_in_turn<E: Ear>(&mut self, ear: &mut E) -> Result<EndCounts, Failed> {
-        let outcome = self.finish_in_turn(ear)?;
+        let outcome = self.finish_by(feeding, ear)?;
         Ok(outcome.counts())
     }
 

@@ -13,10 +13,9 @@ ghost use Rattle.link_sink.specs.Streams.{SinkRepresents, most_bits};
 ghost use Rattle.track_sink.specs.Epochs.{most_of, rest_of, front_of};
 ghost use Rattle.track_sink.specs.Trackers.{Carries, IsFirst};
 
-use crate::feeding::FeedsLink;
 use crate::lanes::HeldLanes;
 use lane_align::FEED_BITS;
-use link_sink::{Ear, LinkSink, Outcome};
+use link_sink::{Ear, FeedsLanes, LinkSink, Outcome};
 use outside_io::{Failed, NoMemory};
 use std::alloc::Global;
 use tmds_word::LaneBits;
@@ -56,7 +55,7 @@ impl Tracker {
     }
 
     /// Hands on the first bits of each lane, or all where there are fewer.
-    pub(crate) fn hand_on<F: FeedsLink, E: Ear>(
+    pub(crate) fn hand_on<F: FeedsLanes, E: Ear>(
         &mut self,
         feeding: &F,
         bits: u32,
@@ -89,13 +88,13 @@ impl Tracker {
             red: self.lanes.red.held.released(),
             bits: counts,
         };
-        feeding.feed(&mut self.link, lanes, ear)?;
+        self.link.feed_by(feeding, lanes, ear)?;
         self.handed += u64::from(bits);
         Ok(())
     }
 
     /// Hands on the first bits of each lane as `hand_on` does, in two feeds where one may not take this many.
-    pub(crate) fn hand_all<F: FeedsLink, E: Ear>(
+    pub(crate) fn hand_all<F: FeedsLanes, E: Ear>(
         &mut self,
         feeding: &F,
         bits: u32,

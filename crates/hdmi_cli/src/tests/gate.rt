@@ -4,7 +4,7 @@ ghost use Rattle.std.specs.Prelude.{◌<◌};
 use super::trial::{STEADY, answer_of, answer_through};
 use capture_commands::BlockGate;
 use lane_team::Gate;
-use link_sink::{Ear, LinkSink, Receives};
+use link_sink::{Ear, Hears, LaneReceiver, LinkSink};
 use listing_writer::LinkLister;
 use outside_io::{Failed, MemSink};
 use std::process::Abort;
@@ -70,14 +70,14 @@ impl Gate for Meeting {
 }
 
 impl BlockGate for Meeting {
-    fn feed<R: Threads, S: Receives, E: Ear>(
+    fn feed<R: Threads, H: Hears, E: Ear>(
         &self,
         rt: &R,
-        sink: &mut S,
-        block: LaneBits<'_>,
+        receiver: &mut LaneReceiver<H>,
+        lanes: LaneBits<'_>,
         ear: &mut E,
     ) -> Result<(), Failed> {
-        sink.feed_by_workers(rt, block, self, ear)
+        receiver.feed(rt, lanes, self, ear)
     }
 }
 

@@ -1,5 +1,5 @@
 use Rattle.link_sink.proofs.Receiving.{tells_whole, tells_ended}
-use Rattle.link_sink.proofs.by_grammar.LaneReceiverReceives.finish_by_workers.Goals as goal
+use Rattle.link_sink.proofs.by_grammar.LaneReceiverReceives.finish_by.Goals as goal
 
 pub returns-clause-told : goal.returns-clause-told
 returns-clause-told g c = λ fed told h.
