@@ -95,8 +95,16 @@ impl<'a, K: Sink> Ear for CheckLister<'a, K> {
     fn hear(&mut self, told: ToldRef<'_>) -> Result<(), Failed> {
         match told {
             ToldRef::Event { column: _, event } => self.event(event),
-            ToldRef::Slip { lane, place } => write_between(self.sink, &mut self.faults, slip_line(lane, place)),
-            ToldRef::Relock { place } => write_between(self.sink, &mut self.faults, relock_line(place)),
+            ToldRef::Slip { lane, place } => write_between(
+                self.sink,
+                &mut self.faults,
+                slip_line(lane, place),
+            ),
+            ToldRef::Relock { place } => write_between(
+                self.sink,
+                &mut self.faults,
+                relock_line(place),
+            ),
             ToldRef::Aligned { places: _ } => Ok(()),
         }
     }

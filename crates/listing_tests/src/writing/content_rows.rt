@@ -257,8 +257,10 @@ pub(crate) static GROUPS: [(Step, &str); 22] = [
     (Cut(77), "cut 77\n"),
 ];
 
-/// The island of one packet with a mended bit.
-pub(crate) static ISLAND: [(Step, &str); 7] = [
+/// The island of one packet with a mended bit, after a slip and an alignment that was dropped.
+pub(crate) static ISLAND: [(Step, &str); 9] = [
+    (Slip(1, 437), "! slip 1 437\n"),
+    (Relock(1437), "! relock 1437\n"),
     (Run(20, 12), ""),
     (Open(1, 2), ""),
     (

@@ -63,7 +63,7 @@ fn groups(rt: HostRuntime) -> Result<(), Fail> {
 #[test]
 fn an_island(rt: HostRuntime) -> Result<(), Fail> {
     let mut sink = MemSink::new(rt.alloc(), 1000, 7, Vec::new(rt.alloc()))?;
-    assert!(rt; lists_events(&mut sink, &ISLAND, 2) && are_lines(sink.bytes(), &ISLAND));
+    assert!(rt; lists_events(&mut sink, &ISLAND, 4) && are_lines(sink.bytes(), &ISLAND));
     Ok(())
 }
 

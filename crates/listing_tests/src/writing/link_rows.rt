@@ -209,8 +209,15 @@ pub(crate) static LINKS: [Row; 28] = [
 ];
 
 /// Checks. A cut is no fault; runs, lines, guards and packets have no line, and need no write. A fault counts if its line is
-/// written whole.
-pub(crate) static CHECKS: [Row; 23] = [
+/// written whole, also a slip and an alignment that was dropped.
+pub(crate) static CHECKS: [Row; 24] = [
+    (
+        (40, 7, &[]),
+        &[Slip(2, 437), Relock(1437), End, Slip(0, 5)],
+        &[3],
+        2,
+        "! slip 2 437\n! relock 1437\nfaulty\n! slip",
+    ),
     (ROOMY, &[Wrong(WORD), End], &[], 1, "! word 2 10\nfaulty\n"),
     (
         ROOMY,
