@@ -1,8 +1,8 @@
 pub mod Consumed
 pub mod Answered
 pub mod Listings
-pub mod Hearing
-pub mod Opening
+pub mod Heard
+pub mod Opened
 pub mod Endings
 pub mod Accounts
 pub mod Samples

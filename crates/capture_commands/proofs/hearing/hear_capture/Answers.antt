@@ -1,6 +1,6 @@
 use Rattle.std.proofs.Common.{[]}
 use Rattle.link_sink.specs.Pieces.{no_bits}
-use Rattle.capture_commands.proofs.Hearing.{all_heard}
+use Rattle.capture_commands.proofs.Heard.{all_heard}
 use Rattle.capture_commands.proofs.hearing.hear_capture.Goals as goal
 
 pub read_capture-requires-clause-fresh : goal.read_capture-requires-clause-fresh

@@ -15,7 +15,7 @@ use Rattle.capture_commands.proofs.RelayHeard.{TookTold, refused_relayed, unrela
 use Rattle.capture_commands.proofs.Relaying.{heard_sent, nowhere_sent, refused_sent, broken_sent}
 use Rattle.capture_commands.specs.Taken.{RelayStops}
 use Rattle.capture_commands.proofs.Taken.{broken_stops, heard_stops, refused_stops}
-use Rattle.capture_commands.proofs.Opening.{nothing_told}
+use Rattle.capture_commands.proofs.Opened.{nothing_told}
 use Rattle.capture_commands.proofs.commands.relay_capture.relay_lanes.Goals as goal
 
 pub hear_capture-requires-clause-fresh : goal.hear_capture-requires-clause-fresh

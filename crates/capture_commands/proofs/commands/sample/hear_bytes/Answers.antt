@@ -5,7 +5,7 @@ use Rattle.link_sink.specs.Receiving.{by_grammar}
 use Rattle.capture_reading.specs.Reading.{IsCausedBy}
 use Rattle.capture_commands.specs.Hearings.{HearsShort}
 use Rattle.capture_commands.proofs.Samples.{stands}
-use Rattle.capture_commands.proofs.Opening.{nothing_told}
+use Rattle.capture_commands.proofs.Opened.{nothing_told}
 use Rattle.capture_commands.proofs.commands.sample.hear_bytes.Goals as goal
 
 pub hear_capture-requires-clause-fresh : goal.hear_capture-requires-clause-fresh

@@ -1,4 +1,4 @@
-use Rattle.capture_commands.proofs.Hearing.{breaks_last, hears_whole}
+use Rattle.capture_commands.proofs.Heard.{breaks_last, hears_whole}
 use Rattle.capture_commands.proofs.hearing.FedSinkBlockSink.end.Goals as goal
 
 pub returns-clause-heard : goal.returns-clause-heard

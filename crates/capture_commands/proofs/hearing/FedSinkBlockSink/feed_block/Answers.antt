@@ -1,4 +1,4 @@
-use Rattle.capture_commands.proofs.Hearing.{breaks_past, hears_more}
+use Rattle.capture_commands.proofs.Heard.{breaks_past, hears_more}
 use Rattle.capture_commands.proofs.hearing.FedSinkBlockSink.feed_block.Goals as goal
 
 pub returns-clause-heard : goal.returns-clause-heard

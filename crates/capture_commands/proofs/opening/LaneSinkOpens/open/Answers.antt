@@ -1,6 +1,6 @@
 use Rattle.link_sink.specs.Pieces.{no_bits}
 use Rattle.link_sink.specs.Streams.{StandsBy}
-use Rattle.capture_commands.proofs.Opening.{opened}
+use Rattle.capture_commands.proofs.Opened.{opened}
 use Rattle.capture_commands.proofs.opening.LaneSinkOpens.open.Goals as goal
 
 pub returns-clause-fresh : goal.returns-clause-fresh
