@@ -95,7 +95,7 @@ written_used x y told taken e = omega (arith, taken.used_is, e)
 -- an event has no more bytes than a line of 4,096 pixels
 pub few_bytes : (t : Event) → IsSized t → length (event_bytes t) ≤ 12288
 few_bytes (run value count) h = omega arith
-few_bytes (line bytes) h = h.2.2.0
+few_bytes (line bytes) h = h.2
 few_bytes (word lane column) h = omega arith
 few_bytes (short column) h = omega arith
 few_bytes (preamble column) h = omega arith

@@ -4,7 +4,7 @@ ghost use Rattle.std.specs.Bool.{OnTrue, OnFalse};
 ghost use Rattle.outside_io.specs.Causes.{HasCause};
 ghost use Rattle.period_grammar.specs.Events.{at};
 ghost use Rattle.period_grammar.specs.Lending.{lent_event, fault_event};
-ghost use Rattle.link_sink.specs.Told.{event, lent_told, told_alone, IsToldSized};
+ghost use Rattle.link_sink.specs.Told.{event as event_told, lent_told, told_alone, IsToldSized};
 ghost use Rattle.c_room.specs.Kinds.{columns_of_bits};
 ghost use Rattle.c_room.specs.KindRooms.{Fits, IsKindFull, FitsEnd, LacksEnd};
 ghost use Rattle.c_room.specs.Written.{row, says, event_row, event_said, event_bytes, told_row, told_bytes, Wrote, HasNoRoom};
@@ -250,7 +250,7 @@ impl<'a> EventRoom<'a> {
         requires { length (event_bytes (lent_event event)) ≤ 12288 }
         ensures failed { self.new.failed ≡ self.old.failed }
         ensures put { OnOk result (Wrote self.old self.new (event_row self.old.used (at column (lent_event event.entry)) ∷ []) (event_bytes (lent_event event.entry))) }
-        ensures full { OnErr result (HasNoRoom self.old (event (lent_event event.entry))) }
+        ensures full { OnErr result (HasNoRoom self.old (event_told (lent_event event.entry))) }
     {
         match event {
             EventRef::Run { value, count } => {

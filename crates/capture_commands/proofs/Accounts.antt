@@ -179,25 +179,25 @@ module _ (g : Grammar) (is : IsGrammar g) where
                   next,
                   alone_reported now so_far.events so_far.reported,
                   subst (λ (bs : List ℕ). IsWrittenPast bs (plain.lines (map event_of so_far.events)) before.held after.held) first_lines
-                  (subst (λ (bs : List ℕ). IsWrittenPast (listing.lines (map told_alone p.first)) bs before.held after.held) (plain_lines p.told so_far.events so_far.told_are) past),
+                      (subst (λ (bs : List ℕ). IsWrittenPast (listing.lines (map told_alone p.first)) bs before.held after.held) (plain_lines p.told so_far.events so_far.told_are) past),
                 );
           }
           | inr (columns, aligned, some, ended, captured, whole, past) ↦
-            let w = plain_whole p.fed columns aligned p.told whole in record {
-              fed = p.fed;
-              first = map event_of first;
-              reported = alone_reported p.fed first p.so_far.reported;
-              events = map event_of w.events;
-              some =
-                  inr (
-                    w.outcome.columns,
-                    ended,
-                    captured,
-                    subst (λ b. reported_under g b p.fed.blue p.fed.green p.fed.red w.outcome.columns (map event_of w.events)) (aligned_if w.outcome.aligned aligned w.aligned_is some) w.reported,
-                    subst (λ (bs : List ℕ). IsWrittenPast bs (plain.text (map event_of w.events)) before.held after.held) first_lines
-                    (subst (λ (bs : List ℕ). IsWrittenPast (listing.lines (map told_alone p.first)) bs before.held after.held) (plain_text p.told w.events w.told_are) past),
-                  );
-            }
+              let w = plain_whole p.fed columns aligned p.told whole in record {
+                fed = p.fed;
+                first = map event_of first;
+                reported = alone_reported p.fed first p.so_far.reported;
+                events = map event_of w.events;
+                some =
+                    inr (
+                      w.outcome.columns,
+                      ended,
+                      captured,
+                      subst (λ b. reported_under g b p.fed.blue p.fed.green p.fed.red w.outcome.columns (map event_of w.events)) (aligned_if w.outcome.aligned aligned w.aligned_is some) w.reported,
+                      subst (λ (bs : List ℕ). IsWrittenPast bs (plain.text (map event_of w.events)) before.held after.held) first_lines
+                          (subst (λ (bs : List ℕ). IsWrittenPast (listing.lines (map told_alone p.first)) bs before.held after.held) (plain_text p.told w.events w.told_are) past),
+                    );
+              }
         ]
 
     pub lists : (command : Command) → WritesOn command → ((bytes : List ℕ) (o : RunOutcome) → ListsCapture g plain bytes o → Does command bytes o)

@@ -2,11 +2,10 @@
 
 use crate::block_gate::BlockGate;
 use link_sink::{Ear, FeedsLanes, Hears, LaneReceiver};
+pub use link_sink::{FeedsLanes as Feeds, InTurn};
 use outside_io::Failed;
 use std::thread::Threads;
 use tmds_word::LaneBits;
-
-pub use link_sink::{FeedsLanes as Feeds, InTurn};
 
 /// By a worker of each lane. The workers pass a gate for each block.
 #[derive(Drop)]
