@@ -1,7 +1,8 @@
 -- What is written one after another.
-use Rattle.std.proofs.Common.{◌≡◌, ℕ, ◌+◌, List, [], ◌∷◌, ◌++◌, length, map, take, refl, ap, sym, ◌∙◌, subst, arith, append_assoc}
+use Rattle.std.proofs.Common.{◌≡◌, ℕ, ◌+◌, ◌≤◌, List, [], ◌∷◌, ◌++◌, length, map, take, refl, ap, sym, ◌∙◌, subst, arith, append_assoc}
 use Rattle.std.proofs.lemmas.List.{append-nil, length-append, map-append}
-use Rattle.period_grammar.specs.Events.{Event}
+use Rattle.period_grammar.specs.Events.{Event, run, line, word, short, preamble, noise, empty, code, long_line, cut, open_island, packet, close_island, symbols, mended, lost, long_island, broken, guard}
+use Rattle.period_grammar.specs.Sizes.{IsSized}
 use Rattle.link_sink.specs.Told.{ToldOf, Told, told_events, told_alone}
 use Rattle.c_room.specs.declared.room.EventRoom.{EventRoom}
 use Rattle.c_room.specs.Written.{event_bytes, told_bytes, told_row, events_bytes, all_bytes, bytes_at, rows_from, Wrote, HasTaken}
@@ -90,3 +91,26 @@ written_count x y told taken e = omega (arith, taken.count_is, rows_many x.used 
 
 pub written_used : (x y : EventRoom) (told : List Told) → HasTaken x y told → x.used ≡ 0 → y.used ≡ length (bytes_at told)
 written_used x y told taken e = omega (arith, taken.used_is, e)
+
+-- an event has no more bytes than a line of 4,096 pixels
+pub few_bytes : (t : Event) → IsSized t → length (event_bytes t) ≤ 12288
+few_bytes (run value count) h = omega arith
+few_bytes (line bytes) h = h.2
+few_bytes (word lane column) h = omega arith
+few_bytes (short column) h = omega arith
+few_bytes (preamble column) h = omega arith
+few_bytes (noise column) h = omega arith
+few_bytes (empty column) h = omega arith
+few_bytes (code lane column) h = omega arith
+few_bytes (long_line column) h = omega arith
+few_bytes (cut column) h = omega arith
+few_bytes (open_island a b) h = omega arith
+few_bytes (packet p verdicts column) h =
+    omega (arith, h.0.header, h.0.bodies, h.0.sync, length-append p.header (p.bodies ++ p.sync), length-append p.bodies p.sync)
+few_bytes (close_island a b) h = omega arith
+few_bytes (symbols column count) h = omega arith
+few_bytes (mended column block bit) h = omega arith
+few_bytes (lost column block) h = omega arith
+few_bytes (long_island column) h = omega arith
+few_bytes (broken column) h = omega arith
+few_bytes (guard column) h = omega arith

@@ -16,7 +16,8 @@ pub struct Record {
     pub offset: u64,
     /// How many bytes it has.
     pub size: u32,
-    /// What it is: 0 a run of control columns, 1 a line, 2 an opening guard, 3 a packet, 4 a closing guard, 5 the cut, from 6 on a fault.
+    /// What it is: 0 a run of control columns, 1 a line, 2 an opening guard, 3 a packet, 4 a closing guard, 5 the cut, from 6 to 18 a
+    /// fault, 19 a slip, 20 an alignment that was dropped; 21 is for one that was found, which no receiver tells yet.
     pub kind: u32,
     /// The value of a run, the first sync digit of a guard, the lane or the block of a fault.
     pub value: u32,

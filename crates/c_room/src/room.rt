@@ -4,7 +4,7 @@ ghost use Rattle.std.specs.Bool.{OnTrue, OnFalse};
 ghost use Rattle.outside_io.specs.Causes.{HasCause};
 ghost use Rattle.period_grammar.specs.Events.{at};
 ghost use Rattle.period_grammar.specs.Lending.{lent_event, fault_event};
-ghost use Rattle.link_sink.specs.Told.{event, lent_told, told_alone, IsToldSized};
+ghost use Rattle.link_sink.specs.Told.{event as event_told, lent_told, told_alone, IsToldSized};
 ghost use Rattle.c_room.specs.Kinds.{columns_of_bits};
 ghost use Rattle.c_room.specs.KindRooms.{Fits, IsKindFull, FitsEnd, LacksEnd};
 ghost use Rattle.c_room.specs.Written.{row, says, event_row, event_said, event_bytes, told_row, told_bytes, Wrote, HasNoRoom};
@@ -197,6 +197,7 @@ impl<'a> EventRoom<'a> {
         Ok(())
     }
 
+    /// Puts what is told: but for an event it has no bytes, and what ends an epoch has no column.
     fn hear_told(&mut self, told: ToldRef<'_>) -> Result<(), Failed>
         requires { IsToldSized (lent_told told) }
         ensures failed { self.new.failed ≡ self.old.failed }
@@ -205,23 +206,51 @@ impl<'a> EventRoom<'a> {
     {
         match told {
             ToldRef::Event { column, event } => self.hear_event(column, event),
-            // The others end or begin an epoch: they have no column, and no bytes.
-            ToldRef::Slip { lane, place } => {
-                self.put(0, Said::new(19, place, 0, u32::from(lane), 0), b"")
-            }
-            ToldRef::Relock { place } => self.put(0, Said::new(20, place, 0, 0, 0), b""),
-            ToldRef::Aligned { places } => {
-                let [blue, green, red] = places;
-                self.put(blue, Said::new(21, green, red, 0, 0), b"")
-            }
+            ToldRef::Slip { lane, place } => self.hear_slip(lane, place),
+            ToldRef::Relock { place } => self.hear_relock(place),
+            ToldRef::Aligned { places } => self.hear_aligned(places),
         }
+    }
+
+    fn hear_slip(&mut self, lane: u8, place: u64) -> Result<(), Failed>
+        ensures failed { self.new.failed ≡ self.old.failed }
+        ensures put { OnOk result (Wrote self.old self.new (row 0 self.old.used 0 (says 19 place 0 lane 0) ∷ []) []) }
+        ensures full { OnErr result ((length self.old.records.now ≤ self.old.count) ⊎ (length self.old.bytes.now < self.old.used + 0)) }
+    {
+        self.put_plain(0, Said::new(19, place, 0, u32::from(lane), 0))
+    }
+
+    fn hear_relock(&mut self, place: u64) -> Result<(), Failed>
+        ensures failed { self.new.failed ≡ self.old.failed }
+        ensures put { OnOk result (Wrote self.old self.new (row 0 self.old.used 0 (says 20 place 0 0 0) ∷ []) []) }
+        ensures full { OnErr result ((length self.old.records.now ≤ self.old.count) ⊎ (length self.old.bytes.now < self.old.used + 0)) }
+    {
+        self.put_plain(0, Said::new(20, place, 0, 0, 0))
+    }
+
+    fn hear_aligned(&mut self, places: [u64; 3]) -> Result<(), Failed>
+        ensures failed { self.new.failed ≡ self.old.failed }
+        ensures put { OnOk result (Wrote self.old self.new (row (slice_index places 0) self.old.used 0 (says 21 (slice_index places 1) (slice_index places 2) 0 0) ∷ []) []) }
+        ensures full { OnErr result ((length self.old.records.now ≤ self.old.count) ⊎ (length self.old.bytes.now < self.old.used + 0)) }
+    {
+        let [blue, green, red] = places;
+        self.put_plain(blue, Said::new(21, green, red, 0, 0))
+    }
+
+    /// Puts what has no bytes.
+    fn put_plain(&mut self, column: u64, said: Said) -> Result<(), Failed>
+        ensures failed { self.new.failed ≡ self.old.failed }
+        ensures put { OnOk result (Wrote self.old self.new (row column self.old.used 0 said ∷ []) []) }
+        ensures full { OnErr result ((length self.old.records.now ≤ self.old.count) ⊎ (length self.old.bytes.now < self.old.used + 0)) }
+    {
+        self.put(column, said, b"")
     }
 
     fn hear_event(&mut self, column: u64, event: EventRef<'_>) -> Result<(), Failed>
         requires { length (event_bytes (lent_event event)) ≤ 12288 }
         ensures failed { self.new.failed ≡ self.old.failed }
         ensures put { OnOk result (Wrote self.old self.new (event_row self.old.used (at column (lent_event event.entry)) ∷ []) (event_bytes (lent_event event.entry))) }
-        ensures full { OnErr result (HasNoRoom self.old (event (lent_event event.entry))) }
+        ensures full { OnErr result (HasNoRoom self.old (event_told (lent_event event.entry))) }
     {
         match event {
             EventRef::Run { value, count } => {

@@ -1,17 +1,16 @@
 -- What was reported to an ear where it failed: the first events of those that were to be reported.
 use Rattle.std.proofs.Common.{◌≡◌, ℕ, ◌+◌, ◌-◌, ◌*◌, ◌/◌, ◌%◌, ◌≤◌, max, Bool, true, ◌||◌, List, [], ◌∷◌, ◌++◌, length, refl, ap, ◌∙◌, sym, subst, arith, inl, inr, append_assoc}
 use Rattle.std.specs.Prelude.{Result, Ok, Err, OnErr}
-use Rattle.std.proofs.lemmas.List.{map-append}
 use Rattle.lane_align.specs.declared.TheConstants.{FEED_BITS}
 use Rattle.terc4.specs.Columns.{one_if}
 use Rattle.period_grammar.specs.Events.{EventAt}
-use Rattle.link_sink.specs.Told.{Told, told_events, TookAt, BrokeAt}
+use Rattle.link_sink.specs.Told.{Told, told_events, TookAt}
 use Rattle.link_sink.specs.Ears.{StopsIn}
 use Rattle.link_sink.specs.Grammar.{link_grammar}
 use Rattle.link_sink.specs.Sinks.{Fed, IsGainAt}
 use Rattle.link_sink.specs.declared.hear.Outcome.{Outcome}
 use Rattle.link_sink.proofs.Stops.{stops_after}
-use Rattle.track_sink.specs.TrackEvents.{event, slip, relock, track_events_of, slip_if, relock_if, end_events}
+use Rattle.track_sink.specs.TrackEvents.{slip, relock, track_events_of, slip_if, relock_if, end_events}
 use Rattle.track_sink.specs.Epochs.{EpochRule, at_columns, most_of, rest_of, front_of, IsTrackAt}
 use Rattle.track_sink.specs.Rules.{IsRule, IsWatch}
 use Rattle.track_sink.specs.Trackers.{HasReportedAt, Carries, HasLooked, CanClose, CanTurn, IsSettled, Passes}
@@ -68,18 +67,6 @@ pub stops_relock : {A T E : Type 0} (took : A → A → List Told → Type 0) (b
 stops_relock took broke none x z begun place r some l = stops_alone took broke none x z (relock place) (relock_if begun place) r (ap (λ b. relock_if b place) some) l
 
 module _ {A : Type 0} (took : A → A → List Told → Type 0) (broke : A → A → Told → Type 0) (both : (x y z : A) (h k : List Told) → took x y h → took y z k → took x z (h ++ k)) where
-  -- it broke in an event
-  pub stops_events : (x z : A) (us : List EventAt) → StopsIn (TookAt took) (BrokeAt broke) x z us → StopsIn took broke x z (told_events us)
-  stops_events x z us s = record {
-    taken = told_events s.taken;
-    next = event s.next;
-    rest = told_events s.rest;
-    events_are = ap told_events s.events_are ∙ map-append event s.taken (s.next ∷ s.rest);
-    between = s.between;
-    took_some = s.took_some;
-    broke_then = s.broke_then;
-  }
-
   -- in what is reported of an end, after events
   pub stops_then : (x y z : A) (us : List EventAt) (begun said : Bool) (cause : Cause) (place where_to : ℕ) → begun ≡ said → place ≡ where_to → TookAt took x y us → StopsIn took broke y z (end_events begun cause place)
       → StopsIn took broke x z (told_events us ++ end_events said cause where_to)

@@ -10,9 +10,9 @@ ghost use Rattle.track_sink.specs.TrackEvents.{end_events};
 ghost use Rattle.track_sink.specs.Epochs.{most_of, rest_of, IsTrackAt};
 ghost use Rattle.track_sink.specs.Trackers.{lane_fed, most_fed, HasReportedAt, Carries, HasLooked, IsLane, CanClose, CanTurn, Stands, IsSettled, Passes};
 
+use crate::TrackOutcome;
 use crate::tracker::Tracker;
 use crate::watch::{Cause, End, Watch};
-use crate::TrackOutcome;
 use link_sink::{Ear, FeedsLanes, ToldRef};
 use outside_io::{Failed, NoMemory};
 use std::alloc::Global;

@@ -10,10 +10,10 @@ ghost use Rattle.track_sink.specs.Epochs.{IsTrackAt};
 ghost use Rattle.track_sink.specs.Tracks.{HasTrackedAt};
 ghost use Rattle.track_sink.specs.TrackSinks.{EpochSinkTells, bits_fed, most_bits};
 
+use crate::TrackOutcome;
 use crate::follower::Follower;
 use crate::strays::Strays;
 use crate::watch::Watch;
-use crate::TrackOutcome;
 use link_sink::{ByWorkers, Ear, EndCounts, FeedsLanes, InTurn, Receives};
 use outside_io::{Failed, NoMemory};
 use std::alloc::Global;
@@ -106,11 +106,7 @@ impl<W: Watch> EpochSink<W> {
     ///
     /// Where a call of the ear failed; the sink is then spent. The ear took the first of the events that are reported
     /// of these bits, and failed in the next.
-    pub fn feed_in_turn<E: Ear>(
-        &mut self,
-        lanes: LaneBits<'_>,
-        ear: &mut E,
-    ) -> Result<(), Failed>
+    pub fn feed_in_turn<E: Ear>(&mut self, lanes: LaneBits<'_>, ear: &mut E) -> Result<(), Failed>
         requires open { self.old.is_open ≡ true }
         requires lanes { CanFeedLanes (bits_fed self.old) (most_bits self.old) lanes }
         ensures open { OnOk result (self.new.is_open ≡ true) }

@@ -2,7 +2,8 @@ use Rattle.std.proofs.Common.{◌-◌, ◌++◌, arith}
 use Rattle.link_sink.proofs.Stops.{on_err, stops_after}
 use Rattle.track_sink.specs.TrackEvents.{track_events_of}
 use Rattle.track_sink.proofs.Turning.{failed_after, can_turn, close_room, follows_reached, follows_then}
-use Rattle.track_sink.proofs.Failing.{LostMore, stops_events, passes_close, passes_then}
+use Rattle.link_sink.proofs.Receiving.{stops_events}
+use Rattle.track_sink.proofs.Failing.{LostMore, passes_close, passes_then}
 use Rattle.track_sink.proofs.follower.Follower.close.Goals as goal
 
 pub hand_all-requires-clause-carries : goal.hand_all-requires-clause-carries
@@ -59,7 +60,7 @@ returns-in_err-hand_all-clause-stopped g c = λ fed reported can was.
     let first = c.in_err-hand_all.ensures.stopped fed can.carries (close_room g.met.W.Watch.is_rule t fed c.args.end can).0 in
     on_err {P = LostMore g.W.Watch.rule g.E.Ear.took g.E.Ear.broke c.args.ear.now c.hand_all.new.ear fed reported} _ (
       track_events_of first.2,
-      stops_events g.E.Ear.took g.E.Ear.broke g.met.E.Ear.took_both c.args.ear.now c.hand_all.new.ear first.2 first.4,
+      stops_events g.E.Ear.took g.E.Ear.broke c.args.ear.now c.hand_all.new.ear first.2 first.4,
       passes_close g.met.W.Watch.is_rule t fed c.args.end reported first.0 first.2 can first.1 first.3 was,
     )
 

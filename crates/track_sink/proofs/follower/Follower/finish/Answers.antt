@@ -9,7 +9,8 @@ use Rattle.track_sink.proofs.Columns.{ends_at}
 use Rattle.track_sink.proofs.Handing.{longest_held}
 use Rattle.track_sink.proofs.Turning.{failed_after}
 use Rattle.track_sink.proofs.Settling.{tells_all}
-use Rattle.track_sink.proofs.Failing.{LostLast, stops_events, tracks_some, tracks_last}
+use Rattle.link_sink.proofs.Receiving.{stops_events}
+use Rattle.track_sink.proofs.Failing.{LostLast, tracks_some, tracks_last}
 use Rattle.link_sink.proofs.Stops.{stops_after as stops_later, stops_before as stops_first}
 use Rattle.terc4.specs.Columns.{one_if}
 use Rattle.track_sink.proofs.follower.Follower.finish.Goals as goal
@@ -52,7 +53,7 @@ returns-in_err-hand_on-clause-stopped g c = λ fed reported settled.
       track.0,
       track.1,
       track_events_of (first.0 ++ track.2),
-      stops_events g.E.Ear.took g.E.Ear.broke g.met.E.Ear.took_both c.args.ear.now c.hand_on.new.ear (first.0 ++ track.2)
+      stops_events g.E.Ear.took g.E.Ear.broke c.args.ear.now c.hand_on.new.ear (first.0 ++ track.2)
           (stops_first (TookAt g.E.Ear.took) (BrokeAt g.E.Ear.broke) c.args.ear.now c.hand_on.new.ear first.0 track.2 first.2),
       track.3,
     )
@@ -73,7 +74,7 @@ returns-in_err-end-clause-stopped g c = λ fed reported settled.
       u.epochs + 1,
       u.aligned + one_if last.0.aligned,
       track_events_of (first.0 ++ events),
-      stops_events g.E.Ear.took g.E.Ear.broke g.met.E.Ear.took_both c.args.ear.now c.end.new.ear (first.0 ++ events)
+      stops_events g.E.Ear.took g.E.Ear.broke c.args.ear.now c.end.new.ear (first.0 ++ events)
           (stops_later (TookAt g.E.Ear.took) (BrokeAt g.E.Ear.broke) (both_at g.E.Ear.took g.met.E.Ear.took_both) c.args.ear.now c.hand_on.new.ear c.end.new.ear first.0 events first.2 last.3),
       tracks_last t u f.watch fed reported last.0 first.0 events c.longest-left.result settled c.longest-left.ensures.longest first.1 (ends_at (front_of u.handed (rest_of u.start fed)) last.0 last.1 last.2) e.start c.in_ok-hand_on.ensures.handed e.begun e.epochs e.aligned,
     )

@@ -9,7 +9,8 @@ use Rattle.track_sink.specs.Trackers.{Carries, HasReportedAt, Stands, IsSettled}
 use Rattle.track_sink.specs.declared.tracker.Tracker.{Tracker}
 use Rattle.track_sink.proofs.Turning.{failed_after, follows_reached}
 use Rattle.track_sink.proofs.Settling.{can_close, stands_closed, start_rises, room_stays, can_hand_on, can_settle, settles}
-use Rattle.track_sink.proofs.Failing.{LostMore, stops_events, passes_settle, passes_then}
+use Rattle.link_sink.proofs.Receiving.{stops_events}
+use Rattle.track_sink.proofs.Failing.{LostMore, passes_settle, passes_then}
 use Rattle.track_sink.proofs.follower.Follower.follow.Goals as goal
 
 pub loop-end-init : goal.loop-end-init
@@ -185,6 +186,6 @@ returns-in_err-hand_on-clause-stopped g c = λ fed reported was.
     on_err {P = LostMore g.W.Watch.rule g.E.Ear.took g.E.Ear.broke c.args.ear.now c.hand_on.new.ear fed reported} _ (
       here.0 ++ track_events_of gain.0,
       stops_after g.E.Ear.took g.E.Ear.broke g.met.E.Ear.took_both c.args.ear.now c.loop-end.ear c.hand_on.new.ear here.0 (track_events_of gain.0) here.1
-          (stops_events g.E.Ear.took g.E.Ear.broke g.met.E.Ear.took_both c.loop-end.ear c.hand_on.new.ear gain.0 gain.2),
+          (stops_events g.E.Ear.took g.E.Ear.broke c.loop-end.ear c.hand_on.new.ear gain.0 gain.2),
       passes_then fed reported here.0 (track_events_of gain.0) (passes_settle rule watch u.tracker u.watch fed (reported ++ here.0) gain.0 carries looked whole room (subst P upto gain.1) follows),
     )

@@ -5,7 +5,8 @@ use Rattle.track_sink.specs.TrackEvents.{track_events_of, end_events}
 use Rattle.track_sink.specs.Epochs.{rest_of, front_of}
 use Rattle.track_sink.proofs.Columns.{none_told, ends_at}
 use Rattle.track_sink.proofs.Turning.{failed_after, is_lane, carries_turned, follows_turned}
-use Rattle.track_sink.proofs.Failing.{LostMore, stops_events, stops_then, passes_turn}
+use Rattle.link_sink.proofs.Receiving.{stops_events}
+use Rattle.track_sink.proofs.Failing.{LostMore, stops_then, passes_turn}
 use Rattle.track_sink.proofs.follower.Follower.turn.Goals as goal
 
 pub end-requires-clause-open : goal.end-requires-clause-open
@@ -50,7 +51,7 @@ returns-in_err-end-clause-stopped g c = λ fed reported can was.
     on_err {P = LostMore g.W.Watch.rule g.E.Ear.took g.E.Ear.broke c.args.ear.now c.end.new.ear fed reported} _ (
       track_events_of events ++ told,
       stops_before g.E.Ear.took g.E.Ear.broke c.args.ear.now c.end.new.ear (track_events_of events) told
-          (stops_events g.E.Ear.took g.E.Ear.broke g.met.E.Ear.took_both c.args.ear.now c.end.new.ear events last.3),
+          (stops_events g.E.Ear.took g.E.Ear.broke c.args.ear.now c.end.new.ear events last.3),
       passes_turn g.met.W.Watch.is_rule t fed c.args.end reported last.0 events can (ends_at (front_of t.handed (rest_of t.start fed)) last.0 last.1 last.2) was,
     )
 
