@@ -106,7 +106,7 @@ few_bytes (long_line column) h = omega arith
 few_bytes (cut column) h = omega arith
 few_bytes (open_island a b) h = omega arith
 few_bytes (packet p verdicts column) h =
-    omega (arith, h.0.header, h.0.bodies, h.0.sync, length-append p.header (p.bodies ++ p.sync), length-append p.bodies p.sync)
+    omega (arith, h.0.header, h.0.bodies, h.0.sync, length-append (p.header ++ p.bodies) p.sync, length-append p.header p.bodies)
 few_bytes (close_island a b) h = omega arith
 few_bytes (symbols column count) h = omega arith
 few_bytes (mended column block bit) h = omega arith

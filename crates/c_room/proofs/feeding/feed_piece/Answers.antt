@@ -24,7 +24,9 @@ unreachable-requires g c =
     let size = c.args.size in
     let stop = c.in-Err.ensures.stopped s.0 s.1 s.2 in
     let grew = piece_grew s.0 c.args.lanes c.args.at size piece (record { blue = e.blue; green = e.green; red = e.red }) in
-    let can = feed_by-requires-clause-lanes g c in
+    let l = c.requires.lanes in
+    let bits = g.S.Receives.bits c.args.sink.now in
+    let can = piece_can bits (longest_of bits) refl l.0 c.args.lanes c.args.at size piece l.1 l.2 l.3 c.requires.whole c.requires.small (record { blue = e.blue; green = e.green; red = e.red }) in
     let few = c.requires.bounded.more c.args.sink.now s.0 s.1 stop.0 size piece s.2 can grew stop.2 in
     let fits = c.requires.room in
     has_room c.args.room.now stop.1.between stop.0 stop.1.taken stop.1.next stop.1.rest (most_events c.args.kind size) (most_bytes c.args.kind size) few fits.events fits.bytes stop.1.events_are stop.1.took_some stop.1.broke_then

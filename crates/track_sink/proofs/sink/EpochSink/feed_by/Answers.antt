@@ -1,10 +1,12 @@
-use Rattle.std.proofs.Common.{arith, append_assoc, ◌+◌, ◌++◌, ◌∙◌, ap, sym, subst}
+use Rattle.std.proofs.Common.{append_assoc, List, ◌+◌, ◌++◌, ◌∙◌, ap, sym, subst}
 use Rattle.std.specs.Prelude.{slice_index}
 use Rattle.link_sink.specs.Sinks.{grown_by}
 use Rattle.link_sink.proofs.Stops.{stops_before}
 use Rattle.link_sink.specs.Received.{CanFeedLanes}
 use Rattle.track_sink.specs.Trackers.{IsSettled}
+use Rattle.link_sink.specs.Told.{Told}
 use Rattle.track_sink.specs.TrackSinks.{bits_fed, most_bits}
+use Rattle.track_sink.specs.Tracks.{HasTrackedAt}
 use Rattle.track_sink.proofs.Reaching.{passes_on}
 use Rattle.track_sink.proofs.Settling.{settled_tells, fed_more}
 use Rattle.track_sink.proofs.sink.EpochSink.feed_by.Goals as goal
@@ -48,5 +50,8 @@ returns-in-Err-clause-stopped g c = λ fed reported stands.
     let was : IsSettled g.W.Watch.rule g.W.Watch.looked g.W.Watch.passed c.self.inside.follower.tracker c.self.inside.follower.watch fed reported = subst (λ s. IsSettled g.W.Watch.rule g.W.Watch.looked g.W.Watch.passed s.tracker s.watch fed reported) (sym c.self.view_is) stands.settled in
     let all = grown_by fed c.args.lanes in
     let now = c.in-Err.ensures.stopped all reported (c.append.ensures.stands fed reported was) in
-    let rest = passes_on g.met.W.Watch.is_rule all (reported ++ now.0) now.2 in
-    grind (arith, stops_before, append_assoc)
+    let rest = passes_on g.met.W.Watch.is_rule all (reported ++ now.0) now.2 in (
+      now.0 ++ rest.0,
+      stops_before g.E.Ear.took g.E.Ear.broke c.args.ear.now c.follow.new.ear now.0 rest.0 now.1,
+      subst (λ (us : List Told). HasTrackedAt g.W.Watch.rule all us) (append_assoc reported now.0 rest.0) rest.1,
+    )
