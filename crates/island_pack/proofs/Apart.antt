@@ -47,11 +47,6 @@ sum_apart : (a b c d : ℕ) → apart_of a + 2 * apart_of b + 4 * apart_of c + 8
 unfolding apart_of nibble_at eight_bytes
 sum_apart a b c d = omega arith
 
-sum_of_two : (a b : ℕ) → apart_of a + 2 * apart_of b
-    ≡ eight_bytes (bit_at a 0 + 2 * bit_at b 0) (bit_at a 1 + 2 * bit_at b 1) (bit_at a 2 + 2 * bit_at b 2) (bit_at a 3 + 2 * bit_at b 3) (bit_at a 4 + 2 * bit_at b 4) (bit_at a 5 + 2 * bit_at b 5) (bit_at a 6 + 2 * bit_at b 6) (bit_at a 7 + 2 * bit_at b 7)
-unfolding apart_of eight_bytes
-sum_of_two a b = omega arith
-
 bytes_of : ℕ → List ℕ
 bytes_of n = n % 256 ∷ n / 256 % 256 ∷ n / 65536 % 256 ∷ n / 16777216 % 256 ∷ n / 4294967296 % 256 ∷ n / 1099511627776 % 256 ∷ n / 281474976710656 % 256 ∷ n / 72057594037927936 % 256 ∷ []
 
@@ -66,16 +61,6 @@ byte_is p h (suc (suc (suc (suc (suc zero))))) lt = omega (arith, h 0, h 1, h 2,
 byte_is p h (suc (suc (suc (suc (suc (suc zero)))))) lt = omega (arith, h 0, h 1, h 2, h 3, h 4, h 5, h 6)
 byte_is p h (suc (suc (suc (suc (suc (suc (suc zero))))))) lt = omega (arith, h 0, h 1, h 2, h 3, h 4, h 5, h 6, h 7)
 byte_is p h (suc (suc (suc (suc (suc (suc (suc (suc i)))))))) lt = absurd (omega arith)
-
--- two bytes' bits
-pub two_apart : (bytes : List ℕ) (k a b n : ℕ) → n ≡ apart_of a + 2 * apart_of b
-    → bytes ≡ n % 256 ∷ n / 256 % 256 ∷ n / 65536 % 256 ∷ n / 16777216 % 256 ∷ n / 4294967296 % 256 ∷ n / 1099511627776 % 256 ∷ n / 281474976710656 % 256 ∷ n / 72057594037927936 % 256 ∷ []
-    → k < 8 → slice_index bytes k ≡ bit_at a k + 2 * bit_at b k
-unfolding bytes_of
-two_apart bytes k a b n e f lt =
-    let p : ℕ → ℕ = λ i. bit_at a i + 2 * bit_at b i in
-    let below : (i : ℕ) → p i < 256 = λ i. omega (arith, bit_at-lt a i, bit_at-lt b i) in
-    ap (λ (ys : List ℕ). slice_index ys k) f ∙ ap (λ m. slice_index (bytes_of m) k) (e ∙ sum_of_two a b) ∙ byte_is p below k lt
 
 low_bit : (n i : ℕ) → i < 8 → bit_at (n % 256) i ≡ bit_at n i
 low_bit n zero lt = omega arith

@@ -1,6 +1,6 @@
 -- Columns that are kept lane by lane.
 use Rattle.std.proofs.Common.{◌≡◌, ℕ, suc, zero, ◌+◌, ◌<◌, ◌≤◌, Bool, ◌||◌, List, [], ◌∷◌, ◌++◌, length, map, take, drop, get_or, set, refl, ap, ◌∙◌, sym, arith}
-use Rattle.std.specs.Prelude.{slice_index_or}
+use Rattle.std.specs.Prelude.{slice_index, slice_index_or}
 use Rattle.std.proofs.lemmas.List.{map-append, length-map, length-take-le, take-map, drop-map}
 use Rattle.std.proofs.lemmas.Grind.{take-set_at}
 use Rattle.std.specs.List.{list_any}
@@ -70,6 +70,34 @@ kept_at (b ∷ bs) [] rs k g r lt = absurd (omega arith)
 kept_at (b ∷ bs) (h ∷ gs) [] k g r lt = absurd (omega arith)
 kept_at (b ∷ bs) (h ∷ gs) (s ∷ rs) zero g r lt = refl
 kept_at (b ∷ bs) (h ∷ gs) (s ∷ rs) (suc k) g r lt = kept_at bs gs rs k (omega arith) (omega arith) (omega arith)
+
+-- the words of one lane
+pub blues_kept : (bs gs rs : List ℕ) → length gs ≡ length bs → length rs ≡ length bs → map (λ ws. slice_index ws 0) (kept_of bs gs rs) ≡ bs
+unfolding kept_of columns_of
+blues_kept [] [] [] g r = refl
+blues_kept [] (h ∷ gs) rs g r = absurd (omega arith)
+blues_kept [] [] (s ∷ rs) g r = absurd (omega arith)
+blues_kept (b ∷ bs) [] rs g r = absurd (omega arith)
+blues_kept (b ∷ bs) (h ∷ gs) [] g r = absurd (omega arith)
+blues_kept (b ∷ bs) (h ∷ gs) (s ∷ rs) g r = ap (λ xs. b ∷ xs) (blues_kept bs gs rs (omega arith) (omega arith))
+
+pub greens_kept : (bs gs rs : List ℕ) → length gs ≡ length bs → length rs ≡ length bs → map (λ ws. slice_index ws 1) (kept_of bs gs rs) ≡ gs
+unfolding kept_of columns_of
+greens_kept [] [] [] g r = refl
+greens_kept [] (h ∷ gs) rs g r = absurd (omega arith)
+greens_kept [] [] (s ∷ rs) g r = absurd (omega arith)
+greens_kept (b ∷ bs) [] rs g r = absurd (omega arith)
+greens_kept (b ∷ bs) (h ∷ gs) [] g r = absurd (omega arith)
+greens_kept (b ∷ bs) (h ∷ gs) (s ∷ rs) g r = ap (λ xs. h ∷ xs) (greens_kept bs gs rs (omega arith) (omega arith))
+
+pub reds_kept : (bs gs rs : List ℕ) → length gs ≡ length bs → length rs ≡ length bs → map (λ ws. slice_index ws 2) (kept_of bs gs rs) ≡ rs
+unfolding kept_of columns_of
+reds_kept [] [] [] g r = refl
+reds_kept [] (h ∷ gs) rs g r = absurd (omega arith)
+reds_kept [] [] (s ∷ rs) g r = absurd (omega arith)
+reds_kept (b ∷ bs) [] rs g r = absurd (omega arith)
+reds_kept (b ∷ bs) (h ∷ gs) [] g r = absurd (omega arith)
+reds_kept (b ∷ bs) (h ∷ gs) (s ∷ rs) g r = ap (λ xs. s ∷ xs) (reds_kept bs gs rs (omega arith) (omega arith))
 
 -- whether a lane has a control word, of lanes 1 and 2
 or_of_two : (g r x y : Bool) → (g || x) || (r || y) ≡ (g || r) || (x || y)

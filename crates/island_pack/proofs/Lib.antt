@@ -5,7 +5,9 @@ pub mod Columns
 pub mod WordColumns
 pub mod PixelColumns
 mod Parities
-mod Rows
+pub mod PartPut
+mod Values
+mod Gathered
 mod Laid
 mod NibblePairs
 mod LaidColumns

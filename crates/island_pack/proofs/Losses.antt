@@ -1,5 +1,5 @@
 -- Packets no block of which is lost.
-use Rattle.std.proofs.Common.{◌≡◌, ℕ, ◌<◌, Bool, false, List, [], ◌∷◌, Option, None, refl, arith}
+use Rattle.std.proofs.Common.{◌≡◌, ℕ, ◌<◌, Bool, false, [], ◌∷◌, None, refl, arith}
 use Rattle.std.specs.List.{find}
 use Rattle.bch_block.specs.Repair.{is_lost}
 use Rattle.bch_block.specs.declared.Verdict.{Verdict}

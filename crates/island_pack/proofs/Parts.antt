@@ -1,9 +1,8 @@
 -- Lists cut into parts of known lengths, and lists read place by place.
-use Rattle.std.proofs.Common.{◌≡◌, ℕ, suc, zero, ◌+◌, ◌<◌, ◌≤◌, Bool, List, [], ◌∷◌, ◌++◌, length, take, drop, map, get_or, refl, ap, ap₂, ◌∙◌, sym, arith, drop-cons, length-drop, length-append, append_assoc, All}
+use Rattle.std.proofs.Common.{◌≡◌, ℕ, suc, zero, ◌+◌, ◌<◌, ◌≤◌, List, [], ◌∷◌, ◌++◌, length, take, drop, get_or, refl, ap, ◌∙◌, sym, arith, drop-cons, length-append, append_assoc, All}
 use Rattle.std.proofs.Math.Seq.{take-append_seam, drop-append_seam}
 use Rattle.std.proofs.lemmas.List.Elements.{All-append}
-use Rattle.std.proofs.lemmas.List.{take-append-drop, drop-drop, map-append}
-use Rattle.island_pack.specs.Nibbles.{by_turns}
+use Rattle.std.proofs.lemmas.List.{take-append-drop, drop-drop}
 
 -- a list of three and of seven items
 pub three : (xs : List ℕ) → length xs ≡ 3 → xs ≡ get_or xs 0 0 ∷ get_or xs 1 0 ∷ get_or xs 2 0 ∷ []
@@ -72,53 +71,14 @@ pub eight : (xs : List ℕ) → length xs ≡ 8
 unfolding items
 eight xs e = sym (whole_list xs 8 e) ∙ items-drop xs 0 0 8 (omega arith)
 
+pub sixteen : (xs : List ℕ) → length xs ≡ 16
+    → xs ≡ get_or xs 0 0 ∷ get_or xs 1 0 ∷ get_or xs 2 0 ∷ get_or xs 3 0 ∷ get_or xs 4 0 ∷ get_or xs 5 0 ∷ get_or xs 6 0 ∷ get_or xs 7 0 ∷ get_or xs 8 0 ∷ get_or xs 9 0 ∷ get_or xs 10 0 ∷ get_or xs 11 0 ∷ get_or xs 12 0 ∷ get_or xs 13 0 ∷ get_or xs 14 0 ∷ get_or xs 15 0 ∷ []
+unfolding items
+sixteen xs e = sym (whole_list xs 16 e) ∙ items-drop xs 0 0 16 (omega arith)
+
 -- the next part of a list, and the rest
 pub next_part : (xs : List ℕ) (n k : ℕ) → drop n xs ≡ take k (drop n xs) ++ drop (n + k) xs
 next_part xs n k = sym (take-append-drop k (drop n xs)) ∙ ap (λ ys. take k (drop n xs) ++ ys) (drop-drop k n xs)
-
-pub map_part : (f : ℕ → Bool) (xs : List ℕ) (n k : ℕ) → map f (drop n xs) ≡ map f (take k (drop n xs)) ++ map f (drop (n + k) xs)
-map_part f xs n k = ap (map f) (next_part xs n k) ∙ map-append f (take k (drop n xs)) (drop (n + k) xs)
-
-turns_four : (b : ℕ) (gs rs : List ℕ) → 4 ≤ length gs → 4 ≤ length rs
-    → by_turns b gs rs ≡ by_turns b (take 4 gs) (take 4 rs) ++ by_turns b (drop 4 gs) (drop 4 rs)
-unfolding by_turns
-turns_four b gs rs h k = grind arith
-
--- the next four columns, and the rest
-pub turns_part : (b : ℕ) (gs rs : List ℕ) (n : ℕ) → n + 4 ≤ length gs → n + 4 ≤ length rs
-    → by_turns b (drop n gs) (drop n rs) ≡ by_turns b (take 4 (drop n gs)) (take 4 (drop n rs)) ++ by_turns b (drop (n + 4) gs) (drop (n + 4) rs)
-turns_part b gs rs n lg lr =
-    turns_four b (drop n gs) (drop n rs) (left gs lg) (left rs lr)
-    ∙ ap (λ xs. by_turns b (take 4 (drop n gs)) (take 4 (drop n rs)) ++ xs) (ap₂ (by_turns b) (drop-drop 4 n gs) (drop-drop 4 n rs))
-  where
-    left : (xs : List ℕ) → n + 4 ≤ length xs → 4 ≤ length (drop n xs)
-    left xs le = omega (arith, length-drop n xs)
-
--- a list of eight lists
-eighth : (ys : List (List ℕ)) → suc (suc (suc (suc (suc (suc (suc (suc (length ys)))))))) ≡ 8 → ys ≡ []
-eighth [] e = refl
-eighth (y ∷ ys) e = absurd (omega arith)
-
-pub eight_lists : (xs : List (List ℕ)) → length xs ≡ 8
-    → xs ≡ get_or xs 0 [] ∷ get_or xs 1 [] ∷ get_or xs 2 [] ∷ get_or xs 3 [] ∷ get_or xs 4 [] ∷ get_or xs 5 [] ∷ get_or xs 6 [] ∷ get_or xs 7 [] ∷ []
-eight_lists [] e = absurd (omega arith)
-eight_lists (a ∷ []) e = absurd (omega arith)
-eight_lists (a ∷ (b ∷ [])) e = absurd (omega arith)
-eight_lists (a ∷ (b ∷ (c ∷ []))) e = absurd (omega arith)
-eight_lists (a ∷ (b ∷ (c ∷ (d ∷ [])))) e = absurd (omega arith)
-eight_lists (a ∷ (b ∷ (c ∷ (d ∷ (f ∷ []))))) e = absurd (omega arith)
-eight_lists (a ∷ (b ∷ (c ∷ (d ∷ (f ∷ (g ∷ [])))))) e = absurd (omega arith)
-eight_lists (a ∷ (b ∷ (c ∷ (d ∷ (f ∷ (g ∷ (h ∷ []))))))) e = absurd (omega arith)
-eight_lists (a ∷ (b ∷ (c ∷ (d ∷ (f ∷ (g ∷ (h ∷ (i ∷ ys)))))))) e =
-    ap (λ zs. a ∷ (b ∷ (c ∷ (d ∷ (f ∷ (g ∷ (h ∷ (i ∷ zs)))))))) (eighth ys e)
-
-pub four_lists : (xs : List (List ℕ)) → length xs ≡ 4 → xs ≡ get_or xs 0 [] ∷ get_or xs 1 [] ∷ get_or xs 2 [] ∷ get_or xs 3 [] ∷ []
-four_lists [] e = absurd (omega arith)
-four_lists (a ∷ []) e = absurd (omega arith)
-four_lists (a ∷ (b ∷ [])) e = absurd (omega arith)
-four_lists (a ∷ (b ∷ (c ∷ []))) e = absurd (omega arith)
-four_lists (a ∷ (b ∷ (c ∷ (d ∷ [])))) e = refl
-four_lists (a ∷ (b ∷ (c ∷ (d ∷ (f ∷ xs))))) e = absurd (omega arith)
 
 -- four bodies, one after another
 pub length-four : (a b c d : List ℕ) → length a ≡ 7 → length b ≡ 7 → length c ≡ 7 → length d ≡ 7 → length (a ++ b ++ c ++ d) ≡ 28

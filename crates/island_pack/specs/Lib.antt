@@ -1,6 +1,7 @@
 pub mod Nibbles
 pub mod Packets
 pub mod Registers
+pub mod Vectors
 pub mod Taken
 pub mod Periods
 pub mod Runs

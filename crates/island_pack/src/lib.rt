@@ -9,11 +9,12 @@
 
 pub mod laws;
 mod laying;
+mod nibbles;
 mod packet;
 mod packet_columns;
 mod pairs;
+mod planes;
 mod ranges;
-mod spread;
 mod taking;
 
 pub use laying::{lay, lay_packed};

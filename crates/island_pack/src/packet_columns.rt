@@ -66,6 +66,7 @@ impl PacketColumns {
     }
 
     /// Puts columns at a place after those before it.
+    #[inline(always)]
     pub fn put_all(&mut self, at: usize, columns: Columns<'_>)
         requires { at + length (columns_in columns) ≤ 32 }
         ensures room { length self.old ≡ 32 }
@@ -85,32 +86,32 @@ impl PacketColumns {
         has_control(&self.green) || has_control(&self.red)
     }
 
-    /// The word of lane 0 at a place.
+    /// The words of lane 0.
     #[inline(always)]
-    pub(crate) fn blue(&self, at: usize) -> Word
-        requires { at < 32 }
-        ensures value { result ≡ slice_index (slice_index_or self.now at []) 0 }
+    pub(crate) fn blues(&self) -> &[u16; 32]
+        ensures words { result.now ≡ map (λ ws. slice_index ws 0) self.now }
+        ensures small { All (λ w. w < 1024) result.now }
         ensures columns { length self.now ≡ 32 }
     {
-        Word::of(self.blue[at])
+        &self.blue
     }
 
-    /// The word of lane 1 at a place.
+    /// The words of lane 1.
     #[inline(always)]
-    pub(crate) fn green(&self, at: usize) -> Word
-        requires { at < 32 }
-        ensures { result ≡ slice_index (slice_index_or self.now at []) 1 }
+    pub(crate) fn greens(&self) -> &[u16; 32]
+        ensures words { result.now ≡ map (λ ws. slice_index ws 1) self.now }
+        ensures small { All (λ w. w < 1024) result.now }
     {
-        Word::of(self.green[at])
+        &self.green
     }
 
-    /// The word of lane 2 at a place.
+    /// The words of lane 2.
     #[inline(always)]
-    pub(crate) fn red(&self, at: usize) -> Word
-        requires { at < 32 }
-        ensures { result ≡ slice_index (slice_index_or self.now at []) 2 }
+    pub(crate) fn reds(&self) -> &[u16; 32]
+        ensures words { result.now ≡ map (λ ws. slice_index ws 2) self.now }
+        ensures small { All (λ w. w < 1024) result.now }
     {
-        Word::of(self.red[at])
+        &self.red
     }
 }
 

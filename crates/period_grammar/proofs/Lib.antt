@@ -16,7 +16,6 @@ pub mod Sizes
 pub mod Pixels
 pub mod Controls
 pub mod Mixing
-pub mod PartPut
 pub mod Firsts
 pub mod Fronts
 pub mod LaneFronts

@@ -1,26 +1,19 @@
-use Rattle.std.proofs.Common.{◌≡◌, ℕ, List, [], ◌∷◌, length, take, map, get_or, ap, sym, subst, ◌∙◌, slice_index}
+use Rattle.std.proofs.Common.{◌≡◌, ℕ, List, [], ◌∷◌, length, take, get_or, ap, sym, ◌∙◌}
 use Rattle.bch_block.specs.Bits.{bits_of_bytes}
-use Rattle.bch_block.specs.Repair.{IsVerdict}
-use Rattle.island_pack.specs.Taken.{after}
-use Rattle.island_pack.proofs.Parts.{four, four_lists}
+use Rattle.island_pack.proofs.Parts.{four}
 use Rattle.island_pack.proofs.Registers.{repaired, taken}
 use Rattle.island_pack.proofs.taking.header.Goals as goal
 
 pub returns-clause-taken : goal.returns-clause-taken
 returns-clause-taken c =
-    let blue = c.args.blue.now in
-    let at : List ℕ → ℕ = λ row. slice_index row 2 in
     let new = c.repair32-verdict.new.block in
-    let bits = ap (λ (them : List (List ℕ)). bits_of_bytes (map at them)) (four_lists blue c.told-blue) in
     let first : c.header_in.result ≡ take 3 (get_or new 0 0 ∷ get_or new 1 0 ∷ get_or new 2 0 ∷ get_or new 3 0 ∷ []) =
     c.header_in.ensures.first ∙ ap (take 3) (four new c.repair32-verdict.array_long) in
-    taken (bits_of_bytes (map at blue)) c.header_in.result 3 c.repair32-verdict.result
-    (subst (λ x. IsVerdict x c.repair32-verdict.result) (sym bits) c.repair32-verdict.ensures.verdict)
+    taken (bits_of_bytes c.args.received) c.header_in.result 3 c.repair32-verdict.result c.repair32-verdict.ensures.verdict
     (ap length first)
     (ap bits_of_bytes first
     ∙ sym (ap (λ (ys : List ℕ). take 24 (bits_of_bytes ys)) (four new c.repair32-verdict.array_long))
-    ∙ ap (take 24) (repaired _ new c.repair32-verdict.result c.repair32-verdict.ensures.after)
-    ∙ ap (λ x. take 24 (after x c.repair32-verdict.result)) (sym bits))
+    ∙ ap (take 24) (repaired _ new c.repair32-verdict.result c.repair32-verdict.ensures.after))
 
 pub returns-clause-long : goal.returns-clause-long
 returns-clause-long c =

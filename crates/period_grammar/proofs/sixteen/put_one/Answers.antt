@@ -1,6 +1,6 @@
 use Rattle.std.proofs.Common.{sym, ◌∙◌}
 use Rattle.std.proofs.lemmas.Simd.{put_chunk_whole}
-use Rattle.period_grammar.proofs.PartPut.{part_long, part_put}
+use Rattle.island_pack.proofs.PartPut.{part_long, part_put}
 use Rattle.period_grammar.proofs.sixteen.put_one.Goals as goal
 
 pub returns-clause-put : goal.returns-clause-put
