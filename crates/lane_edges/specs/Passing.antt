@@ -1,5 +1,5 @@
 -- Characters that are passed many at a time.
-use Rattle.std.specs.Prelude.{◌≡◌, ℕ, ◌+◌, ◌-◌, ◌*◌, ◌%◌, ◌<◌, ◌≤◌, Bool, false, List, take, drop}
+use Rattle.std.specs.Prelude.{◌≡◌, ℕ, ◌+◌, ◌-◌, ◌*◌, ◌/◌, ◌%◌, ◌^◌, ◌<◌, ◌≤◌, Bool, false, List, take, drop, slice_index}
 use Rattle.tmds_word.specs.Bits.{number}
 use Rattle.terc4.specs.Tables.{is_control}
 
@@ -29,3 +29,22 @@ AreOthers xs place many = (j : ℕ) → j < many → j % 15 ≡ 0 → IsOther xs
 -- each character that is passed is the one four before it
 abbrev pub Repeats : List Bool → ℕ → ℕ → Type 0
 Repeats xs place passed = (k : ℕ) → k + 10 ≤ passed → take 10 (drop (place + k) xs) ≡ take 10 (drop (place + k - 40) xs)
+
+-- two bytes as a number, the first lowest
+abbrev pub pair_at : List ℕ → ℕ → ℕ
+pair_at bytes at = slice_index bytes at + slice_index bytes (at + 1) * 256
+
+-- the eight bits of a number from one on are no control word's after its first
+abbrev pub IsNotTurning : ℕ → ℕ → Type 0
+IsNotTurning n shift = (3 * (n / 2 ^ shift) + 2) % 256 < 2 → ⊥
+
+-- nor are those of eight numbers
+pub record AreNotTurning (a b c d e f g h shift : ℕ) : Type 0 where
+  pub first : IsNotTurning a shift
+  pub second : IsNotTurning b shift
+  pub third : IsNotTurning c shift
+  pub fourth : IsNotTurning d shift
+  pub fifth : IsNotTurning e shift
+  pub sixth : IsNotTurning f shift
+  pub seventh : IsNotTurning g shift
+  pub eighth : IsNotTurning h shift

@@ -1,12 +1,13 @@
 //! Characters of packed bytes that are passed many at a time.
-ghost use Rattle.std.specs.Prelude.{◌≡◌, ◌<◌, ◌≤◌, ◌+◌, ◌-◌, ◌*◌, ◌/◌, ◌%◌, ◌^◌, max, ℕ, false, length, take, drop};
+ghost use Rattle.std.specs.Prelude.{◌≡◌, ◌<◌, ◌≤◌, ◌+◌, ◌-◌, ◌*◌, ◌/◌, ◌%◌, ◌^◌, ◌∷◌, [], max, ℕ, true, false, length, take, drop};
 ghost use Rattle.tmds_word.specs.Bits.{bytes_bits, number};
 ghost use Rattle.terc4.specs.Tables.{is_control};
-ghost use Rattle.lane_edges.specs.Passing.{IsPast, HasOther, EndsOther, Repeats, AreOthers};
+ghost use Rattle.lane_edges.specs.Passing.{IsPast, HasOther, EndsOther, Repeats, AreOthers, AreNotTurning, pair_at};
 
 use crate::finder::OTHERS;
 use lane_align::RUN_BITS;
 use lane_track::eight_bytes;
+use std::simd::prelude::*;
 
 /// How many bits a character has.
 const WORD_BITS: u32 = 10;
@@ -95,11 +96,72 @@ fn others_until(bytes: &[u8], from: usize, end: usize, shift: u32) -> usize
     ensures whole { (result - from) % 15 ≡ 0 }
     ensures others { AreOthers (bytes_bits bytes.now) (8 * from + shift - 1) (result - from) }
 {
-    let mut at = from;
+    let mut at = eights_until(bytes, from, end, shift);
     while at < end && !may_be_control(bytes, at, shift) {
         at += RUN_BYTES;
     }
     at
+}
+
+/// Such a byte before which no control word may begin at any of them, looked for at eight of them at a time.
+#[inline(always)]
+fn eights_until(bytes: &[u8], from: usize, end: usize, shift: u32) -> usize
+    requires shift { 0 < shift }
+    requires eight { shift ≤ 8 }
+    requires room { end + 1 ≤ length bytes.now }
+    requires small { end < 2 ^ 29 }
+    requires order { from < end }
+    ensures after { from ≤ result }
+    ensures near { result < end + 15 }
+    ensures whole { (result - from) % 15 ≡ 0 }
+    ensures others { AreOthers (bytes_bits bytes.now) (8 * from + shift - 1) (result - from) }
+{
+    let mut at = from;
+    while at + 7 * RUN_BYTES < end && are_others(eight_pairs(bytes, at), shift) {
+        at += 8 * RUN_BYTES;
+    }
+    at
+}
+
+/// The pairs of bytes from a place and from each fifteenth after it.
+#[inline(always)]
+fn eight_pairs(bytes: &[u8], at: usize) -> u16x8
+    requires { at + 107 ≤ length bytes.now }
+    ensures { result ≡ pair_at bytes.now at ∷ pair_at bytes.now (at + 15) ∷ pair_at bytes.now (at + 30) ∷ pair_at bytes.now (at + 45) ∷ pair_at bytes.now (at + 60) ∷ pair_at bytes.now (at + 75) ∷ pair_at bytes.now (at + 90) ∷ pair_at bytes.now (at + 105) ∷ [] }
+{
+    u16x8::from_array([
+        pair(bytes, at),
+        pair(bytes, at + RUN_BYTES),
+        pair(bytes, at + 2 * RUN_BYTES),
+        pair(bytes, at + 3 * RUN_BYTES),
+        pair(bytes, at + 4 * RUN_BYTES),
+        pair(bytes, at + 5 * RUN_BYTES),
+        pair(bytes, at + 6 * RUN_BYTES),
+        pair(bytes, at + 7 * RUN_BYTES),
+    ])
+}
+
+/// Two bytes as a number, the first lowest.
+#[inline(always)]
+fn pair(bytes: &[u8], at: usize) -> u16
+    requires { at + 2 ≤ length bytes.now }
+    ensures { result ≡ pair_at bytes.now at }
+{
+    u16::from_le_bytes([bytes[at], bytes[at + 1]])
+}
+
+/// Whether the eight bits after the first of a character are no control word's in any of eight numbers.
+#[inline(always)]
+fn are_others(pairs: u16x8, shift: u32) -> bool
+    requires shift { 0 < shift }
+    requires eight { shift ≤ 8 }
+    ensures { (a b c d e f g h : ℕ) → pairs ≡ a ∷ b ∷ c ∷ d ∷ e ∷ f ∷ g ∷ h ∷ [] → result ≡ true → AreNotTurning a b c d e f g h shift }
+{
+    let bits = pairs >> u16x8::splat(shift as u16);
+    let thrice = bits + bits + bits;
+    ((thrice + u16x8::splat(TURNING as u16)) & u16x8::splat(255))
+        .simd_gt(u16x8::splat(1))
+        .all()
 }
 
 /// How many bits can be passed from a place on, of so few, up to the last character before their end that is no control word.
@@ -131,8 +193,7 @@ fn may_be_control(bytes: &[u8], at: usize, shift: u32) -> bool
     requires room { at + 2 ≤ length bytes.now }
     ensures { result ≡ false → is_control (number (take 10 (drop (8 * at + shift - 1) (bytes_bits bytes.now)))) ≡ false }
 {
-    let pair = u16::from_le_bytes([bytes[at], bytes[at + 1]]);
-    (3 * (u32::from(pair) >> shift) + TURNING) % 256 < 2
+    (3 * (u32::from(pair(bytes, at)) >> shift) + TURNING) % 256 < 2
 }
 
 /// How many bits can be passed from a place on, of the characters that begin in this many, since each is the one four before it.

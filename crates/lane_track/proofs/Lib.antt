@@ -5,4 +5,5 @@ pub mod Around
 pub mod Begins
 mod Seeking
 mod Sevens
+mod Fours
 pub mod Front

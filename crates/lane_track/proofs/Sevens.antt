@@ -13,7 +13,7 @@ use Rattle.lane_align.specs.Search.{control_at, IsOther}
 use Rattle.lane_align.specs.Lanes.{IsRun}
 use Rattle.lane_align.proofs.Calm.{control_is}
 use Rattle.lane_align.proofs.Quick.{quick_none, window_within}
-use Rattle.lane_track.specs.Pairless.{HasNoPair, both_halves}
+use Rattle.lane_track.specs.Pairless.{HasNoPair, HasNone}
 use Rattle.lane_track.specs.declared.ahead.TheConstants.{BESIDE}
 
 -- what the code computes of eight bits
@@ -150,7 +150,7 @@ pub beside_few : (phase : ℕ) → phase ≤ 10 → slice_index BESIDE phase < 2
 unfolding is_few
 beside_few phase le = grind (arith, passes_at 11 is_few phase all_few (omega arith))
 
--- Two steps at a time.
+-- Four steps at a time.
 
 -- the lower half of a number decides what stands in it
 low_at : (n w k : ℕ) → w + k ≤ 32 → n % 2 ^ 32 / 2 ^ k % 2 ^ w ≡ n / 2 ^ k % 2 ^ w
@@ -159,34 +159,18 @@ low_at n w k le =
     let sum : (j + w) + k ≡ 32 = omega arith in
     ap (λ e. n % 2 ^ e / 2 ^ k % 2 ^ w) (sym sum) ∙ ap (λ m. m % 2 ^ w) (field_of n (j + w) k) ∙ mod-mod-pow (n / 2 ^ k) j w
 
-low_same : (n x w k : ℕ) → n % 2 ^ 32 ≡ x % 2 ^ 32 → w + k ≤ 32 → n / 2 ^ k % 2 ^ w ≡ x / 2 ^ k % 2 ^ w
-low_same n x w k e le = sym (low_at n w k le) ∙ ap (λ m. m / 2 ^ k % 2 ^ w) e ∙ low_at x w k le
+-- what is not seen of it is not seen of the number
+pub none_low : (x mask : ℕ) → HasNone (x % 2 ^ 32) mask → (k : ℕ) → k < 10 → bit mask (k + 1) ≡ true → control_at x k ≡ true → control_at x (k + 10) ≡ true → ⊥
+none_low x mask none k few masked one ten =
+    none k masked (ap is_control (low_at x 10 k (omega arith)) ∙ one) (ap is_control (low_at x 10 (k + 10) (omega arith)) ∙ ten)
 
--- so does the upper one
-high_same : (n y w k : ℕ) → n / 2 ^ 32 ≡ y % 2 ^ 32 → w + k ≤ 32 → n / 2 ^ (32 + k) % 2 ^ w ≡ y / 2 ^ k % 2 ^ w
-high_same n y w k e le = ap (λ m. m % 2 ^ w) (sym (shr-shr n 32 k)) ∙ ap (λ m. m / 2 ^ k % 2 ^ w) e ∙ low_at y w k le
+-- the four numbers that the test of the code makes
+unfoldable pub seen_of : ℕ → ℕ → ℕ
+seen_of n mask = bit_and (bit_and (sevens n) (sevens n / 2 ^ 10)) mask
 
--- what is not seen of two halves is seen of neither number
-pub neither_seen : (x y mask : ℕ) → mask < 2 ^ 32
-    → ((k : ℕ) → bit (mask + mask * 2 ^ 32) (k + 1) ≡ true → control_at (both_halves x y) k ≡ true → control_at (both_halves x y) (k + 10) ≡ true → ⊥)
-    → ((k : ℕ) → k < 10 → bit mask (k + 1) ≡ true → control_at x k ≡ true → control_at x (k + 10) ≡ true → ⊥)
-    × ((k : ℕ) → k < 10 → bit mask (k + 1) ≡ true → control_at y k ≡ true → control_at y (k + 10) ≡ true → ⊥)
-neither_seen x y mask small none =
-    let n = both_halves x y in
-    let twice = mask + mask * 2 ^ 32 in
-    let nx : n % 2 ^ 32 ≡ x % 2 ^ 32 = omega arith in
-    let ny : n / 2 ^ 32 ≡ y % 2 ^ 32 = omega arith in
-    let tx : twice % 2 ^ 32 ≡ mask % 2 ^ 32 = omega (arith, small) in
-    let ty : twice / 2 ^ 32 ≡ mask % 2 ^ 32 = omega (arith, small) in (
-      (λ k few masked one ten.
-          none k (ap (λ b. b == 1) (low_same twice mask 1 (k + 1) tx (omega arith)) ∙ masked) (ap is_control (low_same n x 10 k nx (omega arith)) ∙ one)
-          (ap is_control (low_same n x 10 (k + 10) nx (omega arith)) ∙ ten)),
-      (λ k few masked one ten.
-          let one_on : 32 + k + 1 ≡ 32 + (k + 1) = omega arith in
-          let ten_on : 32 + k + 10 ≡ 32 + (k + 10) = omega arith in
-          none (32 + k) (ap (bit twice) one_on ∙ ap (λ b. b == 1) (high_same twice mask 1 (k + 1) ty (omega arith)) ∙ masked) (ap is_control (high_same n y 10 k ny (omega arith)) ∙ one)
-          (ap (control_at n) ten_on ∙ ap is_control (high_same n y 10 (k + 10) ny (omega arith)) ∙ ten)),
-    )
+pub none_of : (n mask : ℕ) → seen_of n mask ≡ 0 → HasNone n mask
+unfolding seen_of
+none_of n mask e = λ k masked one ten. none_seen n mask k (ap (λ m. not (nat_eq m 0)) e) masked one ten
 
 -- Ten places at a time.
 

@@ -9,6 +9,17 @@ HasNoPair bytes mask at =
     (k : ℕ) → k < 10 → bit mask (k + 1) ≡ true → control_at (number (bytes_bits bytes) / 2 ^ (8 * (10 * at)) % 2 ^ 64) k ≡ true
     → control_at (number (bytes_bits bytes) / 2 ^ (8 * (10 * at)) % 2 ^ 64) (k + 10) ≡ true → ⊥
 
--- the lower halves of two numbers of 64 bits, as one
-abbrev pub both_halves : ℕ → ℕ → ℕ
-both_halves x y = x % 2 ^ 32 + 2 ^ 32 * (y % 2 ^ 32)
+-- the lower half of the eight bytes of a step
+abbrev pub lower_half : List ℕ → ℕ → ℕ
+lower_half bytes at = number (bytes_bits bytes) / 2 ^ (8 * (10 * at)) % 2 ^ 64 % 2 ^ 32
+
+-- in the bits of a number no two control words follow one another from a place of the mask on
+abbrev pub HasNone : ℕ → ℕ → Type 0
+HasNone n mask = (k : ℕ) → bit mask (k + 1) ≡ true → control_at n k ≡ true → control_at n (k + 10) ≡ true → ⊥
+
+-- nor in those of four numbers
+pub record HaveNone (a b c d mask : ℕ) : Type 0 where
+  pub first : HasNone a mask
+  pub second : HasNone b mask
+  pub third : HasNone c mask
+  pub fourth : HasNone d mask

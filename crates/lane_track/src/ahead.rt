@@ -1,10 +1,11 @@
 //! The next run of control words, looked for by a test that most stretches of eighty places fail in a few steps.
-ghost use Rattle.std.specs.Prelude.{◌≡◌, ◌<◌, ◌≤◌, ◌+◌, ◌*◌, ◌/◌, ◌%◌, ◌^◌, ◌↔◌, ℕ, true, false, length, drop, MatchOption, slice_index};
+ghost use Rattle.std.specs.Prelude.{◌≡◌, ◌<◌, ◌≤◌, ◌+◌, ◌*◌, ◌/◌, ◌%◌, ◌^◌, ◌↔◌, ◌∷◌, [], ℕ, true, false, length, drop, MatchOption, slice_index};
 ghost use Rattle.tmds_word.specs.Bits.{bit, bytes_bits, number};
 ghost use Rattle.lane_align.specs.Search.{control_at, IsOther, IsFirstOther};
-ghost use Rattle.lane_track.specs.Pairless.{HasNoPair, both_halves};
+ghost use Rattle.lane_track.specs.Pairless.{HasNoPair, HaveNone, lower_half};
 
 use lane_align::first_run;
+use std::simd::prelude::*;
 
 /// How many places a step sees.
 const STEP: u32 = 80;
@@ -134,16 +135,16 @@ fn first_paired(bytes: &[u8], first: usize, last: usize, mask: u64) -> usize
     ensures within { result ≤ last }
     ensures pairless { (at : ℕ) → first ≤ at → at < result → HasNoPair bytes.now mask at }
 {
-    let mut at = twos_until(bytes, first, last, mask);
+    let mut at = fours_until(bytes, first, last, mask);
     while at < last && !has_turns(eight_bytes(bytes, 10 * at), mask) {
         at += 1;
     }
     at
 }
 
-/// A step from one on before which none has a pair of control characters, looked for two steps at a time.
+/// A step from one on before which none has a pair of control characters, looked for four steps at a time.
 #[inline(always)]
-fn twos_until(bytes: &[u8], first: usize, last: usize, mask: u64) -> usize
+fn fours_until(bytes: &[u8], first: usize, last: usize, mask: u64) -> usize
     requires order { first ≤ last }
     requires room { 10 * last ≤ length bytes.now + 2 }
     requires mask { mask < 2 ^ 32 }
@@ -151,21 +152,48 @@ fn twos_until(bytes: &[u8], first: usize, last: usize, mask: u64) -> usize
     ensures within { result ≤ last }
     ensures pairless { (at : ℕ) → first ≤ at → at < result → HasNoPair bytes.now mask at }
 {
-    let twice = mask + (mask << 32);
     let mut at = first;
-    while at + 1 < last && !has_turns(two_steps(bytes, at), twice) {
-        at += 2;
+    while at + 3 < last && are_pairless(four_steps(bytes, at), mask as u32) {
+        at += 4;
     }
     at
 }
 
-/// The lower halves of the eight bytes of a step, and of those of the next one, which are all that is looked at of them.
+/// The lower halves of the eight bytes of four steps, which are all that is looked at of them.
 #[inline(always)]
-fn two_steps(bytes: &[u8], at: usize) -> u64
-    requires { 10 * at + 18 ≤ length bytes.now }
-    ensures { result ≡ both_halves (number (bytes_bits bytes.now) / 2 ^ (8 * (10 * at)) % 2 ^ 64) (number (bytes_bits bytes.now) / 2 ^ (8 * (10 * (at + 1))) % 2 ^ 64) }
+fn four_steps(bytes: &[u8], at: usize) -> u32x4
+    requires { 10 * at + 38 ≤ length bytes.now }
+    ensures { result ≡ lower_half bytes.now at ∷ lower_half bytes.now (at + 1) ∷ lower_half bytes.now (at + 2) ∷ lower_half bytes.now (at + 3) ∷ [] }
 {
-    eight_bytes(bytes, 10 * at) % (1 << 32) + (eight_bytes(bytes, 10 * (at + 1)) << 32)
+    u32x4::from_array([
+        lower_half(bytes, at),
+        lower_half(bytes, at + 1),
+        lower_half(bytes, at + 2),
+        lower_half(bytes, at + 3),
+    ])
+}
+
+/// The lower half of the eight bytes of a step.
+#[inline(always)]
+fn lower_half(bytes: &[u8], at: usize) -> u32
+    requires { 10 * at + 8 ≤ length bytes.now }
+    ensures { result ≡ lower_half bytes.now at }
+{
+    (eight_bytes(bytes, 10 * at) % (1 << 32)) as u32
+}
+
+/// Whether in none of four numbers seven transitions in a row begin at a place of the mask, and ten places after it.
+#[inline(always)]
+fn are_pairless(bits: u32x4, mask: u32) -> bool
+    ensures { (a b c d : ℕ) → bits ≡ a ∷ b ∷ c ∷ d ∷ [] → result ≡ true → HaveNone a b c d mask }
+{
+    let one = u32x4::splat(1);
+    let turns = bits ^ (bits >> one);
+    let twos = turns & (turns >> one);
+    let fours = twos & (twos >> u32x4::splat(2));
+    let sevens = fours & (fours >> u32x4::splat(3));
+    let pairs = sevens & (sevens >> u32x4::splat(10));
+    (pairs & u32x4::splat(mask)).simd_eq(u32x4::splat(0)).all()
 }
 
 /// Whether at a place of the mask, and ten places after it, seven transitions in a row begin. After the first bit of

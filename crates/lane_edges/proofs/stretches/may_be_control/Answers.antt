@@ -9,4 +9,4 @@ returns c = λ none.
     let are : AreBytes c.args.bytes.now = λ i. (c.type_inv.bytes i).fits in
     let above = ltb-false _ _ none in
     other_here c.args.bytes.now c.args.at c.args.shift c.from.result are c.requires.room c.requires.shift c.requires.eight
-    (omega (arith, c.from.ensures, c.from_le_bytes-pair.ensures)) (λ less. omega arith)
+    (omega (arith, c.from.ensures, c.pair.ensures)) (λ less. omega arith)
