@@ -7,11 +7,12 @@ use Rattle.std.proofs.Math.Seq.{take-add, take-append-add}
 use Rattle.std.proofs.lemmas.Option.{slice_get_within, get_or_from_slice_get}
 use Rattle.tmds_word.specs.Column.{Column}
 use Rattle.island_pack.specs.Spelling.{column_words}
-use Rattle.terc4.specs.Columns.{is_control_column, closing_words, closes}
+use Rattle.terc4.specs.Columns.{is_control_column, is_island_guard, closing_words, closes}
+use Rattle.period_grammar.specs.Column.{sync_digit}
 use Rattle.period_grammar.specs.Cut.{Stretch, stretch, stretches}
 use Rattle.period_grammar.specs.Heard.{heard_so_far, opened, island}
 use Rattle.period_grammar.specs.Island.{Payload, parts, payload, begins_close, packet_events, left_at}
-use Rattle.period_grammar.specs.After.{last, left_gain, island_gain, choose, payload_gain, gains, grown}
+use Rattle.period_grammar.specs.After.{last, after_payload, left_gain, island_gain, choose, payload_gain, gains, grown}
 use Rattle.period_grammar.specs.GoesOn.{goes_on, goes_on_line, goes_on_packet, goes_on_island, count_in_island, count_going_on, AreGoingOn}
 use Rattle.period_grammar.specs.Pixels.{is_pixel}
 use Rattle.period_grammar.specs.IslandAfter.{IsPartsAfter, IsIslandAfter}
@@ -26,7 +27,7 @@ use Rattle.period_grammar.specs.declared.phase.Phase.{Phase}
 use Rattle.period_grammar.specs.declared.phase.Phase.TheVariants.{Island as InIsland}
 use Rattle.period_grammar.proofs.Going.{both}
 use Rattle.period_grammar.proofs.Hearings.{start_of, reported_other}
-use Rattle.period_grammar.proofs.Blocks.{within_stands}
+use Rattle.period_grammar.proofs.Blocks.{first_stands, second_stands, within_stands}
 use Rattle.period_grammar.proofs.Islands.{holds_not, payload_push}
 use Rattle.period_grammar.proofs.Many.{Went, no_control as no_control_pixel}
 use Rattle.period_grammar.proofs.Pixels.{take_next, next_take}
@@ -218,6 +219,48 @@ many_heard packets within block new rest (d ∷ ds) was pos le e all =
       stands = subst (λ n. IsPartsAfter Packet packets n new (payload (rest ++ d ∷ ds))) (sym place) (subst (λ (cs : List Column). IsPartsAfter Packet packets ((within + 1) + m) new (payload cs)) (append_assoc rest (d ∷ []) ds) more.stands);
     }
 
+are_apart : (c d : Column) → closes c d ≡ false → nat_le 3 (closing_words c + closing_words d) ≡ false
+unfolding closes
+are_apart c d h = h
+
+-- from the first column of a packet on
+most_by : (packets : ℕ) (block new : List (List ℕ)) (ps : List (List Column)) (t : List Column) (c d : Column) (es rest : List Column) → payload rest ≡ parts ps t
+    → IsPartsAfter Packet packets 0 block (parts ps t) → closes c d ≡ false → 2 + length es ≤ 31
+    → take (2 + length es) new ≡ map column_words (c ∷ (d ∷ es)) → All (λ c. is_pixel c ≡ true) (c ∷ (d ∷ es)) → ManyHeard packets 0 new rest (c ∷ (d ∷ es))
+most_by packets block new ps (x ∷ t) c d es rest at was apart le e all = absurd (omega (arith, was.1.1))
+most_by packets block new ps [] c d es rest at was apart le e all =
+    let m = length es in
+    let first : take 1 new ≡ column_words c ∷ [] = sym (take-take 1 (2 + m) new (omega arith)) ∙ ap (take 1) e in
+    let second : take 2 new ≡ take 1 new ++ column_words d ∷ [] =
+    sym (take-take 2 (2 + m) new (omega arith)) ∙ ap (take 2) e ∙ ap (λ (ws : List (List ℕ)). ws ++ column_words d ∷ []) (sym first) in
+    let one : IsPartsAfter (First (closing_words c) (sync_digit c.blue) (is_island_guard c)) packets 1 new (payload (rest ++ c ∷ [])) =
+    subst (λ (x : Payload). IsPartsAfter (First (closing_words c) (sync_digit c.blue) (is_island_guard c)) packets 1 new x) (sym (payload_push rest c ∙ ap (after_payload c) at))
+    (first_stands packets 1 (closing_words c) (sync_digit c.blue) (is_island_guard c) block new c (parts ps []) was refl refl refl first) in
+    let two : IsPartsAfter Packet packets 2 new (payload ((rest ++ c ∷ []) ++ d ∷ [])) =
+    subst (λ (x : Payload). IsPartsAfter Packet packets 2 new x) (sym (payload_push (rest ++ c ∷ []) d))
+    (second_stands packets 1 (closing_words c) (sync_digit c.blue) (is_island_guard c) new new d (payload (rest ++ c ∷ [])) one (are_apart c d apart) second) in
+    let first_goes : goes_on_packet (payload rest) c ≡ true = ap (λ (x : Payload). goes_on_packet x c) at in
+    let second_goes_on : goes_on_packet (payload (rest ++ c ∷ [])) d ≡ true =
+    sym (second_goes packets 1 (closing_words c) (sync_digit c.blue) (is_island_guard c) new d (payload (rest ++ c ∷ [])) one) ∙ ap not (are_apart c d apart) in
+    let left = All-tail (λ c. is_pixel c ≡ true) c (d ∷ es) all in
+    let put : take (2 + m) new ≡ take 2 new ++ map column_words es =
+    e ∙ ap (λ (ws : List (List ℕ)). ws ++ map column_words es) (sym (second ∙ ap (λ (ws : List (List ℕ)). ws ++ column_words d ∷ []) first)) in
+    let more = many_heard packets 2 new new ((rest ++ c ∷ []) ++ d ∷ []) es two (omega arith) le put (All-tail (λ c. is_pixel c ≡ true) d es left) in
+    let joined : ((rest ++ c ∷ []) ++ d ∷ []) ++ es ≡ rest ++ (c ∷ (d ∷ es)) = append_assoc (rest ++ c ∷ []) (d ∷ []) es ∙ append_assoc rest (c ∷ []) (d ∷ es) in
+    let place : 2 + m ≡ 0 + suc (suc m) = omega arith in
+    record {
+      going = (
+        ap₂ (λ p q. not p && q) (no_control_pixel c (All-head (λ c. is_pixel c ≡ true) c (d ∷ es) all)) first_goes,
+        (ap₂ (λ p q. not p && q) (no_control_pixel d (All-head (λ c. is_pixel c ≡ true) d es left)) second_goes_on, more.going),
+      );
+      stands = subst (λ n. IsPartsAfter Packet packets n new (payload (rest ++ (c ∷ (d ∷ es))))) place (subst (λ (cs : List Column). IsPartsAfter Packet packets (2 + m) new (payload cs)) joined more.stands);
+    }
+
+most_parts : (packets : ℕ) (block new : List (List ℕ)) (x : Payload) (c d : Column) (es rest : List Column) → payload rest ≡ x
+    → IsPartsAfter Packet packets 0 block x → closes c d ≡ false → 2 + length es ≤ 31
+    → take (2 + length es) new ≡ map column_words (c ∷ (d ∷ es)) → All (λ c. is_pixel c ≡ true) (c ∷ (d ∷ es)) → ManyHeard packets 0 new rest (c ∷ (d ∷ es))
+most_parts packets block new (parts ps t) c d es rest at was apart le e all = most_by packets block new ps t c d es rest at was apart le e all
+
 goes_many : (n : ℕ) (rest cols : List Column) → n ≤ length cols → AreGoingOn rest (take n cols) → count_in_island rest cols ≡ n + count_in_island (rest ++ take n cols) (drop n cols)
 goes_many zero rest cols le all = ap (λ (cs : List Column). count_in_island cs cols) (sym (append-nil rest)) ∙ sym (zero-add (count_in_island (rest ++ []) cols))
 goes_many (suc n) rest [] le all = absurd (omega arith)
@@ -273,3 +316,51 @@ within_heard isle new rest cols part n few left pos room fits e le all put was =
       stands = subst (λ (l : Left). IsPartsAfter l isle.packets (isle.within + n) new (payload (rest ++ take n cols))) (sym left)
           (subst (λ m. IsPartsAfter Packet isle.packets (isle.within + m) new (payload (rest ++ take n cols))) long many.stands);
     }
+
+-- the columns that are put from the first of a packet on
+first_two : (n : ℕ) (cols : List Column) (c d : Column) → slice_get cols 0 ≡ Some c → slice_get cols 1 ≡ Some d → 2 ≤ n → (es : List Column) × (take n cols ≡ c ∷ (d ∷ es))
+first_two n [] c d e f le = absurd (cc)
+first_two n (x ∷ []) c d e f le = absurd (cc)
+first_two zero (x ∷ (y ∷ cols)) c d e f le = absurd (omega arith)
+first_two (suc zero) (x ∷ (y ∷ cols)) c d e f le = absurd (omega arith)
+first_two (suc (suc n)) (x ∷ (y ∷ cols)) c d e f le = (take n cols, λ i. get_some x c e i ∷ (get_some y d f i ∷ take n cols))
+  where
+    get_some : (x c : Column) → Some x ≡ Some c → x ≡ c
+    get_some x c h = cc
+
+pub most_heard : (isle : Island) (new : List (List ℕ)) (rest cols part : List Column) (n few : ℕ) (c d : Column) → isle.left ≡ Packet → isle.within ≡ 0 → few ≤ 31 → few ≤ length cols → part ≡ take few cols
+    → n ≤ length part → 2 ≤ n → slice_get cols 0 ≡ Some c → slice_get cols 1 ≡ Some d → closes c d ≡ false
+    → All (λ c. is_pixel c ≡ true) (take n part) → take (0 + n) new ≡ take 0 isle.block ++ map column_words (take n part) → IsIslandAfter isle rest → WithinHeard isle new n rest cols
+most_heard isle new rest cols part n few c d left none room fits e le two one next apart all put was =
+    let most : n ≤ few = omega (arith, le, ap (λ (cs : List Column). length cs) e, length-take-le few cols fits) in
+    let same : take n part ≡ take n cols = ap (take n) e ∙ take-take n few cols most in
+    let long : length (take n cols) ≡ n = length-take-le n cols (omega arith) in
+    let found = first_two n cols c d one next two in
+    let es = found.0 in
+    let is : take n cols ≡ c ∷ (d ∷ es) = found.1 in
+    let count : 2 + length es ≡ n = omega (arith, long, ap (λ (cs : List Column). length cs) is) in
+    let stood : IsPartsAfter Packet isle.packets 0 isle.block (payload rest) =
+    subst (λ n. IsPartsAfter Packet isle.packets n isle.block (payload rest)) none (subst (λ (l : Left). IsPartsAfter l isle.packets isle.within isle.block (payload rest)) left was.stands) in
+    let kept : take n new ≡ map column_words (take n cols) = ap (λ m. take m new) (sym (zero-add n)) ∙ put ∙ ap (map column_words) same in
+    let many = most_parts isle.packets isle.block new (payload rest) c d es rest refl stood apart (omega arith)
+    (ap (λ m. take m new) count ∙ kept ∙ ap (map column_words) is)
+    (subst (λ (cs : List Column). All (λ c. is_pixel c ≡ true) cs) (same ∙ is) all) in
+    let place : 0 + length (c ∷ (d ∷ es)) ≡ isle.within + n = omega arith in
+    record {
+      going = subst (λ (cs : List Column). AreGoingOn rest cs) (sym is) many.going;
+      stands = subst (λ (l : Left). IsPartsAfter l isle.packets (isle.within + n) new (payload (rest ++ take n cols))) (sym left)
+          (subst (λ (cs : List Column). IsPartsAfter Packet isle.packets (isle.within + n) new (payload (rest ++ cs))) (sym is)
+          (subst (λ m. IsPartsAfter Packet isle.packets m new (payload (rest ++ (c ∷ (d ∷ es))))) place many.stands));
+    }
+
+-- where none of them is received
+pub none_heard : (isle : Island) (new : List (List ℕ)) (rest : List Column) → isle.left ≡ Packet → isle.within ≡ 0 → IsIslandAfter isle rest → IsPartsAfter isle.left isle.packets isle.within new (payload (rest ++ []))
+none_heard isle new rest left none was =
+    subst (λ (cs : List Column). IsPartsAfter isle.left isle.packets isle.within new (payload cs)) (sym (append-nil rest))
+    (subst (λ (l : Left). IsPartsAfter l isle.packets isle.within new (payload rest)) (sym left)
+    (same_block isle.packets isle.within isle.block new (payload rest) (ap (λ n. take n new) none ∙ sym (ap (λ n. take n isle.block) none))
+    (subst (λ (l : Left). IsPartsAfter l isle.packets isle.within isle.block (payload rest)) left was.stands)))
+
+-- how many they are
+pub most_long : (cols part : List Column) → part ≡ take 31 cols → 31 ≤ length cols → length part ≡ 31
+most_long cols part e le = ap (λ (cs : List Column). length cs) e ∙ length-take-le 31 cols le

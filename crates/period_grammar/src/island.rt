@@ -4,7 +4,7 @@ ghost use Rattle.std.specs.Bool.{OnTrue, OnFalse};
 ghost use Rattle.tmds_word.specs.Column.{Column, column_of};
 ghost use Rattle.tmds_word.specs.Lent.{columns_in};
 ghost use Rattle.period_grammar.specs.Column.{sync_digit};
-ghost use Rattle.terc4.specs.Columns.{is_island_guard, closing_words};
+ghost use Rattle.terc4.specs.Columns.{is_island_guard, closing_words, closes};
 ghost use Rattle.period_grammar.specs.Events.{Event, guard, empty, symbols, long_island};
 ghost use Rattle.island_pack.specs.Spelling.{column_words};
 ghost use Rattle.island_pack.specs.Repaired.{packet_of, verdicts_of, packet_in, verdicts_in};
@@ -22,6 +22,9 @@ use bch_block::Verdict;
 use island_pack::{Packet, PacketColumns, PacketVerdicts, take_kept};
 use terc4::{closing_guard_words, is_control_column, is_island_guard, terc};
 use tmds_word::{Columns, Word};
+
+/// How many columns a packet has before its last, at which it is reported.
+const MOST: usize = 31;
 
 /// What the columns after the last whole packet are.
 #[derive(Clone, Copy, Drop)]
@@ -176,7 +179,16 @@ fn is_closed_by(words: u8, column: &[Word; 3]) -> bool
     column::at_least(3, words, closing_guard_words(column))
 }
 
+/// Whether two columns are the closing guard.
+#[inline(always)]
+fn are_closing(first: &[Word; 3], second: &[Word; 3]) -> bool
+    ensures { result ≡ closes (column_of first.now) (column_of second.now) }
+{
+    is_closed_by(closing_guard_words(first), second)
+}
+
 /// Puts columns at a place after those before it, as long as they are no control columns, and answers how many these are.
+#[inline(always)]
 fn put_columns(block: &mut PacketColumns, at: usize, columns: Columns<'_>) -> usize
     requires { at + length (columns_in columns) ≤ 32 }
     ensures within { result ≤ length (columns_in columns.entry) }
@@ -191,7 +203,8 @@ fn put_columns(block: &mut PacketColumns, at: usize, columns: Columns<'_>) -> us
     columns.len()
 }
 
-/// How many columns, from the first on, are no control columns.
+/// How many columns, from the first on, are no control columns. It stands apart, so that the common path is short.
+#[inline(never)]
 fn count_others(columns: Columns<'_>) -> usize
     ensures within { result ≤ length (columns_in columns.entry) }
     ensures pixels { All (λ c. is_pixel c ≡ true) (take result (columns_in columns.entry)) }
@@ -341,8 +354,8 @@ impl Island {
         at
     }
 
-    /// Receives columns of a packet after its first two and before its last, as long as they are no control columns, and
-    /// answers how many these are.
+    /// Receives columns of a packet before its last, as long as they are no control columns, and answers how many these are:
+    /// none if the packet begins and not all of these columns are there, or if the closing guard may begin.
     fn hear_within(&mut self, columns: Columns<'_>) -> usize
         requires blocked { IsBlocked self.old }
         ensures blocked { IsBlocked self.new }
@@ -352,12 +365,41 @@ impl Island {
         ensures going { (rest : List Column) → IsIslandAfter self.old rest → AreGoingOn rest (take result (columns_in columns.entry)) }
         ensures heard { (rest : List Column) → IsIslandAfter self.old rest → IsIslandAfter self.new (rest ++ take result (columns_in columns.entry)) }
     {
-        if !is_packet(&self.left) || self.within == 0 {
+        if !is_packet(&self.left) {
             return 0;
+        }
+        if self.within == 0 {
+            return self.hear_most(columns);
         }
         let few = columns.len().min(31 - self.within as usize);
         let count = put_columns(&mut self.block, self.within as usize, columns.first(few));
         self.within += count as u32;
+        count
+    }
+
+    /// Receives the columns of a packet before its last at once, as `hear_within` does.
+    fn hear_most(&mut self, columns: Columns<'_>) -> usize
+        requires blocked { IsBlocked self.old }
+        requires none { self.old.within ≡ 0 }
+        requires packet { self.old.left ≡ Left.Packet }
+        ensures blocked { IsBlocked self.new }
+        ensures within { result ≤ length (columns_in columns.entry) }
+        ensures packets { self.new.packets ≡ self.old.packets }
+        ensures placed { self.new.within ≤ self.old.within + result }
+        ensures going { (rest : List Column) → IsIslandAfter self.old rest → AreGoingOn rest (take result (columns_in columns.entry)) }
+        ensures heard { (rest : List Column) → IsIslandAfter self.old rest → IsIslandAfter self.new (rest ++ take result (columns_in columns.entry)) }
+    {
+        if columns.len() < MOST {
+            return 0;
+        }
+        if are_closing(&columns.get(0), &columns.get(1)) {
+            return 0;
+        }
+        let count = put_columns(&mut self.block, 0, columns.first(MOST));
+        if count < 2 {
+            return 0;
+        }
+        self.within = count as u32;
         count
     }
 

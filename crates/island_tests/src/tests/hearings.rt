@@ -180,6 +180,17 @@ impl<'a> Listener<'a> {
         self.hearing.hear_while(pixels) == 20
     }
 
+    /// How many columns of a packet are received at once.
+    fn hear_packet(&mut self, columns: Columns<'_>) -> usize
+        requires { length (columns_in columns) ≡ 32 }
+    {
+        if self.columns >= 1_000_000 {
+            return 0;
+        }
+        self.columns += 32;
+        self.hearing.hear_while(columns)
+    }
+
     /// Whether nothing is still to be reported.
     fn is_done(&self) -> bool {
         self.wanted == Some("")
@@ -278,6 +289,98 @@ static WRONG: [([Option<usize>; 3], &str); 5] = [
     ),
 ];
 
+/// What stands on lanes 1 and 2 in a column.
+#[derive(Clone, Copy)]
+enum Put {
+    Zero,
+    Control,
+    Guard,
+}
+
+/// The word of lanes 1 and 2.
+fn word_of(put: Put) -> u16
+    ensures { result < 1024 }
+{
+    match put {
+        Put::Zero => 0x29c,
+        Put::Control => 0x354,
+        Put::Guard => 0x133,
+    }
+}
+
+/// A lane of a packet of zeros, but for its first two columns and its last but one.
+fn zeros(first: Put, second: Put, late: Put) -> [u16; 32]
+    ensures { All (λ w. w < 1024) result }
+{
+    [
+        word_of(first),
+        word_of(second),
+        0x29c,
+        0x29c,
+        0x29c,
+        0x29c,
+        0x29c,
+        0x29c,
+        0x29c,
+        0x29c,
+        0x29c,
+        0x29c,
+        0x29c,
+        0x29c,
+        0x29c,
+        0x29c,
+        0x29c,
+        0x29c,
+        0x29c,
+        0x29c,
+        0x29c,
+        0x29c,
+        0x29c,
+        0x29c,
+        0x29c,
+        0x29c,
+        0x29c,
+        0x29c,
+        0x29c,
+        0x29c,
+        word_of(late),
+        0x29c,
+    ]
+}
+
+/// Columns that open an island.
+static OPENED: &str = "4*354354354_8*3540ab0ab_2*163133133";
+
+/// What stands in the first two columns of a packet and in its last but one, and how many columns are received before the first
+/// that is reported or ends the packet: all but its last, or those before a control column or the second of a closing guard.
+static PACKETS: [(Put, Put, Put, usize); 9] = [
+    (Put::Zero, Put::Zero, Put::Zero, 31),
+    (Put::Control, Put::Zero, Put::Zero, 0),
+    (Put::Zero, Put::Control, Put::Zero, 1),
+    (Put::Zero, Put::Zero, Put::Control, 30),
+    (Put::Guard, Put::Zero, Put::Zero, 31),
+    (Put::Zero, Put::Guard, Put::Zero, 31),
+    (Put::Guard, Put::Guard, Put::Zero, 1),
+    (Put::Guard, Put::Control, Put::Zero, 1),
+    (Put::Zero, Put::Zero, Put::Guard, 31),
+];
+
+/// How many columns of such a packet are received at once.
+fn received(first: Put, second: Put, late: Put) -> usize {
+    let blue = zeros(Put::Zero, Put::Zero, Put::Zero);
+    let others = zeros(first, second, late);
+    let columns = Columns::new(&blue, &others, &others);
+    if columns.len() != 32 {
+        return 32;
+    }
+    let mut listener = Listener::new("4 run 0 4;12 run 20 8;13 open 2 2;");
+    listener.hear_all(OPENED);
+    if !listener.is_done() {
+        return 32;
+    }
+    listener.hear_packet(columns)
+}
+
 /// Whether these are reported with a control column after 20 pixels that are received at once.
 fn is_line_reported(wrong: &[Option<usize>; 3], wanted: &str) -> bool {
     let blue = black(wrong[0]);
@@ -301,5 +404,8 @@ fn hearings(rt: HostRuntime) {
     assert!(rt; hears_while_a_run_goes_on());
     for (wrong, wanted) in &WRONG {
         assert!(rt; is_line_reported(wrong, wanted));
+    }
+    for (first, second, late, count) in &PACKETS {
+        assert!(rt; received(*first, *second, *late) == *count);
     }
 }
