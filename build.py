@@ -380,7 +380,9 @@ def build_newer(archive):
         return 0
     archive.made_newer.parent.mkdir(parents=True, exist_ok=True)
     words = archive.command(processors(), is_newer=True)
-    done = subprocess.run(words, cwd=archive.folder, stdin=subprocess.DEVNULL, stdout=subprocess.PIPE, stderr=subprocess.STDOUT, check=False)
+    done = subprocess.run(
+        words, cwd=archive.folder, stdin=subprocess.DEVNULL, stdout=subprocess.PIPE, stderr=subprocess.STDOUT, check=False
+    )
     if done.returncode:
         sys.stderr.write(done.stdout.decode(errors="replace"))
         return 1
