@@ -23,11 +23,11 @@ PACKAGES = {
 
 
 class Error(Exception):
-    """Anything that the package raises of its own. Wrong arguments are a TypeError or a ValueError."""
+    """The base of this package's errors. Wrong arguments raise TypeError or ValueError instead."""
 
 
 class Refused(Error):
-    """What was given cannot be used; the text says why, in one line."""
+    """The input cannot be used. The text says why, in one line."""
 
 
 class Unaligned(Refused):
@@ -35,11 +35,11 @@ class Unaligned(Refused):
 
 
 class Misuse(Error):
-    """A call that does not fit the calls before it, or whose bits do not fit those before them. It did nothing."""
+    """A call or its bits do not fit the earlier calls. It did nothing."""
 
 
 class NoLibrary(Refused):
-    """The shared library is not there, or is none."""
+    """The shared library is missing or unusable."""
 
 
 class KindWarning(UserWarning):

@@ -12,7 +12,7 @@ import random
 from collections.abc import Iterator
 
 from tests.hostile.bursts import KINDS, Case, Column, Found, Stream, alone, amount, burst, other_column, row_of
-from tests.hostile.whole import EARLY, LANES, LATE, bits_before, moved, stream_of, tap_of
+from tests.hostile.whole import EARLY, LANES, LATE, captured, moved, stream_of
 from tests.models import feeding, hearing, model, relocking
 from tests.models.model import is_control
 from tests.models.tables import CONTROL, ISLAND_GUARD, TERC4, VIDEO_GUARD
@@ -81,13 +81,7 @@ def around(program: str, seed: int, count: int) -> Iterator[Case]:
         rng = random.Random(f"around {seed} {case}")
         name = f"capture {case} of seed {seed}"
         stream, start, end = received_around(rng)
-        tap = tap_of(rng, start)
-        before = bits_before(rng, tap)
-        lanes = [early + lane for early, lane in zip(before, tap.lanes(stream.received))]
-        if tap.version == 1:
-            lanes = [lane[: min(map(len, lanes))] for lane in lanes]
-        places = [len(early) + 10 * end - tap.offset - skew for early, skew in zip(before, tap.skews)]
-        left = min((len(lane) - place) // 10 for lane, place in zip(lanes, places))
+        tap, lanes, places, left = captured(rng, stream, start, end)
         if left <= LATE or any(map(has_stray, lanes, places)):
             counted["passed over"] += 1
             continue

@@ -140,6 +140,17 @@ def tap_of(rng: random.Random, start: int) -> Tap:
     )
 
 
+def captured(rng: random.Random, stream: Stream, start: int, end: int) -> tuple[Tap, list[str], list[int], int]:
+    """The lanes of a tap of a stream after other bits, where column `end` begins on each, and how many columns all have from there on."""
+    tap = tap_of(rng, start)
+    before = bits_before(rng, tap)
+    lanes = [early + lane for early, lane in zip(before, tap.lanes(stream.received))]
+    if tap.version == 1:
+        lanes = [lane[: min(map(len, lanes))] for lane in lanes]
+    places = [len(early) + 10 * end - tap.offset - skew for early, skew in zip(before, tap.skews)]
+    return tap, lanes, places, min((len(lane) - place) // 10 for lane, place in zip(lanes, places))
+
+
 def later_lines(columns: list[Column]) -> list[bytes]:
     """The lines of what follows a control period, of columns that begin with its last twelve."""
     listed = hearing.link_text(columns)[1].splitlines()
@@ -176,13 +187,7 @@ def whole(program: str, seed: int, count: int) -> Iterator[Case]:
         name = f"capture {case} of seed {seed}"
         stream, start, end = stream_of(rng)
         hurt(rng, stream, start, end)
-        tap = tap_of(rng, start)
-        before = bits_before(rng, tap)
-        lanes = [early + lane for early, lane in zip(before, tap.lanes(stream.received))]
-        if tap.version == 1:
-            lanes = [lane[: min(map(len, lanes))] for lane in lanes]
-        places = [len(early) + 10 * end - tap.offset - skew for early, skew in zip(before, tap.skews)]
-        left = min((len(lane) - place) // 10 for lane, place in zip(lanes, places))
+        tap, lanes, _, left = captured(rng, stream, start, end)
         if left <= LATE:
             continue
         output = run(program, FURTHER[4], model.capture_of(tap.version, lanes))[1]
